@@ -1,0 +1,6 @@
+pub mod Heights
+pub mod IntegerFacts
+pub mod KindFacts
+pub mod TextFacts
+pub mod ReprFacts
+pub mod NumeralFacts

@@ -1,0 +1,6 @@
+pub mod Characters
+pub mod Integers
+pub mod Kinds
+pub mod Numerals
+pub mod Ranges
+pub mod Repr
