@@ -1,0 +1,282 @@
+-- With more turns and more answers an evaluation and a life go further, and go alike as far as they went.
+use Rattle.std.proofs.Common.{◌≡◌, ℕ, zero, suc, ◌+◌, ◌≤◌, List, [], ◌∷◌, ◌++◌, length, Option, Some, None, refl, sym, ap, ◌∙◌, subst, arith, append_assoc, length-append}
+use Rattle.std.proofs.lemmas.List.{append-nil}
+use Rattle.si_semantics.specs.Value.{Text, Value, Exception}
+use Rattle.si_semantics.specs.Tree.{Expr, Constant, Name, Unary, Binary, Call, Exprs, NoExprs, MoreExprs, Stmt, Evaluate, Assign, Stmts, NoStmts, MoreStmts}
+use Rattle.si_semantics.specs.World.{World, Request, Bind, Run, Closing, Answer, Taken, Done, Replied, Got, Failed, Wants, Ran, Gave, Threw, Asked, bind_all}
+use Rattle.si_semantics.specs.Operations.{exception, operate, operate_unary, load_global, call, reply}
+use Rattle.si_semantics.specs.Meaning.{State, Result, Gives, Leaves, Asks, Cut, Meaning, Scope, visit, then, printed, raised, asked, ran, assign, expr, exprs, stmt, stmts}
+use Rattle.si_semantics.specs.Life.{Outcome, Returned, Told, Stops, IsGone, IsCut, Action, outcome_of, not_read, after_end, ends_with, run_ended, module_scope, takes, life, newborn, life_of}
+use Rattle.si_semantics.specs.Shows.{end_of}
+use Rattle.si_semantics.specs.Laws.{Grows, state_of, OneLife, LivesGrow, GoneStays}
+
+-- ---- growing
+
+same : (s : State) → Grows s s
+same s = record { pieces = ([], sym (append-nil s.pieces)); visits = omega arith }
+
+trans : {s t u : State} → Grows s t → Grows t u → Grows s u
+trans {s} {t} {u} g h = record {
+  pieces = (g.pieces.0 ++ h.pieces.0, h.pieces.1 ∙ ap (λ l. l ++ h.pieces.0) g.pieces.1 ∙ append_assoc s.pieces g.pieces.0 h.pieces.0);
+  visits = omega (arith, g.visits, h.visits);
+}
+
+-- what a result comes to
+abbrev state_at : {A : Type 0} → Result A → State
+state_at (Gives a s) = s
+state_at (Leaves p s) = s
+state_at (Asks q s) = s
+state_at (Cut s) = s
+
+-- an evaluation that only adds
+abbrev Adds : {A : Type 0} → Meaning A → Type 0
+Adds f = (s : State) → Grows s (state_at (f s))
+
+then_adds : {A B : Type 0} (r : Result A) (f : A → Meaning B) → ((a : A) → Adds (f a)) → Grows (state_at r) (state_at (then r f))
+then_adds (Gives a s) f h = h a s
+then_adds (Leaves p s) f h = same s
+then_adds (Asks q s) f h = same s
+then_adds (Cut s) f h = same s
+
+-- from one state an evaluation, and then another
+both_add : {A B : Type 0} (s : State) (r : Result A) (f : A → Meaning B) → Grows s (state_at r) → ((a : A) → Adds (f a)) → Grows s (state_at (then r f))
+both_add s r f g h = trans g (then_adds r f h)
+
+printed_adds : (out : Option Text) (s : State) → Grows s (printed out s)
+printed_adds None s = same s
+printed_adds (Some t) s = record { pieces = (record { text = t; number = s.visits } ∷ [], refl); visits = omega arith }
+
+replied_adds : (more : List Answer) (o : Replied) (s : State) → ((q : Request) (t : State) → Grows t (state_at (asked more q t))) → Grows s (state_at (elim o [ Got v w ↦ Gives v (record s { world = w; answers = more }) | Failed k a w ↦ raised (exception k a w) (record s { answers = more }) | Wants q w ↦ asked more q (record s { world = w }) ]))
+replied_adds more (Got v w) s h = record { pieces = (same s).pieces; visits = (same s).visits }
+replied_adds more (Failed k a w) s h = record { pieces = (same s).pieces; visits = (same s).visits }
+replied_adds more (Wants q w) s h = let g = h q (record s { world = w }) in record { pieces = g.pieces; visits = g.visits }
+
+asked_adds : (answers : List Answer) (q : Request) (s : State) → Grows s (state_at (asked answers q s))
+asked_adds [] q s = record { pieces = (same s).pieces; visits = (same s).visits }
+asked_adds (a ∷ more) q s = replied_adds more (reply q a s.world) s (λ q' t. asked_adds more q' t)
+
+ran_adds : (o : Ran) (s : State) → Grows s (state_at (ran o s))
+ran_adds (Gave v out w) s = let g = printed_adds out (record s { world = w }) in record { pieces = g.pieces; visits = g.visits }
+ran_adds (Threw k a w) s = record { pieces = (same s).pieces; visits = (same s).visits }
+ran_adds (Asked q w) s = let g = asked_adds s.answers q (record s { world = w }) in record { pieces = g.pieces; visits = g.visits }
+
+visit_adds : (s : State) → Grows s (visit s)
+visit_adds s = record { pieces = (same s).pieces; visits = omega arith }
+
+mutual
+  expr_adds : (e : Scope) (a : Expr) → Adds (expr e a)
+  expr_adds e (Constant v) s = visit_adds s
+  expr_adds e (Name x) s = trans (visit_adds s) (ran_adds (load_global x s.world) (visit s))
+  expr_adds e (Unary o a) s = both_add s (expr e a (visit s)) _ (trans (visit_adds s) (expr_adds e a (visit s))) (λ v s1. ran_adds (operate_unary o v s1.world) s1)
+  expr_adds e (Binary o a b) s =
+      both_add s (expr e a (visit s)) _ (trans (visit_adds s) (expr_adds e a (visit s))) (λ u s1. both_add s1 (expr e b s1) _ (expr_adds e b s1) (λ v s2. ran_adds (operate o u v s2.world) s2))
+  expr_adds e (Call f args) s =
+      both_add s (expr e f (visit s)) _ (trans (visit_adds s) (expr_adds e f (visit s))) (λ g s1. both_add s1 (exprs e args s1) _ (exprs_add e args s1) (λ vs s2. ran_adds (call g vs s2.world) s2))
+
+  exprs_add : (e : Scope) (args : Exprs) → Adds (exprs e args)
+  exprs_add e NoExprs s = same s
+  exprs_add e (MoreExprs a args) s =
+      both_add s (expr e a s) _ (expr_adds e a s) (λ v s1. both_add s1 (exprs e args s1) _ (exprs_add e args s1) (λ vs s2. same s2))
+
+assign_adds : (x : Text) (v : Value) → Adds (assign x v)
+assign_adds x v s = record { pieces = (same s).pieces; visits = (same s).visits }
+
+stmt_adds : (e : Scope) (a : Stmt) → Adds (stmt e a)
+stmt_adds e (Evaluate a) s = both_add s (expr e a (visit s)) _ (trans (visit_adds s) (expr_adds e a (visit s))) (λ v s1. same s1)
+stmt_adds e (Assign x a) s = both_add s (expr e a (visit s)) _ (trans (visit_adds s) (expr_adds e a (visit s))) (λ v s1. trans (visit_adds s1) (assign_adds x v (visit s1)))
+
+stmts_add : (e : Scope) (b : Stmts) → Adds (stmts e b)
+stmts_add e NoStmts s = same s
+stmts_add e (MoreStmts a b) s = both_add s (stmt e a s) _ (stmt_adds e a s) (λ u s1. stmts_add e b s1)
+
+-- ---- growing, of a life
+
+-- the rest of a life only adds
+abbrev Rest_adds : (State → Told) → Type 0
+Rest_adds rest = (s : State) → Grows s (state_of (rest s))
+
+after_end_adds : (answers : List Answer) (o : Outcome) (rest : State → Told) → Rest_adds rest → (s : State) → Grows s (state_of (after_end answers o rest s))
+after_end_adds [] o rest h s = record { pieces = (same s).pieces; visits = (same s).visits }
+after_end_adds (Done ∷ more) o rest h s = let g = h (record s { answers = more }) in record { pieces = g.pieces; visits = g.visits }
+after_end_adds (Taken j ∷ more) o rest h s = record { pieces = (same s).pieces; visits = (same s).visits }
+
+ends_add : (o : Outcome) (rest : State → Told) → Rest_adds rest → (s : State) → Grows s (state_of (ends_with o rest s))
+ends_add o rest h s = trans (visit_adds s) (after_end_adds s.answers o rest h (visit s))
+
+run_ended_adds : (rest : State → Told) → Rest_adds rest → (r : Result (Unit {0})) → Grows (state_at r) (state_of (run_ended rest r))
+run_ended_adds rest h (Gives u s) = ends_add Returned rest h s
+run_ended_adds rest h (Leaves p s) = ends_add (outcome_of p s.world) rest h s
+run_ended_adds rest h (Asks q s) = same s
+run_ended_adds rest h (Cut s) = same s
+
+takes_add : (n : ℕ) (rest : State → Told) → Rest_adds rest → (answers : List Answer) (s : State) → Grows s (state_of (takes n rest answers s))
+takes_add n rest h [] s = record { pieces = (same s).pieces; visits = (same s).visits }
+takes_add n rest h (Taken (Bind bs) ∷ more) s =
+    let g = h (record s { answers = more; world = record s.world { globals = bind_all bs s.world.globals } }) in record { pieces = g.pieces; visits = g.visits }
+takes_add n rest h (Taken (Run None) ∷ more) s = let g = ends_add not_read rest h (record s { answers = more }) in record { pieces = g.pieces; visits = g.visits }
+takes_add n rest h (Taken (Run (Some m)) ∷ more) s =
+    let t = record s { answers = more; slots = [] } in
+    let g = trans (stmts_add (module_scope n) m.body t) (run_ended_adds rest h (stmts (module_scope n) m.body t)) in
+    record { pieces = g.pieces; visits = g.visits }
+takes_add n rest h (Taken Closing ∷ more) s = record { pieces = (same s).pieces; visits = (same s).visits }
+takes_add n rest h (Done ∷ more) s = record { pieces = (same s).pieces; visits = (same s).visits }
+
+life_adds : (n k : ℕ) → Rest_adds (life n k)
+life_adds n zero s = same s
+life_adds n (suc k) s = trans (visit_adds s) (takes_add n (life n k) (life_adds n k) s.answers (visit s))
+
+-- ---- going further
+
+-- with more answers at the end
+abbrev more : List Answer → State → State
+more b s = record s { answers = s.answers ++ b }
+
+-- the second result goes as the first did, as far as that came: it had no answer left, or was cut
+abbrev Further : {A : Type 0} → List Answer → Result A → Result A → Type 0
+Further b (Gives a s) r = r ≡ Gives a (more b s)
+Further b (Leaves p s) r = r ≡ Leaves p (more b s)
+Further b (Asks q s) r = Grows s (state_at r) × (b ≡ [] → r ≡ Asks q s)
+Further b (Cut s) r = Grows s (state_at r)
+
+then_further : {A B : Type 0} (b : List Answer) (r r' : Result A) (f f' : A → Meaning B) → Further b r r' → ((a : A) (s : State) → Further b (f a s) (f' a (more b s))) → ((a : A) → Adds (f' a)) → Further b (then r f) (then r' f')
+then_further b (Gives a s) r' f f' h k g = subst (λ x. Further b (f a s) (then x f')) (sym h) (k a s)
+then_further b (Leaves p s) r' f f' h k g = ap (λ x. then x f') h
+then_further b (Asks q s) r' f f' h k g = (trans h.0 (then_adds r' f' g), λ e. ap (λ x. then x f') (h.1 e))
+then_further b (Cut s) r' f f' h k g = trans h (then_adds r' f' g)
+
+printed_further : (b : List Answer) (out : Option Text) (v : Value) (s : State) → Further b (Gives v (printed out s)) (Gives v (printed out (more b s)))
+printed_further b None v s = refl
+printed_further b (Some t) v s = refl
+
+replied_further : (b rest : List Answer) (o : Replied) (s t : State) → ((q : Request) (w : World) → Further b (asked rest q (record s { world = w })) (asked (rest ++ b) q (record t { world = w })))
+    → (t ≡ record s { answers = t.answers })
+    → Further b (elim o [ Got v w ↦ Gives v (record s { world = w; answers = rest }) | Failed k a w ↦ raised (exception k a w) (record s { answers = rest }) | Wants q w ↦ asked rest q (record s { world = w }) ])
+    (elim o [ Got v w ↦ Gives v (record t { world = w; answers = rest ++ b }) | Failed k a w ↦ raised (exception k a w) (record t { answers = rest ++ b }) | Wants q w ↦ asked (rest ++ b) q (record t { world = w }) ])
+replied_further b rest (Got v w) s t h e = ap (λ u. Gives v (record u { world = w; answers = rest ++ b })) e
+replied_further b rest (Failed k a w) s t h e = ap (λ u. raised (exception k a w) (record u { answers = rest ++ b })) e
+replied_further b rest (Wants q w) s t h e = h q w
+
+asked_further : (b answers : List Answer) (q : Request) (s : State) (l : List Answer) → Further b (asked answers q s) (asked (answers ++ b) q (record s { answers = l }))
+asked_further b [] q s l = let g = asked_adds b q (record s { answers = l }) in (record { pieces = g.pieces; visits = g.visits }, λ e. ap (λ k. asked k q (record s { answers = l })) e)
+asked_further b (a ∷ rest) q s l = replied_further b rest (reply q a s.world) s (record s { answers = l }) (λ q' w. asked_further b rest q' (record s { world = w }) l) refl
+
+ran_further : (b : List Answer) (o : Ran) (s : State) → Further b (ran o s) (ran o (more b s))
+ran_further b (Gave v out w) s = printed_further b out v (record s { world = w })
+ran_further b (Threw k a w) s = refl
+ran_further b (Asked q w) s = asked_further b s.answers q (record s { world = w }) (s.answers ++ b)
+
+-- scopes that differ in the most turns of a loop
+module _ (b : List Answer) (active : Option Exception) (n m : ℕ) (fewer : n ≤ m) where
+  abbrev first : Scope
+  first = record { active = active; turns = n }
+
+  abbrev second : Scope
+  second = record { active = active; turns = m }
+
+  mutual
+    expr_further : (a : Expr) (s : State) → Further b (expr first a s) (expr second a (more b s))
+    expr_further (Constant v) s = refl
+    expr_further (Name x) s = ran_further b (load_global x s.world) (visit s)
+    expr_further (Unary o a) s =
+        then_further b _ _ _ _ (expr_further a (visit s)) (λ v s1. ran_further b (operate_unary o v s1.world) s1) (λ v s1. ran_adds (operate_unary o v s1.world) s1)
+    expr_further (Binary o a c) s =
+        then_further b _ _ _ _ (expr_further a (visit s))
+        (λ u s1. then_further b _ _ _ _ (expr_further c s1) (λ v s2. ran_further b (operate o u v s2.world) s2) (λ v s2. ran_adds (operate o u v s2.world) s2))
+        (λ u s1. both_add s1 (expr second c s1) _ (expr_adds second c s1) (λ v s2. ran_adds (operate o u v s2.world) s2))
+    expr_further (Call f args) s =
+        then_further b _ _ _ _ (expr_further f (visit s))
+        (λ g s1. then_further b _ _ _ _ (exprs_further args s1) (λ vs s2. ran_further b (call g vs s2.world) s2) (λ vs s2. ran_adds (call g vs s2.world) s2))
+        (λ g s1. both_add s1 (exprs second args s1) _ (exprs_add second args s1) (λ vs s2. ran_adds (call g vs s2.world) s2))
+
+    exprs_further : (args : Exprs) (s : State) → Further b (exprs first args s) (exprs second args (more b s))
+    exprs_further NoExprs s = refl
+    exprs_further (MoreExprs a args) s =
+        then_further b _ _ _ _ (expr_further a s)
+        (λ v s1. then_further b _ _ _ _ (exprs_further args s1) (λ vs s2. refl) (λ vs s2. same s2))
+        (λ v s1. both_add s1 (exprs second args s1) _ (exprs_add second args s1) (λ vs s2. same s2))
+
+  stmt_further : (a : Stmt) (s : State) → Further b (stmt first a s) (stmt second a (more b s))
+  stmt_further (Evaluate a) s = then_further b _ _ _ _ (expr_further a (visit s)) (λ v s1. refl) (λ v s1. same s1)
+  stmt_further (Assign x a) s =
+      then_further b _ _ _ _ (expr_further a (visit s)) (λ v s1. refl) (λ v s1. trans (visit_adds s1) (assign_adds x v (visit s1)))
+
+  stmts_further : (c : Stmts) (s : State) → Further b (stmts first c s) (stmts second c (more b s))
+  stmts_further NoStmts s = refl
+  stmts_further (MoreStmts a c) s = then_further b _ _ _ _ (stmt_further a s) (λ u s1. stmts_further c s1) (λ u s1. stmts_add second c s1)
+
+-- ---- going further, of a life
+
+-- the second life goes as the first did, as far as that came
+abbrev Lives_further : List Answer → Told → Told → Type 0
+Lives_further b (Stops a s) r = Grows s (state_of r) × (b ≡ [] → r ≡ Stops a s)
+Lives_further b (IsGone s) r = r ≡ IsGone (more b s)
+Lives_further b (IsCut s) r = Grows s (state_of r)
+
+-- the rest of a second life goes as that of the first
+abbrev Rests : List Answer → (State → Told) → (State → Told) → Type 0
+Rests b rest rest' = (s : State) → Lives_further b (rest s) (rest' (more b s))
+
+module _ (b : List Answer) (rest rest' : State → Told) (rests : Rests b rest rest') (adds : Rest_adds rest') where
+  after_end_further : (answers : List Answer) (o : Outcome) (s : State) (l : List Answer) → Lives_further b (after_end answers o rest s) (after_end (answers ++ b) o rest' (record s { answers = l }))
+  after_end_further [] o s l =
+      let g = after_end_adds b o rest' adds (record s { answers = l }) in
+      (record { pieces = g.pieces; visits = g.visits }, λ e. ap (λ k. after_end k o rest' (record s { answers = l })) e)
+  after_end_further (Done ∷ left) o s l = rests (record s { answers = left })
+  after_end_further (Taken j ∷ left) o s l = refl
+
+  ends_further : (o : Outcome) (s : State) → Lives_further b (ends_with o rest s) (ends_with o rest' (more b s))
+  ends_further o s = after_end_further s.answers o (visit s) (s.answers ++ b)
+
+  run_ended_further : (r r' : Result (Unit {0})) → Further b r r' → Lives_further b (run_ended rest r) (run_ended rest' r')
+  run_ended_further (Gives u s) r' h = subst (λ x. Lives_further b (ends_with Returned rest s) (run_ended rest' x)) (sym h) (ends_further Returned s)
+  run_ended_further (Leaves p s) r' h = subst (λ x. Lives_further b (ends_with (outcome_of p s.world) rest s) (run_ended rest' x)) (sym h) (ends_further (outcome_of p s.world) s)
+  run_ended_further (Asks q s) r' h = (trans h.0 (run_ended_adds rest' adds r'), λ e. ap (run_ended rest') (h.1 e))
+  run_ended_further (Cut s) r' h = trans h (run_ended_adds rest' adds r')
+
+  takes_further : (n m : ℕ) → n ≤ m → (answers : List Answer) (s : State) (l : List Answer) → Lives_further b (takes n rest answers s) (takes m rest' (answers ++ b) (record s { answers = l }))
+  takes_further n m fewer [] s l =
+      let g = takes_add m rest' adds b (record s { answers = l }) in
+      (record { pieces = g.pieces; visits = g.visits }, λ e. ap (λ k. takes m rest' k (record s { answers = l })) e)
+  takes_further n m fewer (Taken (Bind bs) ∷ left) s l = rests (record s { answers = left; world = record s.world { globals = bind_all bs s.world.globals } })
+  takes_further n m fewer (Taken (Run None) ∷ left) s l = ends_further not_read (record s { answers = left })
+  takes_further n m fewer (Taken (Run (Some t)) ∷ left) s l =
+      let s1 = record s { answers = left; slots = [] } in
+      run_ended_further (stmts (module_scope n) t.body s1) (stmts (module_scope m) t.body (more b s1)) (stmts_further b None n m fewer t.body s1)
+  takes_further n m fewer (Taken Closing ∷ left) s l = refl
+  takes_further n m fewer (Done ∷ left) s l = refl
+
+life_further : (b : List Answer) (n m : ℕ) → n ≤ m → (j k : ℕ) → j ≤ k → Rests b (life n j) (life m k)
+life_further b n m fewer zero k less s = let g = life_adds m k (more b s) in record { pieces = g.pieces; visits = g.visits }
+life_further b n m fewer (suc j) zero less s = absurd (omega arith)
+life_further b n m fewer (suc j) (suc k) less s =
+    takes_further b (life n j) (life m k) (life_further b n m fewer j k (omega arith)) (life_adds m k) n m fewer s.answers (visit s) (s.answers ++ b)
+
+-- ---- the laws
+
+-- what going further says of a life that is told to its end
+told : (r r' : Told) (e : Option Action × ℕ) → Lives_further [] r r' → end_of r ≡ Some e → r' ≡ r
+told (Stops a s) r' e h f = h.1 refl
+told (IsGone s) r' e h f = h ∙ ap (λ l. IsGone (record s { answers = l })) (append-nil s.answers)
+told (IsCut s) r' e h f = cc
+
+pub one_life : OneLife
+one_life n m answers e fewer f =
+    let h = life_further [] n m fewer (length answers + 1) (length answers + 1) (omega arith) (newborn answers) in
+    ap (λ l. life m (length answers + 1) (newborn l)) (sym (append-nil answers)) ∙ told (life_of n answers) _ e h f
+
+-- it only adds, whatever the life told
+only_adds : (b : List Answer) (r r' : Told) → Lives_further b r r' → Grows (state_of r) (state_of r')
+only_adds b (Stops a s) r' h = h.0
+only_adds b (IsGone s) r' h = subst (λ x. Grows s (state_of x)) (sym h) (record { pieces = (same s).pieces; visits = (same s).visits })
+only_adds b (IsCut s) r' h = h
+
+-- a life under more answers goes further
+under_more : (n m : ℕ) (answers b : List Answer) → n ≤ m → Lives_further b (life_of n answers) (life_of m (answers ++ b))
+under_more n m answers b fewer =
+    life_further b n m fewer (length answers + 1) (length (answers ++ b) + 1) (omega (arith, length-append answers b)) (newborn answers)
+
+pub lives_grow : LivesGrow
+lives_grow n m answers b fewer = only_adds b (life_of n answers) (life_of m (answers ++ b)) (under_more n m answers b fewer)
+
+pub gone_stays : GoneStays
+gone_stays n m answers b s fewer e = subst (λ r. Lives_further b r (life_of m (answers ++ b))) e (under_more n m answers b fewer)

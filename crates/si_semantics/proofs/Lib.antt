@@ -1,0 +1,4 @@
+pub mod Growing
+pub mod Courses
+pub mod Worked
+pub mod Names

@@ -1,0 +1,5 @@
+use Rattle.si_semantics.proofs.Growing.{one_life}
+use Rattle.si_semantics.proofs.laws.one_life.Goals as goal
+
+pub returns : goal.returns
+returns c = one_life

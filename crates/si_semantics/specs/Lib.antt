@@ -1,0 +1,16 @@
+pub mod Value
+pub mod Tree
+pub mod Tokens
+pub mod Text
+pub mod World
+pub mod Operations
+pub mod Meaning
+pub mod Life
+pub mod Machine
+pub mod Shows
+pub mod Report
+pub mod Cases
+pub mod Laws
+pub mod Grammar
+pub mod Words
+pub mod Layout

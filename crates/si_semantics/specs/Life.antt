@@ -1,0 +1,76 @@
+-- The life of an interpreter: one function of the answers that it is given (this project's own).
+use Rattle.std.specs.Prelude.{codes, ℕ, zero, suc, ◌+◌, List, [], ◌∷◌, length, Some, None}
+use Rattle.si_plain.specs.declared.kind.Kind.{Kind}
+use Rattle.si_plain.specs.declared.kind.Kind.TheVariants.{SyntaxError}
+use Rattle.si_semantics.specs.Value.{Text, Thrown}
+use Rattle.si_semantics.specs.Text.{message_of}
+use Rattle.si_semantics.specs.World.{World, Request, Bind, Run, Closing, Answer, Taken, Done, bind_all, first_world}
+use Rattle.si_semantics.specs.Meaning.{State, Leave, Raises, Result, Gives, Leaves, Asks, Cut, Scope, visit, stmts}
+
+-- how a run ended: at its end, or left by an exception of a kind with a message
+pub data Outcome : Type 0 where
+  Returned : Outcome
+  Raised : Kind → Text → Outcome
+
+-- an action at which an interpreter stands: it waits for a job, makes a request, or tells how its run ended
+pub data Action : Type 0 where
+  Take : Action
+  Calls : Request → Action
+  End : Outcome → Action
+
+-- how far a life is told: it stands at an action, it is gone, or a loop wants one turn too many
+pub data Told : Type 0 where
+  Stops : Action → State → Told
+  IsGone : State → Told
+  IsCut : State → Told
+
+-- the outcome of a run that was left
+abbrev pub outcome_of : Leave → World → Outcome
+outcome_of (Raises (Thrown k a)) w = Raised k (message_of (Thrown k a))
+
+-- the outcome of a run whose text is not read (Language Reference, 8.4; the message is this project's own)
+abbrev pub not_read : Outcome
+not_read = Raised SyntaxError (codes "invalid syntax")
+
+-- the end of a run is told, and its answer awaited; an answer that does not fit closes the interpreter
+abbrev pub after_end : List Answer → Outcome → (State → Told) → State → Told
+after_end [] o rest s = Stops (End o) (record s { answers = [] })
+after_end (Done ∷ more) o rest s = rest (record s { answers = more })
+after_end (Taken j ∷ more) o rest s = IsGone (record s { answers = more })
+
+-- to tell the end of a run is a visit
+abbrev pub ends_with : Outcome → (State → Told) → State → Told
+ends_with o rest s = after_end s.answers o rest (visit s)
+
+-- a run's text has been evaluated
+abbrev pub run_ended : (State → Told) → Result (Unit {0}) → Told
+run_ended rest (Gives u s) = ends_with Returned rest s
+run_ended rest (Leaves p s) = ends_with (outcome_of p s.world) rest s
+run_ended rest (Asks r s) = Stops (Calls r) s
+run_ended rest (Cut s) = IsCut s
+
+-- a text is evaluated as a module: no exception is active, and a loop has at most n turns
+abbrev pub module_scope : ℕ → Scope
+module_scope n = record { active = None; turns = n }
+
+-- a job is taken; an answer that does not fit closes the interpreter
+abbrev pub takes : ℕ → (State → Told) → List Answer → State → Told
+takes n rest [] s = Stops Take (record s { answers = [] })
+takes n rest (Taken (Bind bs) ∷ more) s = rest (record s { answers = more; world = record s.world { globals = bind_all bs s.world.globals } })
+takes n rest (Taken (Run None) ∷ more) s = ends_with not_read rest (record s { answers = more })
+takes n rest (Taken (Run (Some m)) ∷ more) s = run_ended rest (stmts (module_scope n) m.body (record s { answers = more; slots = [] }))
+takes n rest (Taken Closing ∷ more) s = IsGone (record s { answers = more })
+takes n rest (Done ∷ more) s = IsGone (record s { answers = more })
+
+-- a life of fewer than k jobs; to wait for a job is a visit
+abbrev pub life : ℕ → ℕ → State → Told
+life n zero s = IsCut s
+life n (suc k) s = takes n (life n k) s.answers (visit s)
+
+-- a new interpreter
+abbrev pub newborn : List Answer → State
+newborn answers = record { world = first_world; answers = answers; slots = []; visits = 0; pieces = [] }
+
+-- the life under these answers, with at most n turns of a loop
+abbrev pub life_of : ℕ → List Answer → Told
+life_of n answers = life n (length answers + 1) (newborn answers)

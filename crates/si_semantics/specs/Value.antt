@@ -1,0 +1,21 @@
+-- Values and exceptions (Python Language Reference 3.14, 3.2).
+use Rattle.std.specs.Prelude.{ℕ, ℤ, List, Option}
+use Rattle.si_plain.specs.declared.kind.Kind.{Kind}
+
+-- a text is the list of its characters, each by its code point
+abbrev pub Text : Type 0
+Text = List ℕ
+
+-- the functions that are there without a definition
+pub data BuiltIn : Type 0 where
+  Print : BuiltIn
+
+pub data Value : Type 0 where
+  Nothing : Value
+  Int : ℤ → Value
+  Str : Text → Value
+  Provided : BuiltIn → Value
+
+-- an exception, by its kind and the one argument that it may have
+pub data Exception : Type 0 where
+  Thrown : Kind → Option Value → Exception
