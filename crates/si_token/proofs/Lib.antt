@@ -1,0 +1,7 @@
+pub mod Decimals
+pub mod Runs
+pub mod Spellings
+pub mod Boundaries
+pub mod Steps
+pub mod Loop
+pub mod Slices

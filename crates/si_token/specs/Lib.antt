@@ -1,0 +1,5 @@
+pub mod Views
+pub mod Reading
+pub mod Places
+pub mod Faults
+pub mod Spans

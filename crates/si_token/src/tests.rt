@@ -1,0 +1,186 @@
+// Texts and their tokens, as Python's own `tokenize` gives them, but for blank lines, comments and CR.
+
+use crate::token::TokenKind::{End, Int, Name, Newline, Str};
+use crate::token::{Keyword, Symbol, TokenKind};
+use crate::{TokenFault, tokens};
+use std::process::Abort;
+
+fn expect(rt: &(impl Abort + AllocGlobal), text: &str, wanted: &[(TokenKind, &str)]) {
+    match tokens(rt.alloc(), text) {
+        Ok(found) => {
+            assert_eq!(rt; found.len(), wanted.len(), "{text:?}");
+            for (token, (kind, part)) in found.iter().zip(wanted) {
+                assert!(rt; token.kind == *kind, "{text:?}");
+                assert_eq!(rt; token.text, *part, "{text:?}");
+            }
+        }
+        Err(_) => assert!(rt; false, "{text:?} has no tokens"),
+    }
+}
+
+fn expect_refused(rt: &(impl Abort + AllocGlobal), text: &str, line: usize) {
+    let bad = match tokens(rt.alloc(), text) {
+        Err(TokenFault::BadText(at)) => at == line,
+        _ => false,
+    };
+    assert!(rt; bad, "{text:?}");
+}
+
+fn sign(symbol: Symbol) -> TokenKind {
+    TokenKind::Symbol(symbol)
+}
+
+#[test]
+fn lines(rt: HostRuntime) {
+    expect(&rt, "", &[(End, "")]);
+    expect(&rt, "# one\n \t # two\r\n\r\t\n#three é", &[(End, "")]);
+    expect(&rt, "x", &[(Name, "x"), (Newline, ""), (End, "")]);
+    expect(
+        &rt,
+        "x\r\ny\rz #\n",
+        &[
+            (Name, "x"),
+            (Newline, "\r\n"),
+            (Name, "y"),
+            (Newline, "\r"),
+            (Name, "z"),
+            (Newline, "\n"),
+            (End, ""),
+        ],
+    );
+    expect(
+        &rt,
+        "(1,\n \t2)\n",
+        &[
+            (sign(Symbol::LeftParenthesis), "("),
+            (Int, "1"),
+            (sign(Symbol::Comma), ","),
+            (Int, "2"),
+            (sign(Symbol::RightParenthesis), ")"),
+            (Newline, "\n"),
+            (End, ""),
+        ],
+    );
+}
+
+#[test]
+fn spans(rt: HostRuntime) {
+    let wanted = [
+        (0, 1, 1),
+        (1, 3, 1),
+        (3, 4, 2),
+        (4, 8, 2),
+        (8, 9, 2),
+        (15, 16, 3),
+        (16, 17, 3),
+        (17, 17, 3),
+        (17, 17, 3),
+    ];
+    match tokens(rt.alloc(), "x\r\n('é', # c\n\ty)") {
+        Ok(found) => {
+            assert_eq!(rt; found.len(), wanted.len());
+            for (token, (start, end, line)) in found.iter().zip(wanted.iter()) {
+                assert_eq!(rt; token.span.start, *start);
+                assert_eq!(rt; token.span.end, *end);
+                assert_eq!(rt; token.span.line, *line);
+            }
+        }
+        Err(_) => assert!(rt; false, "no tokens"),
+    }
+}
+
+#[test]
+fn words(rt: HostRuntime) {
+    expect(
+        &rt,
+        "x=1;y\t= 2",
+        &[
+            (Name, "x"),
+            (sign(Symbol::Equal), "="),
+            (Int, "1"),
+            (sign(Symbol::Semicolon), ";"),
+            (Name, "y"),
+            (sign(Symbol::Equal), "="),
+            (Int, "2"),
+            (Newline, ""),
+            (End, ""),
+        ],
+    );
+    expect(
+        &rt,
+        "a**b//c<<=_9",
+        &[
+            (Name, "a"),
+            (sign(Symbol::DoubleStar), "**"),
+            (Name, "b"),
+            (sign(Symbol::DoubleSlash), "//"),
+            (Name, "c"),
+            (sign(Symbol::LeftShiftEqual), "<<="),
+            (Name, "_9"),
+            (Newline, ""),
+            (End, ""),
+        ],
+    );
+    expect(
+        &rt,
+        "while whiles None 00 9223372036854775807",
+        &[
+            (TokenKind::Keyword(Keyword::While), "while"),
+            (Name, "whiles"),
+            (TokenKind::Keyword(Keyword::None), "None"),
+            (Int, "00"),
+            (Int, "9223372036854775807"),
+            (Newline, ""),
+            (End, ""),
+        ],
+    );
+    expect(
+        &rt,
+        "'a\\n\"é#' '' \"\\\"\" 'b'''",
+        &[
+            (Str, "'a\\n\"é#'"),
+            (Str, "''"),
+            (Str, "\"\\\"\""),
+            (Str, "'b'"),
+            (Str, "''"),
+            (Newline, ""),
+            (End, ""),
+        ],
+    );
+}
+
+#[test]
+fn refused(rt: HostRuntime) {
+    for text in [
+        "1a",
+        "1.",
+        "1_0",
+        "007",
+        "9223372036854775808",
+        "'a",
+        "'a\n'",
+        "'\\t'",
+        "'a\\",
+        "'''a'",
+        "\"\"\"",
+        "!",
+        "$",
+        "?",
+        "`",
+        "\\",
+        "/",
+        "a/=1",
+        "\u{0}",
+        "#\u{0}",
+        "'\u{0}'",
+        "é",
+        "x\u{c}",
+        " x",
+        "\tx",
+        "1é",
+    ] {
+        expect_refused(&rt, text, 1);
+    }
+    expect_refused(&rt, "x\r\n#\r  y", 3);
+    expect_refused(&rt, "(\n\n$)", 3);
+}

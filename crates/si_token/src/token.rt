@@ -1,0 +1,122 @@
+// Tokens: what each is, the part of the text that it is, and where that stands.
+
+/// An operator or a delimiter (Python Language Reference 3.14, "Operators and delimiters").
+#[derive(Clone, Copy, Debug, PartialEq, Eq)]
+pub enum Symbol {
+    Plus,
+    Minus,
+    Star,
+    DoubleStar,
+    DoubleSlash,
+    Percent,
+    Ampersand,
+    Bar,
+    Caret,
+    Tilde,
+    LeftShift,
+    RightShift,
+    Less,
+    Greater,
+    LessEqual,
+    GreaterEqual,
+    EqualEqual,
+    NotEqual,
+    Equal,
+    PlusEqual,
+    MinusEqual,
+    StarEqual,
+    DoubleStarEqual,
+    DoubleSlashEqual,
+    PercentEqual,
+    AmpersandEqual,
+    BarEqual,
+    CaretEqual,
+    LeftShiftEqual,
+    RightShiftEqual,
+    LeftParenthesis,
+    RightParenthesis,
+    LeftBracket,
+    RightBracket,
+    LeftBrace,
+    RightBrace,
+    Comma,
+    Colon,
+    Dot,
+    Semicolon,
+}
+
+/// A keyword (Python Language Reference 3.14, "Keywords").
+#[derive(Clone, Copy, Debug, PartialEq, Eq)]
+pub enum Keyword {
+    False,
+    None,
+    True,
+    And,
+    As,
+    Assert,
+    Async,
+    Await,
+    Break,
+    Class,
+    Continue,
+    Def,
+    Del,
+    Elif,
+    Else,
+    Except,
+    Finally,
+    For,
+    From,
+    Global,
+    If,
+    Import,
+    In,
+    Is,
+    Lambda,
+    Nonlocal,
+    Not,
+    Or,
+    Pass,
+    Raise,
+    Return,
+    Try,
+    While,
+    With,
+    Yield,
+}
+
+/// What a token is.
+#[derive(Clone, Copy, Debug, PartialEq, Eq)]
+pub enum TokenKind {
+    /// An identifier that is no keyword.
+    Name,
+    /// An integer literal: decimal digits of a value from 0 to 9223372036854775807.
+    Int,
+    /// A str literal, with its quotes.
+    Str,
+    Symbol(Symbol),
+    Keyword(Keyword),
+    /// The end of a line that has tokens. Its text is the line end, and empty where the text ends without one.
+    Newline,
+    Indent,
+    Dedent,
+    /// The end of the text. Its text is empty.
+    End,
+}
+
+/// Where a token stands: from the byte `start` up to the byte `end` of the source. The line in which it begins is
+/// counted from 1 and is for people: no contract speaks of it.
+#[derive(Clone, Copy, Debug, PartialEq, Eq)]
+pub struct Span {
+    pub start: usize,
+    pub end: usize,
+    pub line: usize,
+}
+
+/// A token. Its text is the part of the source that it is.
+#[derive(Clone, Copy, Debug)]
+pub struct Token<'a> {
+    pub kind: TokenKind,
+    pub text: &'a str,
+    pub span: Span,
+}

@@ -1,0 +1,236 @@
+// The word at the front of a text.
+
+ghost use Rattle.std.specs.Prelude.{◌≡◌, ◌||◌, ◌==◌, ◌-◌, not, nat_le};
+ghost use Rattle.std.specs.List.{prefix_len, list_all};
+ghost use Rattle.std.specs.Option.{option_map};
+ghost use Rattle.si_semantics.specs.Words.{continues_name, begins_name, in_comment, is_digit, is_escape, is_number, is_apart, is_closed, is_allowed, decimal_from};
+ghost use Rattle.si_token.specs.Reading.{sort_at, text_length, line_end_length, length_of, word_at};
+ghost use Rattle.si_token.specs.Views.{sort_of, word_of};
+
+use crate::symbols::symbol_length;
+
+/// The greatest value of an integer literal.
+pub const MAX_INT: u64 = 9_223_372_036_854_775_807;
+
+/// What a word of a text is.
+#[derive(Clone, Copy, Debug, PartialEq, Eq)]
+pub enum Sort {
+    /// An identifier or a keyword.
+    Name,
+    Int,
+    Text,
+    Operator,
+    Spaces,
+    Tabs,
+    Comment,
+    LineEnd,
+}
+
+fn begins_name(b: u8) -> bool
+    ensures { result ≡ begins_name b }
+{
+    b.is_ascii_alphabetic() || b == b'_'
+}
+
+fn is_digit(b: u8) -> bool
+    ensures { result ≡ is_digit b }
+{
+    b.is_ascii_digit()
+}
+
+// What a name may hold behind its first byte.
+fn continues_name(b: u8) -> bool
+    ensures { result ≡ continues_name b }
+{
+    begins_name(b) || is_digit(b)
+}
+
+// What a comment may hold: all but line ends and NUL.
+fn in_comment(b: u8) -> bool
+    ensures { result ≡ in_comment b }
+{
+    b != b'\n' && b != b'\r' && b != 0
+}
+
+// What may follow a backslash.
+fn is_escape(b: u8) -> bool
+    ensures { result ≡ is_escape b }
+{
+    matches!(b, b'\\' | b'\'' | b'"' | b'n')
+}
+
+// The sort of the words that begin with this byte.
+fn sort_at(first: u8) -> Sort
+    ensures { sort_of result ≡ sort_at first }
+{
+    if begins_name(first) {
+        Sort::Name
+    } else if is_digit(first) {
+        Sort::Int
+    } else {
+        match first {
+            b'\'' | b'"' => Sort::Text,
+            b' ' => Sort::Spaces,
+            b'\t' => Sort::Tabs,
+            b'#' => Sort::Comment,
+            b'\n' | b'\r' => Sort::LineEnd,
+            _ => Sort::Operator,
+        }
+    }
+}
+
+fn name_length(bytes: &[u8]) -> usize
+    ensures { result ≡ prefix_len continues_name bytes.now }
+{
+    bytes.iter().take_while(|b| continues_name(**b)).count()
+}
+
+fn digits_length(bytes: &[u8]) -> usize
+    ensures { result ≡ prefix_len is_digit bytes.now }
+{
+    bytes.iter().take_while(|b| is_digit(**b)).count()
+}
+
+fn comment_length(bytes: &[u8]) -> usize
+    ensures { result ≡ prefix_len in_comment bytes.now }
+{
+    bytes.iter().take_while(|b| in_comment(**b)).count()
+}
+
+// How often the byte stands at the front.
+fn repeated_length(bytes: &[u8], byte: u8) -> usize
+    ensures { result ≡ prefix_len (λ b. b == byte) bytes.now }
+{
+    bytes.iter().take_while(|b| **b == byte).count()
+}
+
+// The length of a literal, from its open quote to its closed one.
+fn text_length(bytes: &[u8]) -> Option<usize>
+    ensures { result ≡ text_length bytes.now }
+{
+    let quote = *bytes.first()?;
+    let mut escaped = false;
+    let mut i = 1;
+    while i < bytes.len() {
+        let b = bytes[i];
+        i += 1;
+        if escaped {
+            if !is_escape(b) {
+                return None;
+            }
+            escaped = false;
+        } else if b == quote {
+            return Some(i);
+        } else if b == b'\\' {
+            escaped = true;
+        } else if !in_comment(b) {
+            return None;
+        }
+    }
+    None
+}
+
+fn line_end_length(bytes: &[u8]) -> usize
+    ensures { result ≡ line_end_length bytes.now }
+{
+    match bytes {
+        [b'\r', b'\n', ..] => 2,
+        _ => 1,
+    }
+}
+
+// The length of the longest word of this sort, where a byte of the sort stands at the front.
+fn length_of(sort: Sort, bytes: &[u8]) -> Option<usize>
+    ensures { result ≡ length_of (sort_of sort) bytes.now }
+{
+    match sort {
+        Sort::Name => Some(name_length(bytes)),
+        Sort::Int => Some(digits_length(bytes)),
+        Sort::Text => text_length(bytes),
+        Sort::Operator => symbol_length(bytes),
+        Sort::Spaces => Some(repeated_length(bytes, b' ')),
+        Sort::Tabs => Some(repeated_length(bytes, b'\t')),
+        Sort::Comment => Some(comment_length(bytes)),
+        Sort::LineEnd => Some(line_end_length(bytes)),
+    }
+}
+
+// Whether the value of these decimal digits is at most 9223372036854775807.
+fn fits(digits: &[u8]) -> bool
+    ensures { result ≡ nat_le (decimal_from 0 digits.now) MAX_INT }
+{
+    let mut value = 0u64;
+    for d in digits {
+        let digit = d.saturating_sub(b'0') as u64;
+        if value > (MAX_INT - digit) / 10 {
+            return false;
+        }
+        value = value * 10 + digit;
+    }
+    true
+}
+
+fn are_zeros(digits: &[u8]) -> bool
+    ensures { result ≡ list_all (λ b. b == 48) digits.now }
+{
+    digits.iter().all(|d| *d == b'0')
+}
+
+// A number has no zero before other digits.
+fn is_number(digits: &[u8]) -> bool
+    ensures { result ≡ is_number digits.now }
+{
+    match digits {
+        [] => false,
+        [b'0', rest @ ..] => are_zeros(rest),
+        _ => fits(digits),
+    }
+}
+
+// No letter, digit, `_` or point follows.
+fn is_apart(rest: &[u8]) -> bool
+    ensures { result ≡ is_apart rest.now }
+{
+    match rest {
+        [next, ..] => !(continues_name(*next) || *next == b'.'),
+        [] => true,
+    }
+}
+
+// Behind an empty literal no third quote stands.
+fn is_closed(word: &[u8], rest: &[u8]) -> bool
+    ensures { result ≡ is_closed word.now rest.now }
+{
+    match (word, rest) {
+        ([_, quote], [next, ..]) => *next != *quote,
+        _ => true,
+    }
+}
+
+// Whether a word may stand before the rest.
+fn is_allowed(sort: Sort, word: &[u8], rest: &[u8]) -> bool
+    ensures { result ≡ is_allowed (sort_of sort) word.now rest.now }
+{
+    match sort {
+        Sort::Int => is_number(word) && is_apart(rest),
+        Sort::Text => is_closed(word, rest),
+        _ => true,
+    }
+}
+
+/// The word at the front: its sort and its length. It is the longest that begins there.
+pub fn word(bytes: &[u8]) -> Option<(Sort, usize)>
+    ensures { option_map word_of result ≡ word_at bytes.now }
+{
+    let [first, ..] = bytes else {
+        return None;
+    };
+    let sort = sort_at(*first);
+    let length = length_of(sort, bytes)?;
+    let (text, rest) = bytes.split_at(length);
+    if is_allowed(sort, text, rest) {
+        Some((sort, length))
+    } else {
+        None
+    }
+}
