@@ -1,0 +1,11 @@
+pub mod Places
+pub mod Steps
+pub mod Turns
+pub mod Literals
+pub mod Strings
+pub mod Laws
+pub mod Lists
+pub mod Sound
+pub mod Complete
+pub mod Modules
+pub mod Refusals

@@ -1,0 +1,89 @@
+-- What one turn of a loop does.
+use Rattle.std.proofs.Common.{◌≡◌, ℕ, ◌+◌, ◌-◌, ◌<◌, ◌≤◌, List, Option, Some, None, sym, ap, ◌∙◌, subst, arith}
+use Rattle.std.specs.Prelude.{nat_lt, Bool, true, false, if◌then◌else◌}
+use Rattle.std.proofs.lemmas.Bool.Decides.{nat_tests}
+use Rattle.si_semantics.specs.Tree.{Expr}
+use Rattle.si_semantics.specs.Grammar.{Terminal}
+use Rattle.si_parse.specs.declared.fault.ParseFault.{ParseFault}
+use Rattle.si_parse.specs.declared.fault.ParseFault.TheVariants.{Syntax, NoMemory}
+use Rattle.si_parse.specs.Reading.{Parser, Step, Continuation, strength_of, then_read, strength_at, rest_of, continuation_at, closing, behind_item, separated_by, many_by, extended_by, continued_by}
+use Rattle.si_parse.specs.Gives.{Fails}
+use Rattle.si_parse.proofs.Steps.{continued_by_step, separated_by_step, many_by_step}
+
+pub not_less : (a b : ℕ) → b ≤ a → nat_lt a b ≡ false
+not_less a b h = grind (arith, nat_tests)
+
+pub less : (a b : ℕ) → a < b → nat_lt a b ≡ true
+less a b h = grind (arith, nat_tests)
+
+module _ (sub : Parser) (n l k : ℕ) (e : Expr) (d : ℕ) (ts : List Terminal) (next : Continuation) (role : next ≡ continuation_at ts) where
+  pub continued_stops : 0 < k → strength_of next < l → continued_by sub n l k e d ts ≡ Some (e, d, ts)
+  continued_stops positive weak =
+      let weaker : strength_at ts < l = subst (λ c. strength_of c < l) role weak in
+      continued_by_step sub n l k e d ts positive
+      ∙ ap (λ b. if b then Some (e, d, ts) else then_read (extended_by sub n e d (rest_of ts) (continuation_at ts)) (λ r. continued_by sub n l (k - 1) r.0 r.1 r.2)) (less (strength_at ts) l weaker)
+
+  module _ (j : ℕ) (after : List Terminal) (behind : after ≡ rest_of ts) (one : k ≡ j + 1) (strong : l ≤ strength_of next) where
+    continued_turn : continued_by sub n l k e d ts ≡ then_read (extended_by sub n e d after next) (λ r. continued_by sub n l j r.0 r.1 r.2)
+    continued_turn =
+        let same : k - 1 ≡ j = omega arith in
+        let stronger : l ≤ strength_at ts = subst (λ c. l ≤ strength_of c) role strong in
+        continued_by_step sub n l k e d ts (omega arith)
+        ∙ ap (λ b. if b then Some (e, d, ts) else then_read (extended_by sub n e d (rest_of ts) (continuation_at ts)) (λ r. continued_by sub n l (k - 1) r.0 r.1 r.2)) (not_less (strength_at ts) l stronger)
+        ∙ ap (λ i. then_read (extended_by sub n e d (rest_of ts) (continuation_at ts)) (λ r. continued_by sub n l i r.0 r.1 r.2)) same
+        ∙ ap (λ c. then_read (extended_by sub n e d (rest_of ts) c) (λ r. continued_by sub n l j r.0 r.1 r.2)) (sym role)
+        ∙ ap (λ t. then_read (extended_by sub n e d t next) (λ r. continued_by sub n l j r.0 r.1 r.2)) (sym behind)
+
+    pub continued_on : (e' : Expr) (d' : ℕ) (ts' : List Terminal) → extended_by sub n e d after next ≡ Some (e', d', ts') → continued_by sub n l k e d ts ≡ continued_by sub n l j e' d' ts'
+    continued_on e' d' ts' h = continued_turn ∙ ap (λ r. then_read r (λ r. continued_by sub n l j r.0 r.1 r.2)) h
+
+    pub continued_fails : (f : ParseFault) → Fails f (extended_by sub n e d after next) → Fails f (continued_by sub n l k e d ts)
+    continued_fails NoMemory h = tt
+    continued_fails (Syntax line) h = continued_turn ∙ ap (λ r. then_read r (λ r. continued_by sub n l j r.0 r.1 r.2)) h
+
+module _ {R B : Type 0} (add : B → R → B) (rest : R → List Terminal) (item : List Terminal → Option R) (separator close : Step) (k j : ℕ) (b : B) (ts : List Terminal) (one : k ≡ j + 1) where
+  pub separated_turn : separated_by add rest item separator close k b ts
+      ≡ then_read (item ts) (λ r. behind_item (separated_by add rest item separator close j) (add b r) (closing separator close (rest r)) (separator (rest r)))
+  separated_turn =
+      let same : k - 1 ≡ j = omega arith in
+      separated_by_step add rest item separator close k b ts (omega arith)
+      ∙ ap (λ i. then_read (item ts) (λ r. behind_item (separated_by add rest item separator close i) (add b r) (closing separator close (rest r)) (separator (rest r)))) same
+
+  pub separated_fails : (f : ParseFault) → Fails f (item ts) → Fails f (separated_by add rest item separator close k b ts)
+  separated_fails NoMemory h = tt
+  separated_fails (Syntax line) h =
+      separated_turn ∙ ap (λ o. then_read o (λ r. behind_item (separated_by add rest item separator close j) (add b r) (closing separator close (rest r)) (separator (rest r)))) h
+
+  module _ (r : R) (read : item ts ≡ Some r) where
+    pub separated_read : separated_by add rest item separator close k b ts ≡ behind_item (separated_by add rest item separator close j) (add b r) (closing separator close (rest r)) (separator (rest r))
+    separated_read = separated_turn ∙ ap (λ o. then_read o (λ r. behind_item (separated_by add rest item separator close j) (add b r) (closing separator close (rest r)) (separator (rest r)))) read
+
+    pub separated_last : (after : List Terminal) → closing separator close (rest r) ≡ Some after → separated_by add rest item separator close k b ts ≡ Some (add b r, after)
+    separated_last after h = separated_read ∙ ap (λ o. behind_item (separated_by add rest item separator close j) (add b r) o (separator (rest r))) h
+
+    pub separated_on : (more : List Terminal) → closing separator close (rest r) ≡ None → separator (rest r) ≡ Some more → separated_by add rest item separator close k b ts ≡ separated_by add rest item separator close j (add b r) more
+    separated_on more h i =
+        separated_read
+        ∙ ap (λ o. behind_item (separated_by add rest item separator close j) (add b r) o (separator (rest r))) h
+        ∙ ap (λ o. behind_item (separated_by add rest item separator close j) (add b r) None o) i
+
+    pub separated_stuck : closing separator close (rest r) ≡ None → separator (rest r) ≡ None → separated_by add rest item separator close k b ts ≡ None
+    separated_stuck h i =
+        separated_read
+        ∙ ap (λ o. behind_item (separated_by add rest item separator close j) (add b r) o (separator (rest r))) h
+        ∙ ap (λ o. behind_item (separated_by add rest item separator close j) (add b r) None o) i
+
+module _ {B : Type 0} (item : B → List Terminal → Option (B × List Terminal)) (ends : List Terminal → Bool) (k j : ℕ) (b : B) (ts : List Terminal) (one : k ≡ j + 1) (more : ends ts ≡ false) where
+  many_turn : many_by item ends k b ts ≡ then_read (item b ts) (λ r. many_by item ends j r.0 r.1)
+  many_turn =
+      let same : k - 1 ≡ j = omega arith in
+      many_by_step item ends k b ts (omega arith)
+      ∙ ap (λ t. if t then Some (b, ts) else then_read (item b ts) (λ r. many_by item ends (k - 1) r.0 r.1)) more
+      ∙ ap (λ i. then_read (item b ts) (λ r. many_by item ends i r.0 r.1)) same
+
+  pub many_on : (c : B) (rest : List Terminal) → item b ts ≡ Some (c, rest) → many_by item ends k b ts ≡ many_by item ends j c rest
+  many_on c rest h = many_turn ∙ ap (λ r. then_read r (λ r. many_by item ends j r.0 r.1)) h
+
+  pub many_fails : (f : ParseFault) → Fails f (item b ts) → Fails f (many_by item ends k b ts)
+  many_fails NoMemory h = tt
+  many_fails (Syntax line) h = many_turn ∙ ap (λ r. then_read r (λ r. many_by item ends j r.0 r.1)) h

@@ -1,0 +1,19 @@
+use Rattle.std.proofs.lemmas.Result.{err_from_is_err_and}
+use Rattle.si_parse.specs.Gives.{from}
+use Rattle.si_parse.proofs.Modules.{found, shallow, one_module}
+use Rattle.si_parse.proofs.Refusals.{refused}
+use Rattle.si_parse.proofs.parser.module_of.Goals as goal
+
+pub returns-in_err-body-clause-refused : goal.returns-in_err-body-clause-refused
+returns-in_err-body-clause-refused c =
+    let p = err_from_is_err_and c.from_residual.result c.from_residual.ensures.1 in
+    rw (p.1, p.2) (refused (from c.args.tokens.now 0) c.in_err-body.field-0.0 c.in_err-body.ensures)
+
+pub invariant_of-result : goal.invariant_of-result
+invariant_of-result c = record { shallow = ∣ shallow (from c.args.tokens.now 0) _ c.in_ok-body.ensures ∣₁ }
+
+pub returns-clause-found : goal.returns-clause-found
+returns-clause-found c = found (from c.args.tokens.now 0) _ c.in_ok-body.ensures
+
+pub returns-clause-only : goal.returns-clause-only
+returns-clause-only c = λ body d. one_module _ body (from c.args.tokens.now 0) (found (from c.args.tokens.now 0) _ c.in_ok-body.ensures) d

@@ -1,0 +1,42 @@
+-- What a function returned against what reading gives.
+use Rattle.std.specs.Prelude.{◌≡◌, ℕ, List, Option, Some, None, Result, Ok, Err, map, drop}
+use Rattle.si_semantics.specs.Grammar.{Terminal, terminal_of}
+use Rattle.si_token.specs.declared.token.Token.{Token}
+use Rattle.si_token.specs.declared.scan.TokenFault.{TokenFault}
+use Rattle.si_token.specs.declared.scan.TokenFault.TheVariants as tokens
+use Rattle.si_parse.specs.declared.fault.ParseFault.{ParseFault}
+use Rattle.si_parse.specs.declared.fault.ParseFault.TheVariants.{Syntax, NoMemory}
+use Rattle.si_parse.specs.declared.expression.Continuation.{Continuation as Rust}
+use Rattle.si_parse.specs.declared.expression.Continuation.TheVariants as variant
+use Rattle.si_token.specs.Views.{token_of}
+use Rattle.si_parse.specs.Trees.{binary_of}
+use Rattle.si_parse.specs.Reading.{Continuation, operator, arguments, nothing}
+
+-- the terminals of tokens, from a place on
+abbrev pub from : List Token → ℕ → List Terminal
+from tokens at = drop at (map (λ t. terminal_of (token_of t)) tokens)
+
+-- a syntax fault only where reading gives nothing
+abbrev pub Fails : {Y : Type 0} → ParseFault → Option Y → Type 0
+Fails NoMemory read = Unit {0}
+Fails (Syntax line) read = read ≡ None
+
+-- What was returned, seen by view, is what reading gives, unless memory ran out.
+abbrev pub Gives : {X Y : Type 0} → (X → Y) → Result X ParseFault → Option Y → Type 0
+Gives view (Ok x) read = read ≡ Some (view x)
+Gives view (Err e) read = Fails e read
+
+abbrev pub continuation_view : Rust → Continuation
+continuation_view (variant.Operator op) = operator (binary_of op)
+continuation_view variant.Arguments = arguments
+continuation_view variant.Nothing = nothing
+
+-- the fault of a text that the grammar has no tree for
+abbrev pub IsSyntax : ParseFault → Type 0
+IsSyntax NoMemory = ⊥
+IsSyntax (Syntax line) = Unit {0}
+
+-- the fault of a text, by that of its tokens
+abbrev pub fault_of : TokenFault → ParseFault
+fault_of (tokens.BadText line) = Syntax line
+fault_of tokens.NoMemory = NoMemory

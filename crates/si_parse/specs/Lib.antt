@@ -1,0 +1,4 @@
+pub mod Trees
+pub mod Modules
+pub mod Reading
+pub mod Gives

@@ -1,0 +1,104 @@
+// One token of look-ahead: the token at a place, and the place behind it.
+
+ghost use Rattle.std.specs.Prelude.{◌≡◌, ℕ, ◌+◌, ◌<◌, ◌≤◌, length, [], ◌∷◌, option_map, MatchOption, OnSome};
+ghost use Rattle.si_semantics.specs.Grammar.{terminal_of};
+ghost use Rattle.si_token.specs.Views.{token_of};
+ghost use Rattle.si_parse.specs.Reading.{after_close, after_comma, after_equal, after_newline, after_semicolon, closing, is_end};
+ghost use Rattle.si_parse.specs.Gives.{from};
+
+use si_token::{Symbol, Token, TokenKind};
+
+// The token at the place.
+pub(crate) fn token_at<'a>(tokens: &[Token<'a>], at: usize) -> Option<Token<'a>>
+    ensures split { MatchOption result (from tokens.now at ≡ []) (λ t. from tokens.now at ≡ terminal_of (token_of t) ∷ from tokens.now (at + 1)) }
+    ensures inside { OnSome result (at < length tokens.now) }
+{
+    if at < tokens.len() {
+        Some(tokens[at])
+    } else {
+        None
+    }
+}
+
+// The line of the token at the place, and 1 where there is none.
+pub(crate) fn line_at(tokens: &[Token], at: usize) -> usize {
+    match token_at(tokens, at) {
+        Some(token) => token.span.line,
+        None => 1,
+    }
+}
+
+// The place behind a closed bracket, where one stands at the place.
+pub(crate) fn after_close(tokens: &[Token], at: usize) -> Option<usize>
+    ensures { option_map (from tokens.now) result ≡ after_close (from tokens.now at) }
+{
+    let token = token_at(tokens, at)?;
+    match token.kind {
+        TokenKind::Symbol(Symbol::RightParenthesis) => Some(at + 1),
+        _ => None,
+    }
+}
+
+// The place behind a comma, where one stands at the place.
+pub(crate) fn after_comma(tokens: &[Token], at: usize) -> Option<usize>
+    ensures { option_map (from tokens.now) result ≡ after_comma (from tokens.now at) }
+{
+    let token = token_at(tokens, at)?;
+    match token.kind {
+        TokenKind::Symbol(Symbol::Comma) => Some(at + 1),
+        _ => None,
+    }
+}
+
+// The place behind a semicolon, where one stands at the place.
+pub(crate) fn after_semicolon(tokens: &[Token], at: usize) -> Option<usize>
+    ensures { option_map (from tokens.now) result ≡ after_semicolon (from tokens.now at) }
+{
+    let token = token_at(tokens, at)?;
+    match token.kind {
+        TokenKind::Symbol(Symbol::Semicolon) => Some(at + 1),
+        _ => None,
+    }
+}
+
+// The place behind a `=`, where one stands at the place.
+pub(crate) fn after_equal(tokens: &[Token], at: usize) -> Option<usize>
+    ensures { option_map (from tokens.now) result ≡ after_equal (from tokens.now at) }
+{
+    let token = token_at(tokens, at)?;
+    match token.kind {
+        TokenKind::Symbol(Symbol::Equal) => Some(at + 1),
+        _ => None,
+    }
+}
+
+// The place behind the end of a line, where it stands at the place.
+pub(crate) fn after_newline(tokens: &[Token], at: usize) -> Option<usize>
+    ensures { option_map (from tokens.now) result ≡ after_newline (from tokens.now at) }
+{
+    let token = token_at(tokens, at)?;
+    match token.kind {
+        TokenKind::Newline => Some(at + 1),
+        _ => None,
+    }
+}
+
+// The place behind a closed bracket, before which a comma may stand.
+pub(crate) fn after_arguments(tokens: &[Token], at: usize) -> Option<usize>
+    ensures { option_map (from tokens.now) result ≡ closing after_comma after_close (from tokens.now at) }
+{
+    match after_comma(tokens, at) {
+        Some(behind) => after_close(tokens, behind),
+        None => after_close(tokens, at),
+    }
+}
+
+// The place behind the end of a line, before which a semicolon may stand.
+pub(crate) fn after_line(tokens: &[Token], at: usize) -> Option<usize>
+    ensures { option_map (from tokens.now) result ≡ closing after_semicolon after_newline (from tokens.now at) }
+{
+    match after_semicolon(tokens, at) {
+        Some(behind) => after_newline(tokens, behind),
+        None => after_newline(tokens, at),
+    }
+}

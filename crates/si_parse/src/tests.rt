@@ -1,0 +1,131 @@
+// Worked cases: trees as Python's own `ast` shows them, and texts that the grammar refuses.
+
+use crate::{Expr, ParseFault, Stmt, parse};
+use std::alloc::{AllocError, Global};
+use std::test::Fail;
+
+// The statements of a text, printed.
+fn shown(alloc: Global, text: &str) -> Result<String, Fail> {
+    let module = parse(alloc, text)?;
+    let body = module.body();
+    Ok(format!(in alloc; "{body:?}")?)
+}
+
+fn is_refused(alloc: Global, text: &str) -> bool {
+    match parse(alloc, text) {
+        Err(ParseFault::Syntax(_)) => true,
+        _ => false,
+    }
+}
+
+fn push_often(text: &mut String, part: &str, count: usize) -> Result<(), AllocError> {
+    for _turn in 0..count {
+        text.push_str(part)?;
+    }
+    Ok(())
+}
+
+// `x + x + ..` with so many operators.
+fn sum_of(alloc: Global, operators: usize) -> Result<String, AllocError> {
+    let mut text = String::from_str(alloc, "x")?;
+    push_often(&mut text, " + x", operators)?;
+    Ok(text)
+}
+
+// A name in so many brackets.
+fn bracketed(alloc: Global, brackets: usize) -> Result<String, AllocError> {
+    let mut text = String::new(alloc);
+    push_often(&mut text, "(", brackets)?;
+    text.push_str("x")?;
+    push_often(&mut text, ")", brackets)?;
+    Ok(text)
+}
+
+#[test]
+fn powers_bind_tighter_than_signs(rt: HostRuntime) -> Result<(), Fail> {
+    let alloc = rt.alloc();
+    assert_eq!(rt;
+        shown(alloc, "-2 ** 2")?.as_str(),
+        "[Evaluate(Unary(Minus, Binary(Power, Int(2), Int(2))))]"
+    );
+    assert_eq!(rt;
+        shown(alloc, "2 ** -1")?.as_str(),
+        "[Evaluate(Binary(Power, Int(2), Unary(Minus, Int(1))))]"
+    );
+    assert_eq!(rt;
+        shown(alloc, "2 ** 3 ** 2")?.as_str(),
+        "[Evaluate(Binary(Power, Int(2), Binary(Power, Int(3), Int(2))))]"
+    );
+    Ok(())
+}
+
+#[test]
+fn sums_and_products_go_to_the_left(rt: HostRuntime) -> Result<(), Fail> {
+    let alloc = rt.alloc();
+    assert_eq!(rt;
+        shown(alloc, "1 - 2 + 3")?.as_str(),
+        "[Evaluate(Binary(Add, Binary(Subtract, Int(1), Int(2)), Int(3)))]"
+    );
+    assert_eq!(rt;
+        shown(alloc, "1 + 7 // 2 % 3")?.as_str(),
+        "[Evaluate(Binary(Add, Int(1), Binary(Modulo, Binary(FloorDivide, Int(7), Int(2)), Int(3))))]"
+    );
+    Ok(())
+}
+
+#[test]
+fn calls_take_a_trailing_comma(rt: HostRuntime) -> Result<(), Fail> {
+    let alloc = rt.alloc();
+    assert_eq!(rt;
+        shown(alloc, "f(1,)")?.as_str(),
+        "[Evaluate(Call(Name(\"f\"), [Int(1)]))]"
+    );
+    assert_eq!(rt;
+        shown(alloc, "f()(1, 2); x = 3;\n")?.as_str(),
+        "[Evaluate(Call(Call(Name(\"f\"), []), [Int(1), Int(2)])), Assign(\"x\", Int(3))]"
+    );
+    assert_eq!(rt;
+        shown(alloc, "(x) = 1")?.as_str(),
+        "[Assign(\"x\", Int(1))]"
+    );
+    assert_eq!(rt; shown(alloc, "")?.as_str(), "[]");
+    Ok(())
+}
+
+#[test]
+fn literals_beside_each_other_are_joined(rt: HostRuntime) -> Result<(), Fail> {
+    let module = parse(rt.alloc(), "'a\\\\\\'' \"\\\"\\nb\"")?;
+    match module.body() {
+        [Stmt::Evaluate(Expr::Str(text))] => assert_eq!(rt; text.as_str(), "a\\'\"\nb"),
+        _ => panic!(rt; "one literal"),
+    }
+    Ok(())
+}
+
+#[test]
+fn texts_outside_the_grammar_are_refused(rt: HostRuntime) -> Result<(), Fail> {
+    let alloc = rt.alloc();
+    assert!(rt; is_refused(alloc, "a = b = 1"));
+    assert!(rt; is_refused(alloc, "x + 1 = 2"));
+    assert!(rt; is_refused(alloc, "if"));
+    assert!(rt; is_refused(alloc, ";"));
+    assert!(rt; is_refused(alloc, "x;;"));
+    assert!(rt; is_refused(alloc, "()"));
+    assert!(rt; is_refused(alloc, "f(,)"));
+    assert!(rt; is_refused(alloc, "f(1 2)"));
+    assert!(rt; is_refused(alloc, "a, b"));
+    assert!(rt; is_refused(alloc, "x.y"));
+    assert!(rt; is_refused(alloc, "(x"));
+    assert!(rt; is_refused(alloc, "x 'a'"));
+    Ok(())
+}
+
+#[test]
+fn a_hundred_deep_is_read_and_no_deeper(rt: HostRuntime) -> Result<(), Fail> {
+    let alloc = rt.alloc();
+    assert!(rt; parse(alloc, sum_of(alloc, 99)?.as_str()).is_ok());
+    assert!(rt; is_refused(alloc, sum_of(alloc, 100)?.as_str()));
+    assert!(rt; parse(alloc, bracketed(alloc, 99)?.as_str()).is_ok());
+    assert!(rt; is_refused(alloc, bracketed(alloc, 100)?.as_str()));
+    Ok(())
+}
