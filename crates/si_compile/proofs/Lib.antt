@@ -1,0 +1,12 @@
+pub mod Slots
+pub mod Growth
+pub mod Steps
+pub mod Exprs
+pub mod Stmts
+pub mod Tables
+pub mod Life
+pub mod Due
+pub mod Shown
+pub mod Interpreter
+pub mod Codes
+pub mod Emitted

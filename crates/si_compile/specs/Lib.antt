@@ -1,0 +1,6 @@
+pub mod Contents
+pub mod Names
+pub mod Views
+pub mod Code
+pub mod Correct
+pub mod Interpreter

@@ -1,0 +1,189 @@
+// From a module to its code.
+ghost use Rattle.std.specs.Prelude.{◌≡◌, map, IfOk, OnOk, OnErr};
+ghost use Rattle.si_semantics.specs.Grammar.{exprs_of};
+ghost use Rattle.si_parse.specs.Trees.{body_of, expr_of, stmt_of};
+ghost use Rattle.si_parse.specs.Modules.{tree_of};
+ghost use Rattle.si_compile.specs.Code.{compiled, expr_code, exprs_code, module_code, stmt_code};
+ghost use Rattle.si_compile.specs.Contents.{Extends};
+ghost use Rattle.si_compile.specs.Views.{Gains, table_of};
+
+use crate::instr::Instr;
+use crate::table::{CodeTable, Entry};
+use si_parse::{Expr, Module, Stmt};
+use si_plain::NoMemory;
+use std::alloc::AllocError;
+
+/// Adds the code of a module to a table, and says where it begins. It ends in `Instr::Finish`.
+///
+/// `NoMemory`: memory was refused, or the table would have more than 2^32 slots or literals; the table is as it was.
+pub fn compile(tree: &Module, table: &mut CodeTable) -> Result<Entry, NoMemory>
+    ensures ok { IfOk result (λ entry. (table_of table.new, entry.at) ≡ compiled (table_of table.old) (record { body = tree_of tree.now })) }
+    ensures gains { OnOk result (Gains table.old table.new (module_code (tree_of tree.now))) }
+    ensures extends { OnOk result (Extends table.old table.new) }
+    ensures err { OnErr result (table.new ≡ table.old) }
+{
+    compile_body(tree.body(), table)
+}
+
+fn compile_body(body: &[Stmt], table: &mut CodeTable) -> Result<Entry, NoMemory>
+    ensures ok { IfOk result (λ entry. (table_of table.new, entry.at) ≡ compiled (table_of table.old) (record { body = body_of body.now })) }
+    ensures gains { OnOk result (Gains table.old table.new (module_code (body_of body.now))) }
+    ensures extends { OnOk result (Extends table.old table.new) }
+    ensures err { OnErr result (table.new ≡ table.old) }
+{
+    table.facts();
+    let mark = table.mark();
+    let at = table.len();
+    match emit_body(table, body) {
+        Ok(()) => Ok(Entry { at }),
+        Err(refusal) => {
+            table.return_to(mark);
+            Err(refusal)
+        }
+    }
+}
+
+// Statements one after another, and the end of the run.
+fn emit_body(table: &mut CodeTable, body: &[Stmt]) -> Result<(), NoMemory>
+    ensures ok { OnOk result (Gains table.old table.new (module_code (body_of body.now))) }
+    ensures extends { Extends table.old table.new }
+{
+    for stmt in body {
+        emit_stmt(table, stmt)?;
+    }
+    table.put(Instr::Finish)
+}
+
+fn emit_stmt(table: &mut CodeTable, stmt: &Stmt) -> Result<(), NoMemory>
+    ensures ok { OnOk result (Gains table.old table.new (stmt_code (stmt_of stmt.now))) }
+    ensures extends { Extends table.old table.new }
+{
+    match stmt {
+        Stmt::Evaluate(expr) => {
+            emit_expr(table, expr)?;
+            table.put(Instr::Discard)
+        }
+        Stmt::Assign(name, expr) => {
+            emit_expr(table, expr)?;
+            table.put_store(name.as_str())
+        }
+    }
+}
+
+#[cycle(exprs)]
+fn emit_expr(table: &mut CodeTable, expr: &Expr) -> Result<(), NoMemory>
+    ensures ok { OnOk result (Gains table.old table.new (expr_code (expr_of expr.now))) }
+    ensures extends { Extends table.old table.new }
+{
+    match expr {
+        Expr::Name(name) => table.put_load(name.as_str()),
+        Expr::Int(value) => table.put(Instr::PushInt(*value)),
+        Expr::Str(literal) => table.put_literal(literal),
+        Expr::Unary(operator, operand) => {
+            emit_expr(table, operand)?;
+            table.put(Instr::Unary(*operator))
+        }
+        Expr::Binary(operator, left, right) => {
+            emit_expr(table, left)?;
+            emit_expr(table, right)?;
+            table.put(Instr::Binary(*operator))
+        }
+        Expr::Call(callee, arguments) => {
+            let count = u32::try_from(arguments.len()).map_err(|_| AllocError)?;
+            emit_expr(table, callee)?;
+            emit_exprs(table, arguments)?;
+            table.put(Instr::Call(count))
+        }
+    }
+}
+
+// Expressions one after another, as a call's arguments.
+#[cycle(exprs)]
+fn emit_exprs(table: &mut CodeTable, exprs: &[Expr]) -> Result<(), NoMemory>
+    ensures ok { OnOk result (Gains table.old table.new (exprs_code (exprs_of (map expr_of exprs.now)))) }
+    ensures extends { Extends table.old table.new }
+{
+    for expr in exprs {
+        emit_expr(table, expr)?;
+    }
+    Ok(())
+}
+
+#[cfg(test)]
+mod tests {
+    use super::*;
+    use si_parse::{BinaryOperator, UnaryOperator, parse};
+    use std::test::Fail;
+
+    #[test]
+    fn instruction_by_instruction(rt: HostRuntime) -> Result<(), Fail> {
+        let tree = parse(rt.alloc(), "x = -1 + 2\nprint(x, 'a' 'b')\n")?;
+        let mut table = CodeTable::new(rt.alloc());
+        assert!(rt; table.is_empty());
+        assert_eq!(rt; compile(&tree, &mut table)?, Entry { at: 0 });
+        let code = [
+            Instr::PushInt(1),
+            Instr::Unary(UnaryOperator::Minus),
+            Instr::PushInt(2),
+            Instr::Binary(BinaryOperator::Add),
+            Instr::StoreGlobal(0),
+            Instr::LoadGlobal(1),
+            Instr::LoadGlobal(0),
+            Instr::PushLiteral(0),
+            Instr::Call(2),
+            Instr::Discard,
+            Instr::Finish,
+        ];
+        assert_eq!(rt; table.len(), code.len());
+        for (at, instr) in code.iter().enumerate() {
+            assert_eq!(rt; table.line(at), Some(*instr), "at {at}");
+        }
+        assert_eq!(rt; table.line(code.len()), None);
+        assert_eq!(rt; table.slots(), 2);
+        assert_eq!(rt; table.name(0), Some("x"));
+        assert_eq!(rt; table.name(1), Some("print"));
+        assert_eq!(rt; table.name(2), None);
+        assert_eq!(rt; table.literals().len(), 1);
+        assert_eq!(rt; table.literals()[0].as_str(), "ab");
+        table.facts();
+        Ok(())
+    }
+
+    #[test]
+    fn texts_share_slots(rt: HostRuntime) -> Result<(), Fail> {
+        let first = parse(rt.alloc(), "a = b\n")?;
+        let second = parse(rt.alloc(), "b = a ** 'c'\n")?;
+        let mut table = CodeTable::new(rt.alloc());
+        compile(&first, &mut table)?;
+        assert_eq!(rt; compile(&second, &mut table)?, Entry { at: 3 });
+        assert_eq!(rt; table.line(0), Some(Instr::LoadGlobal(0)));
+        assert_eq!(rt; table.line(3), Some(Instr::LoadGlobal(1)));
+        assert_eq!(rt; table.line(5), Some(Instr::Binary(BinaryOperator::Power)));
+        assert_eq!(rt; table.line(6), Some(Instr::StoreGlobal(0)));
+        assert_eq!(rt; table.slots(), 2);
+        Ok(())
+    }
+
+    // For runs in which an allocation is refused: a table then is as it was, and serves again.
+    #[test]
+    fn refused_memory_changes_nothing(rt: HostRuntime) -> Result<(), Fail> {
+        let first = parse(rt.alloc(), "a = 'x'\n")?;
+        let second = parse(rt.alloc(), "print(b, 'y', 'z', c(a))\n")?;
+        let mut table = CodeTable::new(rt.alloc());
+        compile(&first, &mut table)?;
+        let entry = match compile(&second, &mut table) {
+            Ok(entry) => entry,
+            Err(_) => {
+                assert_eq!(rt; table.len(), 3);
+                assert_eq!(rt; table.slots(), 1);
+                assert_eq!(rt; table.literals().len(), 1);
+                compile(&second, &mut table)?
+            }
+        };
+        assert_eq!(rt; entry, Entry { at: 3 });
+        assert_eq!(rt; table.len(), 13);
+        assert_eq!(rt; table.slots(), 4);
+        assert_eq!(rt; table.literals().len(), 3);
+        Ok(())
+    }
+}

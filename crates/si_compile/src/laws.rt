@@ -1,0 +1,25 @@
+// What the compiled code does, for those who run it.
+
+ghost use Rattle.si_compile.specs.Correct.{Compiles, Lives};
+ghost use Rattle.si_compile.specs.Interpreter.{StaysAfter, AfterShows};
+
+/// The code of a text does what its body means, from every state and whatever came before, and takes at most sixteen
+/// lines for each statement, expression and target that the meaning visits.
+pub fn compiles()
+    ensures { Compiles }
+{}
+
+/// Under any answers a machine that runs compiled code comes to where the life of its meaning ends, within that count.
+pub fn lives()
+    ensures { Lives }
+{}
+
+/// An interpreter is at a moment of its course, from its start on, through each line and each answer.
+pub fn stays_after()
+    ensures { StaysAfter }
+{}
+
+/// At each such moment an interpreter shows its meaning.
+pub fn after_shows()
+    ensures { AfterShows }
+{}

@@ -1,0 +1,20 @@
+// From trees to instructions.
+//
+// A `CodeTable` has the code of the texts that one interpreter has read. `compile` adds the code of a module to it: the
+// table then stands for what it stood for, with the code that specs/Code.antt gives the tree behind it, or memory was
+// refused and the table is as it was. What such code does when a machine runs it, `laws` says: what the module means.
+//
+// In reading order: `instr`, the instructions, each with what it takes and leaves; `table`, their lines, literals and
+// slots; `names`, the slots; `emit`, the code of each form of tree; `laws`. specs/Contents.antt and specs/Views.antt say
+// what a table has and what it stands for.
+#![tactic(auto)]
+
+pub mod emit;
+pub mod instr;
+pub mod laws;
+mod names;
+pub mod table;
+
+pub use emit::compile;
+pub use instr::Instr;
+pub use table::{CodeTable, Entry};
