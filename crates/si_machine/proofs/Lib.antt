@@ -1,0 +1,3 @@
+pub mod Tops
+pub mod Strings
+pub mod Lines

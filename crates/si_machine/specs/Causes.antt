@@ -1,0 +1,70 @@
+-- What causes of exceptions stand for.
+use Rattle.std.specs.Prelude.{codes, ◌≡◌, ℕ, List, [], ◌∷◌, ◌++◌, Result, Ok, Err, true, false, nat_lt, nat_eq, length, ℤ, pos, negsuc, if◌then◌else◌}
+use Rattle.si_plain.specs.declared.kind.Kind.{Kind}
+use Rattle.si_plain.specs.declared.kind.Kind.TheVariants.{OverflowError, TypeError, NameError}
+use Rattle.si_semantics.specs.Value as pure
+use Rattle.si_semantics.specs.Text.{max_length}
+use Rattle.si_semantics.specs.World.{World, Ran}
+use Rattle.si_semantics.specs.Operations.{arithmetic_message, gave, refused, times}
+use Rattle.si_compile.specs.Views.{text_at}
+use Rattle.si_machine.specs.declared.cause.Cause.{Cause}
+use Rattle.si_machine.specs.declared.cause.Cause.TheVariants.{Arithmetic, TooLong, WrongType, NotCallable, NotDefined}
+use Rattle.si_machine.specs.declared.cause.Fault.{Fault}
+use Rattle.si_machine.specs.declared.cause.Fault.TheVariants as fault
+use Rattle.si_machine.specs.declared.value.Value.{Value}
+use Rattle.si_machine.specs.Values.{value_of, Fits}
+
+-- the kind of the exception
+abbrev pub kind_of : Cause → Kind
+kind_of (Arithmetic kind) = kind
+kind_of TooLong = OverflowError
+kind_of WrongType = TypeError
+kind_of NotCallable = TypeError
+kind_of (NotDefined slot) = NameError
+
+-- the message about a name that is not bound
+abbrev pub not_defined : pure.Text → pure.Text
+not_defined x = codes "name " ++ (x ++ codes " is not defined")
+
+-- the message of the exception, with the names of the slots
+abbrev pub message_in : List pure.Text → Cause → pure.Text
+message_in names (Arithmetic kind) = arithmetic_message kind
+message_in names TooLong = codes "too long"
+message_in names WrongType = codes "wrong type"
+message_in names NotCallable = codes "not callable"
+message_in names (NotDefined slot) = not_defined (text_at names slot)
+
+-- an operation that raises the exception
+abbrev pub threw : List pure.Text → Cause → World → Ran
+threw names cause w = refused (kind_of cause) (message_in names cause) w
+
+-- an operation that takes no memory
+abbrev pub ran : List pure.Text → List pure.Text → World → Result Value Cause → Ran
+ran names texts w (Ok v) = gave (value_of texts v) w
+ran names texts w (Err cause) = threw names cause w
+
+-- a text is added at the end of the texts, unless it is too long or memory is refused; then they are as they were
+abbrev pub Adds : pure.Text → List pure.Text → List pure.Text → Result ℕ Fault → Type 0
+Adds t old new (Ok place) = (nat_lt max_length (length t) ≡ false) × (place ≡ length old) × (new ≡ old ++ t ∷ [])
+Adds t old new (Err (fault.Raises cause)) = (nat_lt max_length (length t) ≡ true) × (cause ≡ TooLong) × (new ≡ old)
+Adds t old new (Err fault.NoMemory) = new ≡ old
+
+-- an operation that may add a text: its value, which fits the texts, or the exception, or memory is refused; else the texts are as they were
+abbrev pub Runs : (World → Ran) → List pure.Text → List pure.Text → Result Value Fault → Type 0
+Runs f old new (Ok v) = ((w : World) → f w ≡ gave (value_of new v) w) × Fits (length new) v × ((more : List pure.Text) × (new ≡ old ++ more))
+Runs f old new (Err (fault.Raises cause)) = ((names : List pure.Text) (w : World) → f w ≡ threw names cause w) × (new ≡ old)
+Runs f old new (Err fault.NoMemory) = new ≡ old
+
+-- a text repeated; a count below 0 is as good as 0
+abbrev pub repeated_text : pure.Text → ℤ → pure.Text
+repeated_text s (pos n) = times n s
+repeated_text s (negsuc n) = []
+
+-- how many copies of a text of a length count: none of an empty one
+abbrev pub copies_of : ℕ → ℤ → ℕ
+copies_of l (pos n) = if nat_eq l 0 then 0 else n
+copies_of l (negsuc n) = 0
+
+-- why a slot's name that is not bound raises: its message may be longer than a str may be
+abbrev pub not_defined_cause : List pure.Text → ℕ → Cause
+not_defined_cause names slot = if nat_lt max_length (length (not_defined (text_at names slot))) then TooLong else NotDefined slot

@@ -1,0 +1,116 @@
+-- What a machine's state stands for, and what an instruction makes of it.
+use Rattle.std.specs.Prelude.{◌≡◌, ◌⊎◌, ℕ, ◌+◌, List, [], ◌∷◌, ◌++◌, length, map, take, drop, Option, Some, None, All, slice_get, string_bytes, encode_utf8_all}
+use Rattle.si_semantics.specs.Value as pure
+use Rattle.si_semantics.specs.Text.{line_of as text_line}
+use Rattle.si_semantics.specs.World.{World}
+use Rattle.si_semantics.specs.Life as life
+use Rattle.si_semantics.specs.Machine.{Instr, Place, At, Ending, Closed, Line, act, fetched}
+use Rattle.si_compile.specs.Views.{code_of}
+use Rattle.si_machine.specs.declared.value.Value.{Value}
+use Rattle.si_machine.specs.declared.value.Value.TheVariants as value
+use Rattle.si_machine.specs.declared.cause.Cause.{Cause}
+use Rattle.si_machine.specs.declared.state.Standing.{Standing}
+use Rattle.si_machine.specs.declared.state.Standing.TheVariants as standing
+use Rattle.si_machine.specs.declared.state.State.{State}
+use Rattle.si_machine.specs.declared.step.Outcome.{Outcome}
+use Rattle.si_machine.specs.declared.step.Outcome.TheVariants.{Returned, Raised}
+use Rattle.si_machine.specs.declared.step.Step.{Step}
+use Rattle.si_machine.specs.declared.step.Step.TheVariants.{Local, Ended, Starved}
+use Rattle.si_machine.specs.Values.{value_of, cell_of, globals_of, Fits, FitsGlobal, AllSuit}
+use Rattle.si_machine.specs.Causes.{kind_of, message_in}
+
+-- how a run ended
+abbrev pub outcome_of : Outcome → life.Outcome
+outcome_of Returned = life.Returned
+outcome_of (Raised kind message) = life.Raised kind message
+
+-- the operands
+abbrev pub operands_of : State → List pure.Value
+operands_of s = map (value_of s.texts) s.operands
+
+-- the world: the values of the slots, each under its name
+abbrev pub world_of : State → World
+world_of s = record { globals = globals_of s.table.names (map (cell_of s.texts) s.globals.items); store = [] }
+
+-- where a machine stands
+abbrev pub place_in : Standing → ℕ → List pure.Value → Place
+place_in standing.Running pc ops = At pc ops [] []
+place_in standing.Idle pc ops = Closed
+place_in standing.Starved pc ops = Closed
+
+abbrev pub place_of : State → Place
+place_of s = place_in s.standing s.pc (operands_of s)
+
+-- a printed text in UTF-8, or none
+abbrev pub bytes_of : Option pure.Text → List ℕ
+bytes_of None = []
+bytes_of (Some t) = encode_utf8_all t
+
+-- the line that an instruction does
+abbrev pub line_of : Instr → State → Line
+line_of i s = act i (s.pc + 1) (operands_of s) [] [] (world_of s)
+
+-- the line at the place where the machine stands
+abbrev pub next_line : State → Line
+next_line s = fetched (slice_get (code_of s.table) s.pc) s.pc (operands_of s) [] [] (world_of s)
+
+-- each value's text is there, the literals come first among the texts, each slot's global suits its name, and no two slots have one name
+pub record IsSound (s : State) : Type 0 where
+  pub operands : All (Fits (length s.texts)) s.operands
+  pub globals : All (FitsGlobal (length s.texts)) s.globals.items
+  pub literals : take (length s.table.literals) s.texts ≡ s.table.literals
+  pub slots : AllSuit s.table.names s.globals.items
+
+-- a run is under way, and its state is sound
+pub record IsReady (s : State) : Type 0 where
+  pub running : s.standing ≡ standing.Running
+  pub sound : IsSound s
+
+-- a line was done, and leads to a place
+pub record Moves (l : Line) (p : Place) (old new : State) : Type 0 where
+  pub place : l.place ≡ p
+  pub world : l.world ≡ world_of new
+  pub printed : string_bytes new.printed ≡ string_bytes old.printed ++ bytes_of l.out
+  pub code : new.table ≡ old.table
+  pub sound : IsSound new
+
+-- what a step did: a line, and the run goes on; or a line, with which it ended; or memory was refused, and nothing that shows has changed
+abbrev pub Did : Line → State → State → Step → Type 0
+Did l old new Local = Moves l (place_of new) old new
+Did l old new (Ended o) = Moves l (Ending (outcome_of o)) old new × (new.standing ≡ standing.Idle)
+Did l old new Starved = (new ≡ record old { standing = standing.Starved; line = new.line; printed = new.printed }) × (string_bytes new.printed ≡ string_bytes old.printed)
+
+-- an exception leaves the run
+abbrev pub IsRaised : Cause → State → State → Step → Type 0
+IsRaised cause old new Local = ⊥
+IsRaised cause old new (Ended Returned) = ⊥
+IsRaised cause old new (Ended (Raised kind message)) = (kind ≡ kind_of cause) × (message ≡ message_in old.table.names cause) × (new ≡ record old { standing = standing.Idle })
+IsRaised cause old new Starved = new ≡ record old { standing = standing.Starved }
+
+-- a value is put on the operands
+abbrev pub IsPushed : Value → State → State → Step → Type 0
+IsPushed v old new Local = new ≡ record old { pc = old.pc + 1; operands = v ∷ old.operands }
+IsPushed v old new (Ended o) = ⊥
+IsPushed v old new Starved = new ≡ record old { standing = standing.Starved }
+
+-- the line is printed, which gives None in place of a call
+abbrev pub IsPrinted : ℕ → State → State → Step → Type 0
+IsPrinted count old new Local = (new ≡ record old { pc = old.pc + 1; operands = value.None ∷ drop (count + 1) old.operands; printed = new.printed }) × (string_bytes new.printed ≡ string_bytes old.printed ++ string_bytes old.line)
+IsPrinted count old new (Ended o) = ⊥
+IsPrinted count old new Starved = (new ≡ record old { standing = standing.Starved; printed = new.printed }) × (string_bytes new.printed ≡ string_bytes old.printed)
+
+-- what was printed stays as it is, and the run goes on, has ended, or stands still for good
+abbrev pub IsQuiet : State → State → Step → Type 0
+IsQuiet old new Local = string_bytes new.printed ≡ string_bytes old.printed
+IsQuiet old new (Ended o) = (string_bytes new.printed ≡ string_bytes old.printed) × (new.standing ≡ standing.Idle)
+IsQuiet old new Starved = (string_bytes new.printed ≡ string_bytes old.printed) × (new.standing ≡ standing.Starved)
+
+-- nothing is printed, or one line of some values
+abbrev pub PrintsOnce : List ℕ → List ℕ → Type 0
+PrintsOnce old new = (new ≡ old) ⊎ ((vs : List pure.Value) × (new ≡ old ++ encode_utf8_all (text_line vs)))
+
+-- a step prints at most once where the run goes on, and nothing where it ends or memory is refused
+abbrev pub Prints : State → State → Step → Type 0
+Prints old new Local = PrintsOnce (string_bytes old.printed) (string_bytes new.printed)
+Prints old new (Ended o) = (string_bytes new.printed ≡ string_bytes old.printed) × (new.standing ≡ standing.Idle)
+Prints old new Starved = (string_bytes new.printed ≡ string_bytes old.printed) × (new.standing ≡ standing.Starved)

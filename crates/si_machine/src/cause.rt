@@ -1,0 +1,106 @@
+// Why an exception was raised, and what it says.
+ghost use Rattle.std.specs.Prelude.{◌≡◌, ◌++◌, ◌∷◌, [], IfOk, OnOk, length, nat_lt, if◌then◌else◌};
+ghost use Rattle.si_semantics.specs.Text.{max_length};
+ghost use Rattle.si_machine.specs.Causes.{kind_of, message_in, not_defined};
+
+use si_compile::CodeTable;
+use si_plain::limits::MAX_STR_LENGTH;
+use si_plain::{Kind, NoMemory, Text};
+use std::alloc::Global;
+
+/// Why an exception was raised. Its kind and its message follow from it.
+#[derive(Clone, Copy, Debug, PartialEq, Eq)]
+pub enum Cause {
+    /// An operation on integers gives no integer: the kind says why.
+    Arithmetic(Kind),
+    TooLong,
+    WrongType,
+    NotCallable,
+    /// No value is bound to the global at this slot.
+    NotDefined(u32),
+}
+
+/// Why an operation gives no value.
+#[derive(Clone, Copy, Debug, PartialEq, Eq)]
+pub enum Fault {
+    Raises(Cause),
+    NoMemory,
+}
+
+impl From<NoMemory> for Fault {
+    ghost use Rattle.std.specs.Prelude.{◌≡◌};
+    ghost use Rattle.si_machine.specs.declared.cause.Fault.TheVariants.{NoMemory as Refused};
+
+    ghost from_gives = { λ _ e. e ≡ Refused };
+
+    fn from(_: NoMemory) -> Fault {
+        Fault::NoMemory
+    }
+}
+
+impl Cause {
+    /// The kind of the exception.
+    pub fn kind(self) -> Kind
+        ensures { result ≡ kind_of self }
+    {
+        match self {
+            Cause::Arithmetic(kind) => kind,
+            Cause::TooLong => Kind::OverflowError,
+            Cause::WrongType => Kind::TypeError,
+            Cause::NotCallable => Kind::TypeError,
+            Cause::NotDefined(_) => Kind::NameError,
+        }
+    }
+
+    /// The message of the exception, where the table has the names of the slots.
+    pub fn message(self, alloc: Global, table: &CodeTable) -> Result<Text, NoMemory>
+        ensures { IfOk result (λ t. t ≡ message_in table.now.names self) }
+    {
+        match self {
+            Cause::Arithmetic(Kind::ZeroDivisionError) => ascii(alloc, "division by zero"),
+            Cause::Arithmetic(Kind::OverflowError) => ascii(alloc, "integer out of range"),
+            Cause::Arithmetic(_) => ascii(alloc, "wrong type"),
+            Cause::TooLong => ascii(alloc, "too long"),
+            Cause::WrongType => ascii(alloc, "wrong type"),
+            Cause::NotCallable => ascii(alloc, "not callable"),
+            Cause::NotDefined(slot) => match table.name(slot) {
+                Some(name) => name_is_not_defined(alloc, name),
+                None => name_is_not_defined(alloc, ""),
+            },
+        }
+    }
+}
+
+fn name_is_not_defined(alloc: Global, name: &str) -> Result<Text, NoMemory>
+    ensures { IfOk result (λ t. t ≡ not_defined name.now) }
+{
+    let mut text = ascii(alloc, "name ")?;
+    push_ascii(&mut text, name)?;
+    push_ascii(&mut text, " is not defined")?;
+    Ok(text)
+}
+
+/// Whether the message about a name that is not bound is longer than a str may be.
+pub fn is_too_long_about(name: &str) -> bool
+    ensures { result ≡ nat_lt max_length (length (not_defined name.now)) }
+{
+    name.len() > MAX_STR_LENGTH - 20
+}
+
+/// An ASCII text.
+pub fn ascii(alloc: Global, text: &str) -> Result<Text, NoMemory>
+    ensures { IfOk result (λ t. t ≡ text.now) }
+{
+    let mut all = Text::new(alloc);
+    push_ascii(&mut all, text)?;
+    Ok(all)
+}
+
+fn push_ascii(text: &mut Text, ascii: &str) -> Result<(), NoMemory>
+    ensures { OnOk result (text.new ≡ text.old ++ ascii.now) }
+{
+    for byte in ascii.as_bytes() {
+        text.push(char::from(*byte))?;
+    }
+    Ok(())
+}

@@ -1,0 +1,35 @@
+// Values and the states of globals.
+
+/// A function that is there without a definition.
+#[derive(Clone, Copy, Debug, PartialEq, Eq)]
+pub enum BuiltIn {
+    Print,
+}
+
+/// A value (Python Language Reference 3.14, 3.2).
+#[derive(Clone, Copy, Debug, PartialEq, Eq)]
+pub enum Value {
+    None,
+    Int(i64),
+    /// A str, by the place of its text among the machine's texts.
+    Str(usize),
+    BuiltIn(BuiltIn),
+}
+
+/// The state of a global (Python Language Reference 3.14, 4.2.2): its own value, else the built-in of
+/// its name, else nothing.
+#[derive(Clone, Copy, Debug, PartialEq, Eq)]
+pub enum Global {
+    Unbound,
+    Provided(BuiltIn),
+    Bound(Value),
+}
+
+/// The built-in of a name.
+pub fn built_in(name: &str) -> Option<BuiltIn> {
+    if name == "print" {
+        Some(BuiltIn::Print)
+    } else {
+        None
+    }
+}
