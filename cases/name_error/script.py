@@ -1,0 +1,3 @@
+print('before')
+print(missing)
+print('after')

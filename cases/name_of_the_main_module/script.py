@@ -1,0 +1,3 @@
+print(__name__)
+__name__ = 'other'
+print(__name__)

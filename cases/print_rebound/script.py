@@ -1,0 +1,4 @@
+show = print
+print = 5
+show(print)
+print(1)

@@ -1,0 +1,2 @@
+print('it\'s', "it's", 'a\nb', "\"", '\\')
+print('one' ' and ' "two")

@@ -1,0 +1,4 @@
+pub mod Service
+pub mod Status
+pub mod Views
+pub mod Words

@@ -1,0 +1,46 @@
+-- What it means to carry out a command (this project's own).
+use Rattle.std.specs.Prelude.{◌≡◌, ℕ, List, [], ◌∷◌, IsUtf8, Option, bytes_eq, drop, if◌then◌else◌, take}
+use Rattle.std.specs.Io.KnownBytes.{Appends, Keeps}
+use Rattle.si_semantics.specs.Report.{status}
+use Rattle.si_semantics.specs.Tree.{Stmts}
+use Rattle.si_parse.specs.Modules.{IsRead}
+use Rattle.si_cli.specs.declared.fault.CliFault.{CliFault}
+use Rattle.si_cli.specs.declared.fault.CliFault.TheVariants.{Write, Script, NoMemory, Input}
+use Rattle.si_cli.specs.declared.interpreter.Solo.{Solo}
+use Rattle.si_cli.specs.Views.{report_of, standing_of}
+
+-- a byte order mark in UTF-8
+abbrev pub mark : List ℕ
+mark = 239 ∷ 187 ∷ 191 ∷ []
+
+-- the bytes less one byte order mark at their front (Language Reference, 2.1.4)
+abbrev pub without_mark : List ℕ → List ℕ
+without_mark bytes = if bytes_eq (take 3 bytes) mark then drop 3 bytes else bytes
+
+-- the bytes of a script are read as a tree: they are UTF-8, and the tokens of their text derive it
+abbrev pub IsScript : List ℕ → Stmts → Type 0
+IsScript bytes body = IsUtf8 (without_mark bytes) × IsRead (without_mark bytes) body
+
+-- the fault of a script that is not read
+abbrev pub IsRefusal : CliFault → Type 0
+IsRefusal (Script line) = Unit {0}
+IsRefusal _ = ⊥
+
+-- a run of interpreter 0 is reported: the writer grew by its report, and the status is the run's
+pub record Reports (old new : Option (List ℕ)) (answer : ℕ) : Type 0 where
+  pub run : Solo
+  pub report : Appends old new (report_of run)
+  pub status_is : answer ≡ status (standing_of run.standing)
+
+-- a fault of reading the script
+abbrev pub IsOfScript : CliFault → Type 0
+IsOfScript (Script line) = Unit {0}
+IsOfScript NoMemory = Unit {0}
+IsOfScript _ = ⊥
+
+-- a fault that leaves the writer as it was, unless it is that of a write
+abbrev pub LeavesAlone : Option (List ℕ) → Option (List ℕ) → CliFault → Type 0
+LeavesAlone old new Write = Unit {0}
+LeavesAlone old new (Script line) = Keeps old new
+LeavesAlone old new NoMemory = Keeps old new
+LeavesAlone old new Input = ⊥

@@ -1,0 +1,18 @@
+-- The statuses with which the program ends (this project's own choice).
+use Rattle.std.specs.Prelude.{ℕ, if◌then◌else◌}
+use Rattle.si_cli.specs.declared.fault.CliFault.{CliFault}
+use Rattle.si_cli.specs.declared.fault.CliFault.TheVariants.{Write, Script, NoMemory, Input}
+use Rattle.si_cli.specs.declared.words.WordsFault.{WordsFault}
+use Rattle.si_cli.specs.declared.words.WordsFault.TheVariants as words
+
+-- where a command stops without a report: 5 for want of memory, else 2
+abbrev pub status_of_fault : CliFault → ℕ
+status_of_fault Write = 2
+status_of_fault (Script line) = 2
+status_of_fault NoMemory = 5
+status_of_fault Input = 2
+
+-- where the words ask for no command: 0 where they ask for help, else 2, and 5 for want of memory
+abbrev pub status_of_words : WordsFault → ℕ
+status_of_words (words.Words help text) = if help then 0 else 2
+status_of_words words.NoMemory = 5

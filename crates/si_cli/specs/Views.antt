@@ -1,0 +1,49 @@
+-- How a run is left, as the definitions see it.
+use Rattle.std.specs.Prelude.{◌≡◌, ◌≤◌, ℕ, List, [], ◌∷◌, ◌++◌, chars, codes, encode_utf8_all, string_bytes}
+use Rattle.si_machine.specs.declared.step.Outcome.{Outcome}
+use Rattle.si_machine.specs.declared.step.Outcome.TheVariants.{Returned, Raised}
+use Rattle.si_semantics.specs.Life as life
+use Rattle.si_semantics.specs.Report as report
+use Rattle.si_cli.specs.declared.interpreter.Standing.{Standing}
+use Rattle.si_cli.specs.declared.interpreter.Standing.TheVariants.{Ready, AtEnd, Starved}
+use Rattle.si_cli.specs.declared.interpreter.Solo.{Solo}
+
+-- how a run ended
+abbrev pub outcome_of : Outcome → life.Outcome
+outcome_of Returned = life.Returned
+outcome_of (Raised kind message) = life.Raised kind message
+
+-- how an interpreter stands
+abbrev pub standing_of : Standing → report.Standing
+standing_of Ready = report.Ready
+standing_of (AtEnd outcome) = report.AtEnd (outcome_of outcome)
+standing_of Starved = report.Starved
+
+-- what stands after a kind: a message that is not empty, behind a colon
+abbrev pub after_kind : List ℕ → List ℕ
+after_kind [] = []
+after_kind (c ∷ cs) = codes ": " ++ c ∷ cs
+
+-- the characters that a run has printed
+abbrev pub printed_by : Solo → List ℕ
+printed_by solo = chars (string_bytes solo.printed)
+
+-- the bytes of a run's report
+abbrev pub report_of : Solo → List ℕ
+report_of solo = encode_utf8_all (report.report (printed_by solo) (standing_of solo.standing))
+
+-- of so many turns these many are used: all, where the interpreter has more to do
+abbrev pub AreUsed : ℕ → ℕ → Standing → Type 0
+AreUsed turns locals Ready = locals ≡ turns
+AreUsed turns locals (AtEnd outcome) = locals ≤ turns
+AreUsed turns locals Starved = locals ≤ turns
+
+-- a run had at most so many turns, and just so many where it has more to do
+abbrev pub HasUsed : ℕ → Solo → Type 0
+HasUsed turns solo = AreUsed turns solo.locals solo.standing
+
+-- the run of a text that isn't read: no turn, nothing printed, left by its exception
+pub record IsNotRead (solo : Solo) : Type 0 where
+  pub printed : printed_by solo ≡ []
+  pub locals : solo.locals ≡ 0
+  pub standing : standing_of solo.standing ≡ report.AtEnd life.not_read

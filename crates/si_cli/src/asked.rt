@@ -1,0 +1,21 @@
+// What a command line asks for.
+
+use si_plain::Limits;
+
+/// What the words of a command line ask for. A path that is not named stands for standard input.
+#[derive(Debug, Drop)]
+pub enum Request<'a> {
+    /// Run the script, one turn after another, and report.
+    Serial {
+        script: Option<&'a str>,
+        limits: Limits,
+    },
+}
+
+impl<'a> Request<'a> {
+    /// The path of the script, if the words name one.
+    pub fn script(&self) -> Option<&'a str> {
+        let Request::Serial { script, .. } = self;
+        *script
+    }
+}

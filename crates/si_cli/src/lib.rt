@@ -1,0 +1,26 @@
+// The command line of `subpy`: from words and bytes to a report and a status.
+//
+// Its one contract is that of `serve`: what is appended to the writer is the report of the script's run, and the
+// answer is the status that the report's run has; a script that the grammar doesn't read is refused.
+//
+// In reading order: `asked` (what a command line asks for), `words` (how it is read), `input` (reading a script),
+// `interpreter` and `alone` (running a script in interpreter 0), `report` (its text), `serving` (all of these in a row),
+// `fault`.
+#![tactic(auto)]
+
+pub mod alone;
+pub mod asked;
+pub mod fault;
+pub mod input;
+pub mod interpreter;
+pub mod report;
+pub mod serving;
+#[cfg(test)]
+mod tests;
+pub mod words;
+
+pub use alone::solo;
+pub use fault::CliFault;
+pub use input::read_input;
+pub use serving::serve;
+pub use words::{WordsFault, request};

@@ -1,0 +1,109 @@
+// Carrying out a command.
+
+ghost use Rattle.std.specs.Prelude.{◌≡◌, IfErr, IfOk, IsOkUnless, IsUtf8, OnOk};
+ghost use Rattle.std.specs.Io.KnownBytes.{Keeps};
+ghost use Rattle.si_semantics.specs.Report.{status};
+ghost use Rattle.si_semantics.specs.Tree.{Stmts};
+ghost use Rattle.si_parse.specs.Modules.{tree_of};
+ghost use Rattle.si_cli.specs.Service.{IsOfScript, IsRefusal, IsScript, LeavesAlone, Reports, without_mark};
+ghost use Rattle.si_cli.specs.Views.{standing_of};
+
+use crate::alone::run_module;
+use crate::asked::Request;
+use crate::fault::CliFault;
+use crate::interpreter::{Outcome, Solo, Standing};
+use crate::report::write_report;
+use si_parse::{Module, ParseFault, parse};
+use std::alloc::Global;
+use std::io::Write;
+
+/// A byte order mark in UTF-8.
+const MARK: [u8; 3] = [0xef, 0xbb, 0xbf];
+
+/// Carries out a request: runs the script, appends its report to `out`, and answers the program's status, which is 5
+/// where memory was refused in the run, 4 where its turns were used up, 1 where an exception left it, else 0.
+///
+/// `script` is the script's bytes, of which one byte order mark at their front is dropped. No command of this stage
+/// reads `schedule` or writes to `saved`.
+///
+/// Faults: `Script` where the script isn't UTF-8 or isn't read, `NoMemory` where memory was refused before the run,
+/// and then nothing was written; `Write` where a write or the last flush failed.
+pub fn serve<A: Write, B: Write>(
+    alloc: Global,
+    request: &Request,
+    script: &[u8],
+    _schedule: &[u8],
+    _saved: &mut A,
+    out: &mut B,
+) -> Result<u8, CliFault>
+    ensures reports { IfOk result (Reports (B.contents out.old) (B.contents out.new)) }
+    // Only a script that is read is carried out, and only one that is not read is refused as a script.
+    ensures read { OnOk result ((body : Stmts) × IsScript script.now body) }
+    ensures refused { IfErr result (λ fault. IsRefusal fault → (body : Stmts) → IsScript script.now body → ⊥) }
+    // After every other fault than that of a write the writer is as before.
+    ensures alone { IfErr result (LeavesAlone (B.contents out.old) (B.contents out.new)) }
+    ensures saved { Keeps (A.contents _saved.old) (A.contents _saved.new) }
+{
+    let Request::Serial { limits, .. } = request;
+    let module = read_module(alloc, script)?;
+    let solo = run_module(alloc, &module, limits.turns())?;
+    write_report(out, &solo)?;
+    flush(out)?;
+    Ok(status_of(&solo))
+}
+
+/// The module as which a script's bytes are read.
+fn read_module(alloc: Global, script: &[u8]) -> Result<Module, CliFault>
+    ensures read { IfOk result (λ module. IsScript script.now (tree_of module)) }
+    ensures refused { IfErr result (λ fault. IsRefusal fault → (body : Stmts) → IsScript script.now body → ⊥) }
+    ensures fault { IfErr result IsOfScript }
+{
+    let text = decode(script)?;
+    match parse(alloc, text) {
+        Ok(module) => Ok(module),
+        Err(ParseFault::Syntax(line)) => Err(CliFault::Script(line)),
+        Err(ParseFault::NoMemory) => Err(CliFault::NoMemory),
+    }
+}
+
+/// The text of a script's bytes, less one byte order mark at its front.
+fn decode(script: &[u8]) -> Result<&str, CliFault>
+    ensures text { IfOk result (λ text. text.now ≡ without_mark script.now) }
+    ensures utf8 { OnOk result (IsUtf8 (without_mark script.now)) }
+    ensures refused { IfErr result (λ fault. IsOfScript fault × ¬ IsUtf8 (without_mark script.now)) }
+{
+    let bytes = script.strip_prefix(&MARK).unwrap_or(script);
+    match std::str::from_utf8(bytes) {
+        Ok(text) => Ok(text),
+        Err(error) => Err(CliFault::Script(line_of(bytes, error.valid_up_to()))),
+    }
+}
+
+/// The line, counted from 1, in which the byte at a place stands.
+fn line_of(bytes: &[u8], at: usize) -> usize {
+    let before = bytes.get(..at).unwrap_or(bytes);
+    before.iter().filter(|byte| **byte == b'\n').count().saturating_add(1)
+}
+
+/// Passes on what a writer has kept back.
+fn flush<W: Write>(out: &mut W) -> Result<(), CliFault>
+    ensures kept { Keeps (W.contents out.old) (W.contents out.new) }
+    ensures fault { IsOkUnless result CliFault.Write }
+{
+    match out.flush() {
+        Ok(()) => Ok(()),
+        Err(_) => Err(CliFault::Write),
+    }
+}
+
+/// The program's status after a run.
+fn status_of(solo: &Solo) -> u8
+    ensures { result ≡ status (standing_of solo.now.standing) }
+{
+    match &solo.standing {
+        Standing::Starved => 5,
+        Standing::Ready => 4,
+        Standing::AtEnd(Outcome::Raised(_, _)) => 1,
+        Standing::AtEnd(Outcome::Returned) => 0,
+    }
+}

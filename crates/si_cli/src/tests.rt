@@ -1,0 +1,196 @@
+// What no clause says: worked cases, the text of help and refusals, and readers and writers that fail.
+
+use crate::asked::Request;
+use crate::interpreter::{Outcome, Standing};
+use crate::{CliFault, WordsFault, read_input, request, serve, solo};
+use si_plain::Limits;
+use std::alloc::Global;
+use std::io;
+use std::io::{Read, Write};
+use std::test::Fail;
+
+const RAISING: &str = "print('ok'); print(1 // 0)";
+
+const RAISED: &str = "== interpreter 0 ==\nok\nraised ZeroDivisionError: division by zero\nend: finished\n";
+
+/// A reader that gives one byte at a time, and fails once `left` have been given.
+#[derive(Drop)]
+struct Breaking<'a> {
+    text: &'a [u8],
+    at: usize,
+    left: usize,
+}
+
+impl<'a> Read for Breaking<'a> {
+    fn read(&mut self, buf: &mut [u8]) -> io::Result<usize> {
+        if self.at >= self.left {
+            return Err(io::Error::from(io::ErrorKind::BrokenPipe));
+        }
+        match (self.text.get(self.at), buf.first_mut()) {
+            (Some(byte), Some(place)) => {
+                *place = *byte;
+                self.at = self.at.saturating_add(1);
+                Ok(1)
+            }
+            _ => Ok(0),
+        }
+    }
+}
+
+/// A writer that takes so many writes, and then fails.
+#[derive(Drop)]
+struct Filling {
+    written: Vec<u8>,
+    room: u32,
+}
+
+impl Filling {
+    fn take(&mut self) -> io::Result<()> {
+        if self.room == 0 {
+            return Err(io::Error::from(io::ErrorKind::StorageFull));
+        }
+        self.room -= 1;
+        Ok(())
+    }
+}
+
+impl Write for Filling {
+    fn write(&mut self, buf: &[u8]) -> io::Result<usize> {
+        self.take()?;
+        self.written.extend_from_slice(buf)?;
+        Ok(buf.len())
+    }
+
+    fn flush(&mut self) -> io::Result<()> {
+        self.take()
+    }
+}
+
+fn serve_into<W: Write>(alloc: Global, script: &str, out: &mut W) -> Result<u8, CliFault> {
+    let asked = Request::Serial {
+        script: None,
+        limits: Limits::standard(),
+    };
+    serve(alloc, &asked, script.as_bytes(), &[], &mut io::sink(), out)
+}
+
+#[test]
+fn a_run_is_reported(rt: HostRuntime) -> Result<(), Fail> {
+    let cases = [
+        ("", 0, "== interpreter 0 ==\nend: finished\n"),
+        (
+            "\u{feff}print(-7 // 2, -7 % 2, 7 // -2, 7 % -2)\n",
+            0,
+            "== interpreter 0 ==\n-4 1 -4 -1\nend: finished\n",
+        ),
+        (RAISING, 1, RAISED),
+    ];
+    for (script, status, report) in cases {
+        let mut out = Vec::new(rt.alloc());
+        assert_eq!(rt; serve_into(rt.alloc(), script, &mut out)?, status);
+        assert_eq!(rt; out.as_slice(), report.as_bytes());
+    }
+    Ok(())
+}
+
+#[test]
+fn a_refused_script_leaves_the_writer_alone(rt: HostRuntime) -> Result<(), Fail> {
+    let mut out = Vec::new(rt.alloc());
+    let answer = serve_into(rt.alloc(), "print(1)\nprint(", &mut out);
+    assert!(rt; matches!(answer, Err(CliFault::Script(_))));
+    assert!(rt; out.is_empty());
+    Ok(())
+}
+
+#[test]
+fn a_failing_write_is_a_fault(rt: HostRuntime) -> Result<(), Fail> {
+    // eight writes and a flush
+    for (room, is_enough) in [(0, false), (1, false), (5, false), (8, false), (9, true)] {
+        let mut out = Filling {
+            written: Vec::new(rt.alloc()),
+            room,
+        };
+        match serve_into(rt.alloc(), RAISING, &mut out) {
+            Ok(status) => assert!(rt; is_enough && status == 1),
+            Err(fault) => assert!(rt; !is_enough && matches!(fault, CliFault::Write)),
+        }
+        assert!(rt; RAISED.as_bytes().starts_with(out.written.as_slice()));
+    }
+    Ok(())
+}
+
+#[test]
+fn input_is_read_to_its_end_or_not_at_all(rt: HostRuntime) -> Result<(), Fail> {
+    for (left, limit, is_read) in [(9, 3, true), (9, 2, false), (2, 3, false), (0, 3, false)] {
+        let mut from = Breaking {
+            text: b"abc",
+            at: 0,
+            left,
+        };
+        match read_input(rt.alloc(), &mut from, limit) {
+            Ok(bytes) => assert!(rt; is_read && bytes.as_slice() == b"abc".as_slice()),
+            Err(fault) => assert!(rt; !is_read && matches!(fault, CliFault::Input)),
+        }
+    }
+    Ok(())
+}
+
+#[test]
+fn a_run_alone_counts_its_turns(rt: HostRuntime) -> Result<(), Fail> {
+    // five instructions: the callee, its argument, the call, its value dropped, the end
+    let whole = solo(rt.alloc(), "print(1)", 1_000)?;
+    assert!(rt; matches!(whole.standing, Standing::AtEnd(Outcome::Returned)));
+    assert!(rt; whole.locals == 5 && whole.printed.as_str() == "1\n");
+    let spent = solo(rt.alloc(), "print(1)", 3)?;
+    assert!(rt; matches!(spent.standing, Standing::Ready));
+    assert!(rt; spent.locals == 3 && spent.printed.as_str() == "1\n");
+    let unread = solo(rt.alloc(), "print(", 1_000)?;
+    let Standing::AtEnd(Outcome::Raised(kind, message)) = &unread.standing else {
+        return Err(Fail::from("it was read"));
+    };
+    assert!(rt; kind.name() == "SyntaxError" && message.as_str() == "invalid syntax");
+    assert!(rt; unread.locals == 0);
+    Ok(())
+}
+
+#[test]
+fn words_that_are_taken(rt: HostRuntime) -> Result<(), Fail> {
+    let cases: [(&[&str], Option<&str>); 3] = [
+        (&["subpy", "serial"], None),
+        (&["subpy", "serial", "a.py"], Some("a.py")),
+        (&["subpy", "serial", "--", "-a.py"], Some("-a.py")),
+    ];
+    for (words, script) in cases {
+        let Ok(asked) = request(rt.alloc(), words) else {
+            return Err(Fail::from("the words are refused"));
+        };
+        assert!(rt; asked.script() == script);
+    }
+    Ok(())
+}
+
+#[test]
+fn words_that_are_not_taken(rt: HostRuntime) -> Result<(), Fail> {
+    let cases: [(&[&str], u8, &str); 8] = [
+        (&["subpy"], 2, "no command is named; 'subpy --help' lists the commands"),
+        (&["subpy", "run"], 2, "there is no command \"run\"; 'subpy --help' lists them"),
+        (&["subpy", "serial", "--x"], 2, "unexpected argument '--x' found"),
+        (&["subpy", "serial", "a", "b"], 2, "unexpected argument 'b' found"),
+        (&["subpy", "--help"], 0, "Runs Python scripts in isolated interpreters"),
+        (&["subpy", "help"], 0, "Runs Python scripts in isolated interpreters"),
+        (&["subpy", "help", "serial"], 0, "Runs a script in interpreter 0"),
+        (&["subpy", "serial", "--help"], 0, "Runs a script in interpreter 0"),
+    ];
+    for (words, status, begins) in cases {
+        let Err(fault) = request(rt.alloc(), words) else {
+            return Err(Fail::from("the words are taken"));
+        };
+        assert_eq!(rt; fault.status(), status);
+        let WordsFault::Words { help, text } = &fault else {
+            return Err(Fail::from("no memory"));
+        };
+        assert!(rt; *help == (status == 0) && text.as_str().starts_with(begins));
+        assert!(rt; *help || !text.as_str().contains('\n'));
+    }
+    Ok(())
+}

@@ -1,0 +1,201 @@
+// The words of a command line: the second names the command, and each command reads the words after it by a clap
+// command of its own.
+
+ghost use Rattle.std.specs.Prelude.{◌≡◌, IfOk, IfErr, true, false};
+ghost use Rattle.clap.specs.Words.{app_of, kind_of, rule_of, takes};
+ghost use Rattle.si_cli.specs.Status.{status_of_words};
+ghost use Rattle.si_cli.specs.Words.{AreTaken, IsReadFrom, IsSaidBy, script, serial, texts};
+
+use crate::asked::Request;
+use clap::error::ErrorKind;
+use clap::{Arg, ArgAction, Command, Error};
+use si_plain::Limits;
+use std::alloc::{AllocError, Global};
+
+const HELP: &str = "Runs Python scripts in isolated interpreters and reports what each has printed.
+
+Usage: subpy COMMAND [ARGUMENTS]
+
+Commands:
+  serial [SCRIPT]  Runs a script, one turn after another, and prints its report
+  help [COMMAND]   Prints this text, or that of a command
+
+Statuses:
+  0  the script has run to its end, or help was asked for
+  1  the script was left by an exception
+  2  the words or the script are refused, or a read or a write failed
+  4  the script's turns were used up
+  5  memory was refused
+";
+
+const SERIAL_HELP: &str = "The report is the line '== interpreter 0 ==', what the script printed, the line 'raised KIND: MESSAGE'
+where it was left by an exception, and the line 'end: finished', 'end: spent' where its turns were
+used up, or 'end: starved' where memory was refused.";
+
+/// Why the words ask for nothing that can be carried out.
+#[derive(Debug, Drop)]
+pub enum WordsFault {
+    /// No command is named, its definition doesn't take the words after it, or they ask for help. `text` is for
+    /// people: with `help` the lines of the help, else one message without a line end.
+    Words { help: bool, text: String },
+    /// Memory was refused.
+    NoMemory,
+}
+
+impl From<AllocError> for WordsFault {
+    ghost use Rattle.si_cli.specs.declared.words.WordsFault.TheVariants.{NoMemory};
+
+    ghost from_gives = { λ _ e. e ≡ NoMemory };
+
+    fn from(_: AllocError) -> WordsFault {
+        WordsFault::NoMemory
+    }
+}
+
+impl WordsFault {
+    /// The status of a program that stops for this: 0 where help was asked for, 5 where memory was refused, else 2.
+    pub fn status(&self) -> u8
+        ensures { result ≡ status_of_words self.now }
+    {
+        match self {
+            WordsFault::Words { help, .. } => if *help { 0 } else { 2 },
+            WordsFault::NoMemory => 5,
+        }
+    }
+}
+
+/// What the words ask for. The first is the program's name, the second that of a command.
+///
+/// `WordsFault::Words` where no command is named, its definition doesn't take the words after it, or help is asked for;
+/// `WordsFault::NoMemory` where memory was refused.
+pub fn request<'a>(alloc: Global, words: &'a [&'a str]) -> Result<Request<'a>, WordsFault>
+    ensures said { IfOk result (IsSaidBy (texts words.entry.now)) }
+    // Words that a command takes are refused only for want of memory.
+    ensures taken { IfErr result (λ fault. AreTaken (texts words.entry.now) → fault ≡ WordsFault.NoMemory) }
+{
+    let Some(name) = words.get(1) else {
+        return Err(refused(alloc, "no command is named"));
+    };
+    if *name == "serial" {
+        return serial_request(alloc, &words[1..]);
+    }
+    Err(match *name {
+        "help" => help_of(alloc, words),
+        "-h" | "--help" => general_help(alloc),
+        _ => no_command(alloc, name),
+    })
+}
+
+/// The request of the words from `serial` on.
+fn serial_request<'a>(alloc: Global, words: &'a [&'a str]) -> Result<Request<'a>, WordsFault>
+    ensures said { IfOk result (IsReadFrom (texts words.entry.now)) }
+    ensures taken { IfErr result (λ fault. takes serial (texts words.entry.now) ≡ true
+        → fault ≡ WordsFault.NoMemory) }
+{
+    let command = serial_command(alloc)?;
+    match command.try_get_matches_from(words) {
+        Ok(matches) => Ok(Request::Serial {
+            script: matches.get_str("SCRIPT"),
+            limits: Limits::standard(),
+        }),
+        Err(error) => Err(words_fault(alloc, &error)),
+    }
+}
+
+/// The definition of `serial`.
+fn serial_command<'a>(alloc: Global) -> Result<Command<'a>, AllocError>
+    ensures { IfOk result (λ command. app_of command ≡ serial) }
+{
+    Command::new(alloc, "serial")
+        .about("Runs a script in interpreter 0, one turn after another, and prints its report.")
+        .override_usage("subpy serial [SCRIPT]")
+        .after_help(SERIAL_HELP)
+        .arg(script_argument(alloc))
+}
+
+/// The script's path, which may be left out.
+fn script_argument<'a>(alloc: Global) -> Arg<'a>
+    ensures rule { rule_of result ≡ script }
+    ensures local { result.global ≡ false }
+{
+    Arg::new(alloc, "SCRIPT")
+        .help("The script's file; standard input where it is left out")
+        .action(ArgAction::Set)
+}
+
+/// What clap's error comes to: help, a refusal in one line, or want of memory.
+fn words_fault(alloc: Global, error: &Error) -> WordsFault
+    ensures { kind_of error.now ≡ ErrorKind.OutOfMemory → result ≡ WordsFault.NoMemory }
+{
+    if error.kind() == ErrorKind::OutOfMemory {
+        return WordsFault::NoMemory;
+    }
+    let help = !error.use_stderr();
+    match if help { error.to_string(alloc) } else { one_line(alloc, error) } {
+        Ok(text) => WordsFault::Words { help, text },
+        Err(_) => WordsFault::NoMemory,
+    }
+}
+
+/// The message of a refusal, without its mark `error:`, its usage and its line ends.
+fn one_line(alloc: Global, error: &Error) -> Result<String, AllocError> {
+    let whole = error.to_string(alloc)?;
+    let text = whole.as_str();
+    let text = text.strip_prefix("error: ").unwrap_or(text);
+    let mut line = String::new(alloc);
+    for part in text.lines() {
+        if part.is_empty() {
+            break;
+        }
+        if !line.is_empty() {
+            line.push_str(" ")?;
+        }
+        line.push_str(part.trim())?;
+    }
+    Ok(line)
+}
+
+/// The fault of words that are refused for this reason.
+fn refused(alloc: Global, why: &str) -> WordsFault {
+    match format!(in alloc; "{why}; 'subpy --help' lists the commands") {
+        Ok(text) => WordsFault::Words { help: false, text },
+        Err(_) => WordsFault::NoMemory,
+    }
+}
+
+fn no_command(alloc: Global, name: &str) -> WordsFault {
+    match format!(in alloc; "there is no command {name:?}; 'subpy --help' lists them") {
+        Ok(text) => WordsFault::Words { help: false, text },
+        Err(_) => WordsFault::NoMemory,
+    }
+}
+
+/// The help that lists the commands.
+fn general_help(alloc: Global) -> WordsFault {
+    match String::from_str(alloc, HELP) {
+        Ok(text) => WordsFault::Words { help: true, text },
+        Err(_) => WordsFault::NoMemory,
+    }
+}
+
+/// The help that words whose second is `help` ask for.
+fn help_of(alloc: Global, words: &[&str]) -> WordsFault {
+    match words.get(2) {
+        None => general_help(alloc),
+        Some(name) => match *name {
+            "serial" => serial_help(alloc),
+            _ => no_command(alloc, name),
+        },
+    }
+}
+
+fn serial_help(alloc: Global) -> WordsFault {
+    let rendered = match serial_command(alloc) {
+        Ok(mut command) => command.render_help(),
+        Err(error) => Err(error),
+    };
+    match rendered {
+        Ok(text) => WordsFault::Words { help: true, text },
+        Err(_) => WordsFault::NoMemory,
+    }
+}

@@ -1,0 +1,120 @@
+// `subpy`: runs Python scripts in isolated interpreters. `subpy --help` says how it is used.
+//
+// All of the work is that of `si_cli`. This file gets the words, the script and standard output from the system, and
+// tells faults in one line on standard error.
+#![tactic(auto)]
+
+use si_cli::asked::Request;
+use si_cli::{CliFault, WordsFault, read_input, request, serve};
+use std::alloc::AllocError;
+use std::fmt;
+use std::fs::File;
+use std::io;
+use std::io::BufWriter;
+use std::process::ExitCode;
+
+/// The most bytes of a script's file: those of the longest script, and a byte order mark.
+const MOST_BYTES: u64 = 1_048_579;
+
+/// How many bytes of a report are gathered before they are written.
+const WRITE_SIZE: usize = 65_536;
+
+/// Where a script comes from, as messages name it.
+#[derive(Clone, Copy)]
+struct Source<'a>(Option<&'a str>);
+
+impl fmt::Display for Source<'_> {
+    fn fmt<W: fmt::Write>(&self, f: &mut fmt::Formatter<W>) -> fmt::Result {
+        match self.0 {
+            None => f.write_str("standard input"),
+            Some(path) if path.chars().any(char::is_control) => write!(f, "{path:?}"),
+            Some(path) => f.write_str(path),
+        }
+    }
+}
+
+/// Tells a fault in one line on standard error, and gives its status. Where that line can't be written nothing is left
+/// to tell it by.
+fn tell<D: fmt::Display + Drop>(rt: &HostRuntime, message: D, status: u8) -> u8 {
+    let _ = eprintln!(rt; "subpy: {message}");
+    status
+}
+
+/// The script's bytes, or the status after telling why there are none.
+fn script_bytes(rt: &HostRuntime, source: &Source) -> Result<Vec<u8>, u8> {
+    let read = match source.0 {
+        None => read_input(rt.alloc(), &mut rt.stdin(), MOST_BYTES),
+        Some(path) => match File::open(rt, path) {
+            Ok(mut file) => read_input(rt.alloc(), &mut file, MOST_BYTES),
+            Err(_) => return Err(tell(rt, format_args!("can't open {source}"), 2)),
+        },
+    };
+    match read {
+        Ok(bytes) => Ok(bytes),
+        Err(CliFault::Input) => Err(tell(
+            rt,
+            format_args!("can't read {source}, or it is too long"),
+            CliFault::Input.status(),
+        )),
+        Err(fault) => {
+            let status = fault.status();
+            Err(tell(rt, fault, status))
+        }
+    }
+}
+
+/// Carries out a request, and gives the program's status.
+fn carry_out(rt: &HostRuntime, request: &Request) -> u8 {
+    let source = Source(request.script());
+    let script = match script_bytes(rt, &source) {
+        Ok(script) => script,
+        Err(status) => return status,
+    };
+    let Ok(mut out) = BufWriter::with_capacity(rt.alloc(), WRITE_SIZE, io::writer(rt)) else {
+        return tell(rt, CliFault::NoMemory, CliFault::NoMemory.status());
+    };
+    match serve(rt.alloc(), request, script.as_slice(), &[], &mut io::sink(), &mut out) {
+        Ok(status) => status,
+        Err(fault) => {
+            let status = fault.status();
+            match fault {
+                CliFault::Script(line) => tell(rt, format_args!("{source}: line {line}: invalid syntax"), status),
+                fault => tell(rt, fault, status),
+            }
+        }
+    }
+}
+
+/// Prints the help that was asked for, or tells why the words are refused, and gives the program's status.
+fn answer_words(rt: &HostRuntime, fault: &WordsFault) -> u8 {
+    let status = fault.status();
+    match fault {
+        WordsFault::Words { help: true, text } => match rt.print(text.as_str()) {
+            Ok(()) => status,
+            Err(_) => tell(rt, "the help can't be written", 2),
+        },
+        WordsFault::Words { help: false, text } => tell(rt, text.as_str(), status),
+        WordsFault::NoMemory => tell(rt, "out of memory", status),
+    }
+}
+
+/// Does what the words ask, and gives the program's status.
+fn answer(rt: &HostRuntime) -> Result<u8, AllocError> {
+    let words: Vec<String> = match std::env::args(rt) {
+        Ok(words) => words.collect(rt.alloc())?,
+        Err(error) if error.kind() == io::ErrorKind::OutOfMemory => return Err(AllocError),
+        Err(_) => return Ok(tell(rt, "the words are not UTF-8", 2)),
+    };
+    let words: Vec<&str> = words.iter().map(|word| word.as_str()).collect(rt.alloc())?;
+    match request(rt.alloc(), words.as_slice()) {
+        Ok(request) => Ok(carry_out(rt, &request)),
+        Err(fault) => Ok(answer_words(rt, &fault)),
+    }
+}
+
+fn main(rt: HostRuntime) -> ExitCode {
+    match answer(&rt) {
+        Ok(status) => ExitCode::from(status),
+        Err(_) => ExitCode::from(tell(&rt, "out of memory", 5)),
+    }
+}
