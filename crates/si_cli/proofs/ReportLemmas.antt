@@ -80,13 +80,12 @@ name_bytes ExecutionFailed = ascii (name_of ExecutionFailed) refl
 name_bytes QueueEmpty = ascii (name_of QueueEmpty) refl
 name_bytes QueueFull = ascii (name_of QueueFull) refl
 
-
 -- the bytes of the line of an exception, in the parts in which they are written
 pub raised_bytes : (k : Kind) (message : List ℕ) → codes "raised " ++ (name_of k ++ (encode_utf8_all (after_kind message) ++ codes "\n")) ≡ encode_utf8_all (outcome_line (life.Raised k message))
 raised_bytes k message =
     let after = encode_utf8_all (after_kind message) in
     let inner : encode_utf8_all (kind_and_message k message) ≡ name_of k ++ after =
-        ap encode_utf8_all (kind_and_after k message) ∙ encodes-append (name_of k) (after_kind message) ∙ ap (λ l. l ++ after) (name_bytes k) in
+    ap encode_utf8_all (kind_and_after k message) ∙ encodes-append (name_of k) (after_kind message) ∙ ap (λ l. l ++ after) (name_bytes k) in
     sym (encodes-append (codes "raised " ++ kind_and_message k message) (codes "\n")
     ∙ ap₂ (λ x y. x ++ y) (encodes-append (codes "raised ") (kind_and_message k message) ∙ ap₂ (λ x y. x ++ y) (ascii (codes "raised ") refl) inner) (ascii (codes "\n") refl)
     ∙ append_assoc (codes "raised ") (name_of k ++ after) (codes "\n")

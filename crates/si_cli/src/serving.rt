@@ -54,7 +54,7 @@ pub fn serve<A: Write, B: Write>(
 
 /// The module as which a script's bytes are read.
 fn read_module(alloc: Global, script: &[u8]) -> Result<Module, CliFault>
-    ensures read { IfOk result (λ module. IsScript script.now (tree_of module)) }
+    ensures read { IfOk result (λ m. IsScript script.now (tree_of m)) }
     ensures refused { IfErr result (λ fault. IsRefusal fault → (body : Stmts) → IsScript script.now body → ⊥) }
     ensures fault { IfErr result IsOfScript }
 {
@@ -82,7 +82,11 @@ fn decode(script: &[u8]) -> Result<&str, CliFault>
 /// The line, counted from 1, in which the byte at a place stands.
 fn line_of(bytes: &[u8], at: usize) -> usize {
     let before = bytes.get(..at).unwrap_or(bytes);
-    before.iter().filter(|byte| **byte == b'\n').count().saturating_add(1)
+    before
+        .iter()
+        .filter(|byte| **byte == b'\n')
+        .count()
+        .saturating_add(1)
 }
 
 /// Passes on what a writer has kept back.

@@ -11,7 +11,8 @@ use std::test::Fail;
 
 const RAISING: &str = "print('ok'); print(1 // 0)";
 
-const RAISED: &str = "== interpreter 0 ==\nok\nraised ZeroDivisionError: division by zero\nend: finished\n";
+const RAISED: &str =
+    "== interpreter 0 ==\nok\nraised ZeroDivisionError: division by zero\nend: finished\n";
 
 /// A reader that gives one byte at a time, and fails once `left` have been given.
 #[derive(Drop)]
@@ -172,14 +173,46 @@ fn words_that_are_taken(rt: HostRuntime) -> Result<(), Fail> {
 #[test]
 fn words_that_are_not_taken(rt: HostRuntime) -> Result<(), Fail> {
     let cases: [(&[&str], u8, &str); 8] = [
-        (&["subpy"], 2, "no command is named; 'subpy --help' lists the commands"),
-        (&["subpy", "run"], 2, "there is no command \"run\"; 'subpy --help' lists them"),
-        (&["subpy", "serial", "--x"], 2, "unexpected argument '--x' found"),
-        (&["subpy", "serial", "a", "b"], 2, "unexpected argument 'b' found"),
-        (&["subpy", "--help"], 0, "Runs Python scripts in isolated interpreters"),
-        (&["subpy", "help"], 0, "Runs Python scripts in isolated interpreters"),
-        (&["subpy", "help", "serial"], 0, "Runs a script in interpreter 0"),
-        (&["subpy", "serial", "--help"], 0, "Runs a script in interpreter 0"),
+        (
+            &["subpy"],
+            2,
+            "no command is named; 'subpy --help' lists the commands",
+        ),
+        (
+            &["subpy", "run"],
+            2,
+            "there is no command \"run\"; 'subpy --help' lists them",
+        ),
+        (
+            &["subpy", "serial", "--x"],
+            2,
+            "unexpected argument '--x' found",
+        ),
+        (
+            &["subpy", "serial", "a", "b"],
+            2,
+            "unexpected argument 'b' found",
+        ),
+        (
+            &["subpy", "--help"],
+            0,
+            "Runs Python scripts in isolated interpreters",
+        ),
+        (
+            &["subpy", "help"],
+            0,
+            "Runs Python scripts in isolated interpreters",
+        ),
+        (
+            &["subpy", "help", "serial"],
+            0,
+            "Runs a script in interpreter 0",
+        ),
+        (
+            &["subpy", "serial", "--help"],
+            0,
+            "Runs a script in interpreter 0",
+        ),
     ];
     for (words, status, begins) in cases {
         let Err(fault) = request(rt.alloc(), words) else {

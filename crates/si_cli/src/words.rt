@@ -28,7 +28,8 @@ Statuses:
   5  memory was refused
 ";
 
-const SERIAL_HELP: &str = "The report is the line '== interpreter 0 ==', what the script printed, the line 'raised KIND: MESSAGE'
+const SERIAL_HELP: &str =
+    "The report is the line '== interpreter 0 ==', what the script printed, the line 'raised KIND: MESSAGE'
 where it was left by an exception, and the line 'end: finished', 'end: spent' where its turns were
 used up, or 'end: starved' where memory was refused.";
 
@@ -131,7 +132,11 @@ fn words_fault(alloc: Global, error: &Error) -> WordsFault
         return WordsFault::NoMemory;
     }
     let help = !error.use_stderr();
-    match if help { error.to_string(alloc) } else { one_line(alloc, error) } {
+    match if help {
+        error.to_string(alloc)
+    } else {
+        one_line(alloc, error)
+    } {
         Ok(text) => WordsFault::Words { help, text },
         Err(_) => WordsFault::NoMemory,
     }

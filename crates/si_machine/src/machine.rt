@@ -103,17 +103,32 @@ mod tests {
     fn scripts_show_what_python_shows(rt: HostRuntime) -> Result<(), Fail> {
         let cases = [
             ("print(-7 // 2, -7 % 2, 7 // -2, 7 % -2)", "-4 1 -4 -1\n"),
-            ("print(9223372036854775807 + 1)", "OverflowError: integer out of range"),
+            (
+                "print(9223372036854775807 + 1)",
+                "OverflowError: integer out of range",
+            ),
             (
                 "print(0 ** 0, -2 ** 2, (-2) ** 63, -9223372036854775807 - 1)",
                 "1 -4 -9223372036854775808 -9223372036854775808\n",
             ),
             ("print(2 ** 63)", "OverflowError: integer out of range"),
             ("print(2 ** -1)", "TypeError: wrong type"),
-            ("a = 7; b = 'x'\nprint(a * 3 - 1, b + 'y', b * 3)", "20 xy xxx\n"),
-            ("x = print('a')\nprint(x, print)", "a\nNone <built-in print>\n"),
-            ("print('ok'); print(1 // 0)", "ok\nZeroDivisionError: division by zero"),
-            ("print(__name__, -1 * 'a', 2 * 'ab')\nprint()", "__main__  abab\n\n"),
+            (
+                "a = 7; b = 'x'\nprint(a * 3 - 1, b + 'y', b * 3)",
+                "20 xy xxx\n",
+            ),
+            (
+                "x = print('a')\nprint(x, print)",
+                "a\nNone <built-in print>\n",
+            ),
+            (
+                "print('ok'); print(1 // 0)",
+                "ok\nZeroDivisionError: division by zero",
+            ),
+            (
+                "print(__name__, -1 * 'a', 2 * 'ab')\nprint()",
+                "__main__  abab\n\n",
+            ),
             ("print(y)", "NameError: name y is not defined"),
             ("print = 1; print(2)", "TypeError: not callable"),
             ("print(1 + 'a')", "TypeError: wrong type"),

@@ -7,11 +7,10 @@
 use si_cli::asked::Request;
 use si_cli::{CliFault, WordsFault, read_input, request, serve};
 use std::alloc::AllocError;
-use std::fmt;
 use std::fs::File;
-use std::io;
 use std::io::BufWriter;
 use std::process::ExitCode;
+use std::{fmt, io};
 
 /// The most bytes of a script's file: those of the longest script, and a byte order mark.
 const MOST_BYTES: u64 = 1_048_579;
@@ -73,12 +72,23 @@ fn carry_out(rt: &HostRuntime, request: &Request) -> u8 {
     let Ok(mut out) = BufWriter::with_capacity(rt.alloc(), WRITE_SIZE, io::writer(rt)) else {
         return tell(rt, CliFault::NoMemory, CliFault::NoMemory.status());
     };
-    match serve(rt.alloc(), request, script.as_slice(), &[], &mut io::sink(), &mut out) {
+    match serve(
+        rt.alloc(),
+        request,
+        script.as_slice(),
+        &[],
+        &mut io::sink(),
+        &mut out,
+    ) {
         Ok(status) => status,
         Err(fault) => {
             let status = fault.status();
             match fault {
-                CliFault::Script(line) => tell(rt, format_args!("{source}: line {line}: invalid syntax"), status),
+                CliFault::Script(line) => tell(
+                    rt,
+                    format_args!("{source}: line {line}: invalid syntax"),
+                    status,
+                ),
                 fault => tell(rt, fault, status),
             }
         }

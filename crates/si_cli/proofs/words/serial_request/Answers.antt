@@ -12,9 +12,11 @@ is_simple_serial = refl
 pub returns-in-Ok-clause-said : goal.returns-in-Ok-clause-said
 returns-in-Ok-clause-said c =
     let command_is : app_of c.in_ok-command.command ≡ serial = c.in_ok-command.ensures in
-    let found = c.in-Ok.ensures.matches (ap is_simple command_is ∙ is_simple_serial) in
-    (c.get_str.ensures ∙ first_value-rows (found_of c.in-Ok.matches) (codes "SCRIPT")
-    ∙ ap (first_of (codes "SCRIPT")) (found.0 ∙ ap₂ matches_of command_is refl), c.standard.ensures)
+    let found = c.in-Ok.ensures.matches (ap is_simple command_is ∙ is_simple_serial) in (
+      c.get_str.ensures ∙ first_value-rows (found_of c.in-Ok.matches) (codes "SCRIPT")
+          ∙ ap (first_of (codes "SCRIPT")) (found.0 ∙ ap₂ matches_of command_is refl),
+      c.standard.ensures,
+    )
 
 pub returns-in-Err-clause-taken : goal.returns-in-Err-clause-taken
 returns-in-Err-clause-taken c =
