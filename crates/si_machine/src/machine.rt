@@ -1,5 +1,7 @@
 // The machine.
 
+ghost use Rattle.std.specs.Prelude.{◌≡◌, IfErr, OnErr};
+
 use crate::state::{Standing, State};
 use crate::step::Step;
 use si_compile::{CodeTable, Entry};
@@ -22,7 +24,10 @@ impl Machine {
 
     /// Begins anew, at an entry of a table: nothing is bound but `__name__`, and nothing was printed. Refused
     /// memory, the table comes back and the machine is as it was.
-    pub fn load(&mut self, table: CodeTable, entry: Entry) -> Result<(), AllocFailed<CodeTable>> {
+    pub fn load(&mut self, table: CodeTable, entry: Entry) -> Result<(), AllocFailed<CodeTable>>
+        ensures err { OnErr result (self.new ≡ self.old) }
+        ensures comes_back { IfErr result (λ e. e.value ≡ table) }
+    {
         let mut state = State::new(self.state.alloc);
         match state.make_known(&table) {
             Ok(()) => {
