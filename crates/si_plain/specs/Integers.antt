@@ -1,5 +1,6 @@
 -- Arithmetic of scripts: each operation over the integers without limit, and then the test that 64 bits with a sign hold the answer.
 use Rattle.std.specs.Prelude.{false, ◌≡◌, ◌≢◌, ◌<◌, ℕ, zero, suc, ◌/◌, ◌^◌, Bool, ◌||◌, int_lt, unsigned_abs, ℤ, pos, negsuc, ◌+ℤ◌, ◌-ℤ◌, ◌*ℤ◌, neg_ℤ, int_le, ◌&&◌, if◌then◌else◌, Result, Ok, Err}
+use Rattle.std.specs.Int.{w64, int_bit_and, int_bit_or, int_bit_xor}
 use Rattle.si_plain.specs.declared.kind.Kind.{Kind}
 use Rattle.si_plain.specs.declared.kind.Kind.TheVariants.{OverflowError, TypeError, ValueError, ZeroDivisionError}
 
@@ -77,3 +78,19 @@ shifted_left a (negsuc n) = Err ValueError
 unfoldable pub shifted_right : ℤ → ℤ → Result ℤ Kind
 shifted_right a (pos n) = Ok (floor_over a (2 ^ n))
 shifted_right a (negsuc n) = Err ValueError
+
+-- `~a` (Python Language Reference 3.14, 6.6): -(a + 1). `negsuc a` is -(a + 1).
+unfoldable pub inverted : ℤ → ℤ
+inverted (pos a) = negsuc a
+inverted (negsuc a) = pos a
+
+-- `a & b`, `a | b` and `a ^ b` (Python Language Reference 3.14, 6.9 "Binary bitwise operations"): bit by bit, in two's complement of 64 bits.
+-- Python's integers have sign bits without end, which those of 64 bits repeat: the answers are the same.
+unfoldable pub bits_and : ℤ → ℤ → ℤ
+bits_and a b = int_bit_and w64 a b
+
+unfoldable pub bits_or : ℤ → ℤ → ℤ
+bits_or a b = int_bit_or w64 a b
+
+unfoldable pub bits_xor : ℤ → ℤ → ℤ
+bits_xor a b = int_bit_xor w64 a b

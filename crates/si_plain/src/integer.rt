@@ -4,6 +4,7 @@ ghost use Rattle.std.specs.Prelude.{◌≡◌, ◌^◌, ◌*ℤ◌, pos, SomeIff
 ghost use Rattle.std.specs.Int.{w64};
 ghost use Rattle.si_plain.specs.Integers.{sum_of, difference_of, product_of, negative_of, floor_over, floor_quotient, floor_remainder};
 ghost use Rattle.si_plain.specs.Integers.{power_of, power_result, shifted_left, shifted_right, DivisionLaw};
+ghost use Rattle.si_plain.specs.Integers.{inverted, bits_and, bits_or, bits_xor};
 ghost use Rattle.si_plain.specs.Integers.{has_other_sign as has_other_sign_lem};
 
 use crate::kind::Kind;
@@ -150,6 +151,34 @@ fn halved(a: i64, n: u64) -> i64
     a >> n.min(63)
 }
 
+/// `~a`.
+pub fn invert(a: i64) -> i64
+    ensures { result ≡ inverted a }
+{
+    -1 - a
+}
+
+/// `a & b`.
+pub fn bit_and(a: i64, b: i64) -> i64
+    ensures { result ≡ bits_and a b }
+{
+    a & b
+}
+
+/// `a | b`.
+pub fn bit_or(a: i64, b: i64) -> i64
+    ensures { result ≡ bits_or a b }
+{
+    a | b
+}
+
+/// `a ^ b`.
+pub fn bit_xor(a: i64, b: i64) -> i64
+    ensures { result ≡ bits_xor a b }
+{
+    a ^ b
+}
+
 /// The law of `//` and `%`: `(a // b) * b + a % b` is `a`, and `a % b` is 0 or has the sign of `b` and a smaller size.
 pub fn division_law()
     ensures { DivisionLaw }
@@ -205,6 +234,23 @@ mod tests {
             assert_eq!(rt; power(a, b), Err(Kind::OverflowError), "{a} ** {b}");
         }
         assert_eq!(rt; power(2, -1), Err(Kind::TypeError));
+    }
+
+    #[test]
+    fn bits(rt: HostRuntime) {
+        for (a, b, both, either, one) in [
+            (12, 10, 8, 14, 6),
+            (-1, 5, 5, -1, -6),
+            (-4, 6, 4, -2, -6),
+            (MIN, -1, MIN, -1, i64::MAX),
+        ] {
+            assert_eq!(rt; bit_and(a, b), both, "{a} & {b}");
+            assert_eq!(rt; bit_or(a, b), either, "{a} | {b}");
+            assert_eq!(rt; bit_xor(a, b), one, "{a} ^ {b}");
+        }
+        for (a, want) in [(0, -1), (5, -6), (-1, 0), (MIN, i64::MAX)] {
+            assert_eq!(rt; invert(a), want, "~{a}");
+        }
     }
 
     #[test]
