@@ -232,8 +232,8 @@ after_turn_further b (Cut s) r' again again' h k g = trans h (after_turn_adds r'
 
 -- a loop, from what is known of its parts
 module _ (b : List Answer) (test test' : Meaning Value) (body body' last last' : Meaning (Unit {0}))
-  (tests : (s : State) → Further b (test s) (test' (more b s))) (bodies : (s : State) → Further b (body s) (body' (more b s))) (lasts : (s : State) → Further b (last s) (last' (more b s)))
-  (test_adds : Adds test') (body_adds : Adds body') (last_adds : Adds last') where
+    (tests : (s : State) → Further b (test s) (test' (more b s))) (bodies : (s : State) → Further b (body s) (body' (more b s))) (lasts : (s : State) → Further b (last s) (last' (more b s)))
+    (test_adds : Adds test') (body_adds : Adds body') (last_adds : Adds last') where
   loop_further : (n m : ℕ) → n ≤ m → (s : State) → Further b (loop n test body last s) (loop m test' body' last' (more b s))
   loop_further zero m fewer s = let g = loop_adds m test' body' last' test_adds body_adds last_adds (more b s) in record { pieces = g.pieces; visits = g.visits }
   loop_further (suc n) zero fewer s = absurd (omega arith)
@@ -265,7 +265,6 @@ module _ (b : List Answer) (active : Option Exception) (n m : ℕ) (fewer : n �
         then_further b _ _ _ _ (expr_further f (visit s))
         (λ g s1. then_further b _ _ _ _ (exprs_further args s1) (λ vs s2. ran_further b (call g vs s2.world) s2) (λ vs s2. ran_adds (call g vs s2.world) s2))
         (λ g s1. both_add s1 (exprs second args s1) _ (exprs_add second args s1) (λ vs s2. ran_adds (call g vs s2.world) s2))
-
     expr_further (Boolean o a c) s = then_further b _ _ _ _ (expr_further a (visit s)) (λ u s1. operands_further o u c s1) (λ u s1. operands_add second o u c s1)
     expr_further (Compare a cs) s = then_further b _ _ _ _ (expr_further a (visit s)) (λ u s1. chain_further u cs s1) (λ u s1. chain_adds second u cs s1)
     expr_further (Conditional a c d) s =
