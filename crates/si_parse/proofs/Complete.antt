@@ -3,14 +3,14 @@ use Rattle.std.proofs.Common.{◌≡◌, ℕ, zero, suc, ◌+◌, ◌-◌, ◌<�
 use Rattle.std.specs.Prelude.{nat_lt, nat_le, if◌then◌else◌}
 use Rattle.std.proofs.lemmas.Bool.Decides.{nat_tests}
 use Rattle.std.proofs.lemmas.List.{append-nil}
-use Rattle.si_semantics.specs.Value.{Nothing, Int, Str, Provided}
-use Rattle.si_semantics.specs.Tree.{BinaryOperator, UnaryOperator, Expr, Constant, Name, Unary, Binary, Call}
+use Rattle.si_semantics.specs.Value.{Nothing, Truth, Int, Str, Provided}
+use Rattle.si_semantics.specs.Tree.{BinaryOperator, UnaryOperator, Expr, Constant, Name, Unary, Binary, Call, Boolean, Compare, Conditional}
 use Rattle.si_semantics.specs.Tree as tree
 use Rattle.si_semantics.specs.Tokens.{Symbol}
 use Rattle.si_semantics.specs.Tokens as token
-use Rattle.si_semantics.specs.Grammar.{Terminal, NAME, NUMBER, STRING, Sign, level_of, left_level, right_level, symbol_of, sign_of, Separated, items_of, exprs_of, Strings, Spells}
+use Rattle.si_semantics.specs.Grammar.{Terminal, NAME, NUMBER, STRING, Sign, level_of, left_level, right_level, symbol_of, sign_of, sign_level, Separated, items_of, exprs_of, Strings, Spells}
 use Rattle.si_parse.specs.Reading.{arguments, continuation_at, strength_of, strength_at, begins_str, Step, then_read, rest_of, after_close, after_comma, Found, Parsed, Parser, with_argument, arguments_from, arguments_by, within, extended_by, continued_by, closed, strings_by, unary_by, bracketed_by, operand_by, expression_at}
-use Rattle.si_parse.proofs.Laws.{strength_gap, right_weaker, right_bound, level_under, role_of_symbol, exprs_of_items}
+use Rattle.si_parse.proofs.Laws.{strength_gap, right_weaker, right_bound, level_under, role_of_symbol, sign_bound, exprs_of_items}
 use Rattle.si_parse.proofs.Lists.{added, Pairwise, separated_complete}
 use Rattle.si_parse.proofs.Steps.{continued_by_step}
 
@@ -47,6 +47,10 @@ module _ (step : Step)
   begins (suc m) l (Constant (Str s)) f (inl h) x = begins_strings s f h.0 h.1 x
   begins (suc m) l (Constant Nothing) f (inl h) x = absurd h
   begins (suc m) l (Constant (Provided b)) f (inl h) x = absurd h
+  begins (suc m) l (Constant (Truth b)) f (inl h) x = absurd h
+  begins (suc m) l (Boolean o a more) f (inl h) x = absurd h
+  begins (suc m) l (Compare a cs) f (inl h) x = absurd h
+  begins (suc m) l (Conditional a b c) f (inl h) x = absurd h
   begins (suc m) l (Unary op a) f (inl h) x = ap (λ t. step (t ++ x)) h.1 ∙ on_sign op (h.0 ++ x)
   begins (suc m) l (Binary op a b) f (inl h) x =
       ap (λ t. step (t ++ x)) h.2 ∙ ap step (append_assoc h.0 (Sign (symbol_of op) ∷ h.1) x) ∙ begins m (left_level op) a h.0 h.4 (Sign (symbol_of op) ∷ (h.1 ++ x))
@@ -58,6 +62,8 @@ module _ (step : Step)
 close_sign : (op : UnaryOperator) (ts : List Terminal) → after_close (Sign (sign_of op) ∷ ts) ≡ None
 close_sign tree.Plus ts = refl
 close_sign tree.Minus ts = refl
+close_sign tree.Invert ts = refl
+close_sign tree.Not ts = refl
 
 not_closed : (m l : ℕ) (e : Expr) (f : List Terminal) → Spells m l e f → (x : List Terminal) → after_close (f ++ x) ≡ None
 not_closed m l e f h x = begins after_close (λ x ts. refl) (λ x ts. refl) (λ x ts. refl) close_sign (λ ts. refl) m l e f h x
@@ -121,7 +127,7 @@ module _ (n : ℕ) (sub : Parser) (complete : IsComplete n sub) where
         let c = collected [] (x ∷ xs) 0 s.0 (omega arith) s.1 in
         (c.0, c.1, ap (arguments_from sub ts) open_yet ∙ s.2 ∙ ap (λ b. Some (b, rest)) c.2)
 
-  module _ (l : ℕ) (low : l ≤ 16) where
+  module _ (l : ℕ) (low : l ≤ 16) (some : 0 < l) where
     -- Reading begins with the tree, and goes on behind it.
     abbrev Run : ℕ → List Terminal → Parsed
     Run k ts = then_read (operand_by sub ts) (λ r. continued_by sub (n + 1) l k r.0 r.1 r.2)
@@ -171,7 +177,7 @@ module _ (n : ℕ) (sub : Parser) (complete : IsComplete n sub) where
         → Reaches (suc m) (Binary op a b) (f ++ Sign (symbol_of op) ∷ g) rest
     binary_reached m le ih level op a b f g rest under ha hb weak plain at =
         let tail = Sign (symbol_of op) ∷ g in
-        let role = role_of_symbol op in
+        let role = role_of_symbol op (omega arith) in
         let strength : strength_at (tail ++ rest) ≡ left_level op = ap strength_of role in
         let higher = level_under op in
         let left = ih (left_level op) a f (tail ++ rest) ha (omega arith) refl (omega arith) in
@@ -202,16 +208,19 @@ module _ (n : ℕ) (sub : Parser) (complete : IsComplete n sub) where
         ∙ within_ok (n + 1) (Call a args) d rest shallow
         )
 
-    operand_of_sign : (op : UnaryOperator) (ts : List Terminal) → operand_by sub (Sign (sign_of op) ∷ ts) ≡ unary_by sub op ts
-    operand_of_sign tree.Plus ts = refl
-    operand_of_sign tree.Minus ts = refl
+    operand_of_sign : (op : UnaryOperator) (ts : List Terminal) → 0 < sign_level op → operand_by sub (Sign (sign_of op) ∷ ts) ≡ unary_by sub op ts
+    operand_of_sign tree.Plus ts h = refl
+    operand_of_sign tree.Minus ts h = refl
+    operand_of_sign tree.Invert ts h = absurd (omega arith)
+    operand_of_sign tree.Not ts h = absurd (omega arith)
 
-    unary_reached : (m : ℕ) → m ≤ n → (level : ℕ) (op : UnaryOperator) (a : Expr) (f rest : List Terminal) → level ≤ 16 → Spells m 16 a f → strength_at rest ≤ level → begins_str rest ≡ false
+    unary_reached : (m : ℕ) → m ≤ n → (level : ℕ) (op : UnaryOperator) (a : Expr) (f rest : List Terminal) → level ≤ sign_level op → Spells m 16 a f → strength_at rest ≤ level → begins_str rest ≡ false → l ≤ level
         → Reaches (suc m) (Unary op a) (Sign (sign_of op) ∷ f) rest
-    unary_reached m le level op a f rest under ha weak plain =
+    unary_reached m le level op a f rest under ha weak plain at =
+        let bound = sign_bound op in
         let inner = complete m 16 a f rest le (omega arith) ha (strength_gap rest (omega arith)) plain in
         starts (suc m) (Unary op a) (Sign (sign_of op) ∷ f) rest (inner.0 + 1) (omega arith) (omega (arith, inner.1))
-        (operand_of_sign op (f ++ rest) ∙ ap (λ r. then_read r (λ r. Some (Unary op r.0, r.1 + 1, r.2))) inner.3)
+        (operand_of_sign op (f ++ rest) (omega arith) ∙ ap (λ r. then_read r (λ r. Some (Unary op r.0, r.1 + 1, r.2))) inner.3)
 
     bracket_reached : (m : ℕ) → m ≤ n → (e : Expr) (f rest : List Terminal) → Spells m 1 e f → Reaches (suc m) e (Sign token.LeftParenthesis ∷ (f ++ Sign token.RightParenthesis ∷ [])) rest
     bracket_reached m le e f rest he =
@@ -237,8 +246,12 @@ module _ (n : ℕ) (sub : Parser) (complete : IsComplete n sub) where
         starts (suc m) (Constant (Str s)) front rest 1 (omega arith) (omega arith) (string_operand sub s front rest h.0 h.1 plain)
     reached (suc m) le level (Constant Nothing) front rest (inl h) weak plain at = absurd h
     reached (suc m) le level (Constant (Provided b)) front rest (inl h) weak plain at = absurd h
+    reached (suc m) le level (Constant (Truth b)) front rest (inl h) weak plain at = absurd h
+    reached (suc m) le level (Boolean o a more) front rest (inl h) weak plain at = absurd h
+    reached (suc m) le level (Compare a cs) front rest (inl h) weak plain at = absurd h
+    reached (suc m) le level (Conditional a b c) front rest (inl h) weak plain at = absurd h
     reached (suc m) le level (Unary op a) front rest (inl h) weak plain at =
-        moved (suc m) (Unary op a) (Sign (sign_of op) ∷ h.0) front rest h.1 (unary_reached m (omega arith) level op a h.0 rest h.2 h.3 weak plain)
+        moved (suc m) (Unary op a) (Sign (sign_of op) ∷ h.0) front rest h.1 (unary_reached m (omega arith) level op a h.0 rest h.2 h.3 weak plain at)
     reached (suc m) le level (Binary op a b) front rest (inl h) weak plain at =
         moved (suc m) (Binary op a b) (h.0 ++ Sign (symbol_of op) ∷ h.1) front rest h.2 (binary_reached m (omega arith) (reached m (omega arith)) level op a b h.0 h.1 rest h.3 h.4 h.5 weak plain at)
     reached (suc m) le level (Call a args) front rest (inl h) weak plain at =
@@ -253,7 +266,7 @@ module _ (n : ℕ) (sub : Parser) (complete : IsComplete n sub) where
 
   expression_read : IsComplete (n + 1) (λ l ts. then_read (operand_by sub ts) (λ r. continued_by sub (n + 1) l (n + 1) r.0 r.1 r.2))
   expression_read m l e front rest le low h weak plain =
-      let r = reached l low m le l e front rest h (omega arith) plain (omega arith) in
+      let r = reached l low (omega arith) m le l e front rest h (omega arith) plain (omega arith) in
       let k = n + 1 - r.1 in
       let turns : n + 1 ≡ r.1 + k = omega (arith, r.2, r.3) in
       let left : 0 < k = omega (arith, r.2, r.3) in (

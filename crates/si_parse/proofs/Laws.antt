@@ -1,10 +1,10 @@
 -- Laws of the grammar: a limit may be raised, and a looser level asked.
 use Rattle.std.proofs.Common.{◌≡◌, ℕ, zero, suc, ◌+◌, ◌<◌, ◌≤◌, List, [], ◌∷◌, ◌++◌, inl, inr, Option, Some, None, refl, sym, ap, subst, arith, add-one}
-use Rattle.si_semantics.specs.Value.{Nothing, Int, Str, Provided}
-use Rattle.si_semantics.specs.Tree.{BinaryOperator, Add, Subtract, Multiply, FloorDivide, Modulo, Power, Expr, Constant, Name, Unary, Binary, Call, Exprs, NoExprs, MoreExprs}
+use Rattle.si_semantics.specs.Value.{Nothing, Truth, Int, Str, Provided}
+use Rattle.si_semantics.specs.Tree.{BinaryOperator, Add, Subtract, Multiply, FloorDivide, Modulo, Power, BitOr, BitXor, BitAnd, ShiftLeft, ShiftRight, UnaryOperator, Plus, Minus, Invert, Not, Expr, Constant, Name, Unary, Binary, Call, Boolean, Compare, Conditional, Exprs, NoExprs, MoreExprs}
 use Rattle.si_semantics.specs.Tokens.{Symbol}
 use Rattle.si_semantics.specs.Tokens as token
-use Rattle.si_semantics.specs.Grammar.{Terminal, Sign, NEWLINE, Language, level_of, left_level, right_level, symbol_of, Following, Separated, items_of, exprs_of, Produces, Spells}
+use Rattle.si_semantics.specs.Grammar.{Terminal, Sign, NEWLINE, Language, level_of, left_level, right_level, symbol_of, sign_level, Following, Separated, items_of, exprs_of, Produces, Spells}
 use Rattle.si_parse.specs.Reading.{Continuation, operator, arguments, nothing, role_of, continuation_at, strength_of, strength_at, then_read, after_close, after_comma, after_semicolon, after_equal, after_newline}
 
 -- ---- lists of items
@@ -32,9 +32,13 @@ produces_mono E F w l (Constant (Int n)) ts h = h
 produces_mono E F w l (Constant (Str s)) ts h = h
 produces_mono E F w l (Constant Nothing) ts h = h
 produces_mono E F w l (Constant (Provided b)) ts h = h
+produces_mono E F w l (Constant (Truth b)) ts h = h
 produces_mono E F w l (Unary op a) ts h = (h.0, h.1, h.2, w 16 a h.0 h.3)
 produces_mono E F w l (Binary op a b) ts h = (h.0, h.1, h.2, h.3, w _ a h.0 h.4, w _ b h.1 h.5)
 produces_mono E F w l (Call a args) ts h = (h.0, h.1, h.2, h.3, w _ a h.0 h.4, separated_mono (E 1) (F 1) token.Comma (w 1) (items_of args) h.1 h.5)
+produces_mono E F w l (Boolean o a more) ts h = h
+produces_mono E F w l (Compare a cs) ts h = h
+produces_mono E F w l (Conditional a b c) ts h = h
 
 produces_looser : (E : Language) (k l : ℕ) (e : Expr) (ts : List Terminal) → k ≤ l → Produces E l e ts → Produces E k e ts
 produces_looser E k l (Name x) ts le h = h
@@ -42,9 +46,13 @@ produces_looser E k l (Constant (Int n)) ts le h = h
 produces_looser E k l (Constant (Str s)) ts le h = h
 produces_looser E k l (Constant Nothing) ts le h = h
 produces_looser E k l (Constant (Provided b)) ts le h = h
+produces_looser E k l (Constant (Truth b)) ts le h = h
 produces_looser E k l (Unary op a) ts le h = (h.0, h.1, omega (arith, h.2), h.3)
 produces_looser E k l (Binary op a b) ts le h = (h.0, h.1, h.2, omega (arith, h.3), h.4, h.5)
 produces_looser E k l (Call a args) ts le h = (h.0, h.1, h.2, omega (arith, h.3), h.4, h.5)
+produces_looser E k l (Boolean o a more) ts le h = h
+produces_looser E k l (Compare a cs) ts le h = h
+produces_looser E k l (Conditional a b c) ts le h = h
 
 pub spells_looser : (n k l : ℕ) (e : Expr) (ts : List Terminal) → k ≤ l → Spells n l e ts → Spells n k e ts
 spells_looser zero k l e ts le h = h
@@ -73,6 +81,11 @@ strength_bound (operator Multiply) = omega arith
 strength_bound (operator FloorDivide) = omega arith
 strength_bound (operator Modulo) = omega arith
 strength_bound (operator Power) = omega arith
+strength_bound (operator BitOr) = omega arith
+strength_bound (operator BitXor) = omega arith
+strength_bound (operator BitAnd) = omega arith
+strength_bound (operator ShiftLeft) = omega arith
+strength_bound (operator ShiftRight) = omega arith
 strength_bound arguments = omega arith
 strength_bound nothing = omega arith
 
@@ -87,6 +100,11 @@ gap (operator Multiply) h = omega arith
 gap (operator FloorDivide) h = omega arith
 gap (operator Modulo) h = omega arith
 gap (operator Power) h = absurd (omega arith)
+gap (operator BitOr) h = omega arith
+gap (operator BitXor) h = omega arith
+gap (operator BitAnd) h = omega arith
+gap (operator ShiftLeft) h = omega arith
+gap (operator ShiftRight) h = omega arith
 gap arguments h = absurd (omega arith)
 gap nothing h = omega arith
 
@@ -101,6 +119,11 @@ right_weaker Multiply ts h = omega arith
 right_weaker FloorDivide ts h = omega arith
 right_weaker Modulo ts h = omega arith
 right_weaker Power ts h = strength_gap ts h
+right_weaker BitOr ts h = omega arith
+right_weaker BitXor ts h = omega arith
+right_weaker BitAnd ts h = omega arith
+right_weaker ShiftLeft ts h = omega arith
+right_weaker ShiftRight ts h = omega arith
 
 -- and the other way round
 pub right_stops : (op : BinaryOperator) (k : ℕ) → k < right_level op → k ≤ level_of op
@@ -110,6 +133,11 @@ right_stops Multiply k h = omega arith
 right_stops FloorDivide k h = omega arith
 right_stops Modulo k h = omega arith
 right_stops Power k h = omega arith
+right_stops BitOr k h = omega arith
+right_stops BitXor k h = omega arith
+right_stops BitAnd k h = omega arith
+right_stops ShiftLeft k h = omega arith
+right_stops ShiftRight k h = omega arith
 
 pub right_bound : (op : BinaryOperator) → right_level op ≤ 16
 right_bound Add = omega arith
@@ -118,6 +146,11 @@ right_bound Multiply = omega arith
 right_bound FloorDivide = omega arith
 right_bound Modulo = omega arith
 right_bound Power = omega arith
+right_bound BitOr = omega arith
+right_bound BitXor = omega arith
+right_bound BitAnd = omega arith
+right_bound ShiftLeft = omega arith
+right_bound ShiftRight = omega arith
 
 pub level_under : (op : BinaryOperator) → level_of op ≤ left_level op
 level_under Add = omega arith
@@ -126,6 +159,11 @@ level_under Multiply = omega arith
 level_under FloorDivide = omega arith
 level_under Modulo = omega arith
 level_under Power = omega arith
+level_under BitOr = omega arith
+level_under BitXor = omega arith
+level_under BitAnd = omega arith
+level_under ShiftLeft = omega arith
+level_under ShiftRight = omega arith
 
 -- an operator that continues an expression of a level is of that level
 pub level_reached : (op : BinaryOperator) (l : ℕ) → l ≤ 16 → l ≤ left_level op → l ≤ level_of op
@@ -135,14 +173,31 @@ level_reached Multiply l le h = h
 level_reached FloorDivide l le h = h
 level_reached Modulo l le h = h
 level_reached Power l le h = omega arith
+level_reached BitOr l le h = h
+level_reached BitXor l le h = h
+level_reached BitAnd l le h = h
+level_reached ShiftLeft l le h = h
+level_reached ShiftRight l le h = h
 
-pub role_of_symbol : (op : BinaryOperator) → role_of (symbol_of op) ≡ operator op
-role_of_symbol Add = refl
-role_of_symbol Subtract = refl
-role_of_symbol Multiply = refl
-role_of_symbol FloorDivide = refl
-role_of_symbol Modulo = refl
-role_of_symbol Power = refl
+pub sign_bound : (op : UnaryOperator) → sign_level op ≤ 16
+sign_bound Plus = omega arith
+sign_bound Minus = omega arith
+sign_bound Invert = omega arith
+sign_bound Not = omega arith
+
+-- an operator that is read at all
+pub role_of_symbol : (op : BinaryOperator) → 0 < level_of op → role_of (symbol_of op) ≡ operator op
+role_of_symbol Add h = refl
+role_of_symbol Subtract h = refl
+role_of_symbol Multiply h = refl
+role_of_symbol FloorDivide h = refl
+role_of_symbol Modulo h = refl
+role_of_symbol Power h = refl
+role_of_symbol BitOr h = absurd (omega arith)
+role_of_symbol BitXor h = absurd (omega arith)
+role_of_symbol BitAnd h = absurd (omega arith)
+role_of_symbol ShiftLeft h = absurd (omega arith)
+role_of_symbol ShiftRight h = absurd (omega arith)
 
 -- ---- what was read
 

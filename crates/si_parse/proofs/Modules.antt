@@ -3,8 +3,8 @@ use Rattle.std.proofs.Common.{◌≡◌, ℕ, zero, suc, ◌+◌, ◌<◌, ◌�
 use Rattle.std.specs.Prelude.{flat_map, option_map}
 use Rattle.std.specs.List.{AllByRecursion}
 use Rattle.std.proofs.lemmas.List.{append-nil, length-map}
-use Rattle.si_semantics.specs.Value.{Nothing, Int, Str, Provided}
-use Rattle.si_semantics.specs.Tree.{UnaryOperator, Expr, Constant, Name, Unary, Binary, Call, Exprs, NoExprs, MoreExprs, Stmt, Evaluate, Assign, Stmts, NoStmts, MoreStmts}
+use Rattle.si_semantics.specs.Value.{Nothing, Truth, Int, Str, Provided}
+use Rattle.si_semantics.specs.Tree.{UnaryOperator, Expr, Constant, Name, Unary, Binary, Call, Boolean, Compare, Conditional, Exprs, NoExprs, MoreExprs, Stmt, Evaluate, Assign, Augment, Pass, If, While, Break, Continue, Stmts, NoStmts, MoreStmts}
 use Rattle.si_semantics.specs.Tree as tree
 use Rattle.si_semantics.specs.Tokens as token
 use Rattle.si_semantics.specs.Grammar.{Terminal, Sign, NEWLINE, ENDMARKER, left_level, right_level, symbol_of, sign_of, Many, Following, Separated, items_of, Spells, max_depth, IsExpression, Small, Simple, stmts_of, Derives, depth_of, depth_of_all, IsShallow}
@@ -35,6 +35,9 @@ from_reads f ts (Constant v) (Some rest) is spelled r h = cc
 from_reads f ts (Unary op a) (Some rest) is spelled r h = cc
 from_reads f ts (Binary op a b) (Some rest) is spelled r h = cc
 from_reads f ts (Call a args) (Some rest) is spelled r h = cc
+from_reads f ts (Boolean o a more) (Some rest) is spelled r h = cc
+from_reads f ts (Compare a cs) (Some rest) is spelled r h = cc
+from_reads f ts (Conditional a b c) (Some rest) is spelled r h = cc
 
 statement_reads : (ts : List Terminal) (r : Stmt × List Terminal) → statement_by (expression_at max_depth) ts ≡ Some r → SmallRead ts r
 statement_reads ts r h =
@@ -58,10 +61,18 @@ statement_complete (Assign x e) f more h ends =
     ap (statement_by (expression_at max_depth)) split
     ∙ ap (λ r. then_read r (λ r. statement_from (expression_at max_depth) r.2 r.0 (after_equal r.2))) c.3
     ∙ ap (λ r. then_read r (λ r. Some (Assign x r.0, r.2))) d.3
+statement_complete (Augment x o e) g more h ends = absurd h
+statement_complete Pass g more h ends = absurd h
+statement_complete (If a b c) g more h ends = absurd h
+statement_complete (While a b c) g more h ends = absurd h
+statement_complete Break g more h ends = absurd h
+statement_complete Continue g more h ends = absurd h
 
 newline_sign : (op : UnaryOperator) (ts : List Terminal) → after_newline (Sign (sign_of op) ∷ ts) ≡ None
 newline_sign tree.Plus ts = refl
 newline_sign tree.Minus ts = refl
+newline_sign tree.Invert ts = refl
+newline_sign tree.Not ts = refl
 
 expression_begins : (e : Expr) (f more : List Terminal) → IsExpression e f → after_newline (f ++ more) ≡ None
 expression_begins e f more h = begins after_newline (λ x ts. refl) (λ x ts. refl) (λ x ts. refl) newline_sign (λ ts. refl) max_depth 1 e f h more
@@ -70,6 +81,12 @@ small_begins : (s : Stmt) (f more : List Terminal) → Small s f → after_newli
 small_begins (Evaluate e) f more h = expression_begins e f more h
 small_begins (Assign x e) f more h =
     ap (λ t. after_newline (t ++ more)) h.2 ∙ ap after_newline (append_assoc h.0 (Sign token.Equal ∷ h.1) more) ∙ expression_begins (Name x) h.0 (Sign token.Equal ∷ (h.1 ++ more)) h.3
+small_begins (Augment x o e) g more h = absurd h
+small_begins Pass g more h = absurd h
+small_begins (If a b c) g more h = absurd h
+small_begins (While a b c) g more h = absurd h
+small_begins Break g more h = absurd h
+small_begins Continue g more h = absurd h
 
 -- ---- a line
 
@@ -141,6 +158,10 @@ some_terminals (suc m) l (Constant (Int i)) f (inl h) = omega (arith, ap length 
 some_terminals (suc m) l (Constant (Str s)) f (inl h) = h.0
 some_terminals (suc m) l (Constant Nothing) f (inl h) = absurd h
 some_terminals (suc m) l (Constant (Provided b)) f (inl h) = absurd h
+some_terminals (suc m) l (Constant (Truth b)) f (inl h) = absurd h
+some_terminals (suc m) l (Boolean o a more) f (inl h) = absurd h
+some_terminals (suc m) l (Compare a cs) f (inl h) = absurd h
+some_terminals (suc m) l (Conditional a b c) f (inl h) = absurd h
 some_terminals (suc m) l (Unary op a) f (inl h) = omega (arith, ap length h.1)
 some_terminals (suc m) l (Binary op a b) f (inl h) = omega (arith, ap length h.2, length-append h.0 (Sign (symbol_of op) ∷ h.1))
 some_terminals (suc m) l (Call a args) f (inl h) = omega (arith, ap length h.2, length-append h.0 (Sign token.LeftParenthesis ∷ (h.1 ++ Sign token.RightParenthesis ∷ [])))
@@ -148,6 +169,12 @@ some_terminals (suc m) l (Call a args) f (inl h) = omega (arith, ap length h.2, 
 small_terminals : (s : Stmt) (f : List Terminal) → Small s f → 0 < length f
 small_terminals (Evaluate e) f h = some_terminals max_depth 1 e f h
 small_terminals (Assign x e) f h = omega (arith, ap length h.2, length-append h.0 (Sign token.Equal ∷ h.1))
+small_terminals (Augment x o e) g h = absurd h
+small_terminals Pass g h = absurd h
+small_terminals (If a b c) g h = absurd h
+small_terminals (While a b c) g h = absurd h
+small_terminals Break g h = absurd h
+small_terminals Continue g h = absurd h
 
 line_terminals : (line : List Stmt) (f : List Terminal) → 0 < length line → Separated Small token.Semicolon line f → 0 < length f
 line_terminals [] f some h = absurd (omega arith)
@@ -224,10 +251,19 @@ bounded (suc n) l (Constant v) f (inl h) = omega arith
 bounded (suc n) l (Unary op a) f (inl h) = omega (arith, bounded n 16 a h.0 h.3)
 bounded (suc n) l (Binary op a b) f (inl h) = omega (arith, bounded n (left_level op) a h.0 h.4, bounded n (right_level op) b h.1 h.5)
 bounded (suc n) l (Call a args) f (inl h) = omega (arith, bounded n 18 a h.0 h.4, arguments_bounded n (bounded n) args h.1 h.5)
+bounded (suc n) l (Boolean o a more) f (inl h) = absurd h
+bounded (suc n) l (Compare a cs) f (inl h) = absurd h
+bounded (suc n) l (Conditional a b c) f (inl h) = absurd h
 
 small_shallow : (s : Stmt) (f : List Terminal) → Small s f → IsShallow s
 small_shallow (Evaluate e) f h = bounded max_depth 1 e f h
 small_shallow (Assign x e) f h = bounded max_depth 1 e h.1 h.4
+small_shallow (Augment x o e) g h = absurd h
+small_shallow Pass g h = absurd h
+small_shallow (If a b c) g h = absurd h
+small_shallow (While a b c) g h = absurd h
+small_shallow Break g h = absurd h
+small_shallow Continue g h = absurd h
 
 following_shallow : (ss : List Stmt) (g : List Terminal) → Following Small token.Semicolon ss g → AllByRecursion IsShallow ss
 following_shallow [] g h = tt

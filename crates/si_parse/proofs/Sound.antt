@@ -9,7 +9,7 @@ use Rattle.si_semantics.specs.Tree.{BinaryOperator, Add, Subtract, Multiply, Flo
 use Rattle.si_semantics.specs.Tree as tree
 use Rattle.si_semantics.specs.Tokens.{Symbol}
 use Rattle.si_semantics.specs.Tokens as token
-use Rattle.si_semantics.specs.Grammar.{Terminal, NAME, NUMBER, STRING, Sign, value_of_int, value_of_str, level_of, left_level, right_level, symbol_of, sign_of, Following, Separated, exprs_of, Strings, Spells}
+use Rattle.si_semantics.specs.Grammar.{Terminal, NAME, NUMBER, STRING, Sign, value_of_int, value_of_str, level_of, left_level, right_level, symbol_of, sign_of, sign_level, Following, Separated, exprs_of, Strings, Spells}
 use Rattle.si_parse.specs.Reading.{continuation_at, strength_at, then_read, rest_of, after_close, after_comma, Found, Parser, Collected, with_argument, arguments_from, arguments_by, within, extended_by, continued_by, closed, strings_by, unary_by, bracketed_by, operand_by, expression_at}
 use Rattle.si_parse.proofs.Laws.{spells_looser, spells_deeper, node, bracketed, strength_at_most, right_stops, right_bound, level_reached, then_read_some, some_inj, after_close_some, after_comma_some, items_of_exprs, separated_mono}
 use Rattle.si_parse.proofs.Lists.{chosen, added, separated_sound}
@@ -147,8 +147,8 @@ module _ (n : ℕ) (sub : Parser) (sound : IsSound n sub) where
       let P : List Terminal → Type 0 = λ l. Begins (Sign token.LeftParenthesis ∷ l) r in
       subst P (sym a.0.split) (closed_reads s.0.0 s.0.1 a.0.front s.0.2 (after_close s.0.2) refl r a.0.spelled a.1 s.2)
 
-  unary_reads : (op : UnaryOperator) (ts : List Terminal) (r : Found) → unary_by sub op ts ≡ Some r → Begins (Sign (sign_of op) ∷ ts) r
-  unary_reads op ts r h =
+  unary_reads : (op : UnaryOperator) → sign_level op ≡ 16 → (ts : List Terminal) (r : Found) → unary_by sub op ts ≡ Some r → Begins (Sign (sign_of op) ∷ ts) r
+  unary_reads op is ts r h =
       let s = then_read_some (sub 16 ts) (λ r. Some (Unary op r.0, r.1 + 1, r.2)) r h in
       let a = sound 16 (omega arith) ts s.0 s.1 in
       let same = some_inj (Unary op s.0.0, s.0.1 + 1, s.0.2) r s.2 in
@@ -193,8 +193,8 @@ module _ (n : ℕ) (sub : Parser) (sound : IsSound n sub) where
   operand_reads (NAME x ∷ ts) r h = name_reads x ts r h
   operand_reads (NUMBER digits ∷ ts) r h = number_reads digits ts r h
   operand_reads (STRING literal ∷ ts) r h = string_reads literal ts r h
-  operand_reads (Sign token.Plus ∷ ts) r h = unary_reads tree.Plus ts r h
-  operand_reads (Sign token.Minus ∷ ts) r h = unary_reads tree.Minus ts r h
+  operand_reads (Sign token.Plus ∷ ts) r h = unary_reads tree.Plus refl ts r h
+  operand_reads (Sign token.Minus ∷ ts) r h = unary_reads tree.Minus refl ts r h
   operand_reads (Sign token.LeftParenthesis ∷ ts) r h = bracketed_reads ts r h
   operand_reads (_ ∷ ts) r h = cc
 
