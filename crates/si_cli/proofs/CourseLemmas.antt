@@ -1,32 +1,35 @@
 -- A machine on the course of interpreter 0, line by line.
-use Rattle.std.proofs.Common.{◌≡◌, ◌∙◌, ◌++◌, ◌+◌, ℕ, List, [], ◌∷◌, Option, Some, None, ap, ap₂, append_assoc, arith, chars, encode_utf8_all, IsUtf8, refl, string_bytes, subst, sym}
+use Rattle.std.proofs.Common.{◌≡◌, ◌∙◌, ◌++◌, ◌+◌, ℕ, List, [], ◌∷◌, Option, Some, None, ap, append_assoc, chars, drop, encode_utf8_all, refl, reverse, slice_get, string_bytes, subst, sym, take}
 use Rattle.std.proofs.lemmas.Str.{chars-nil, chars_from_encodes, encodes-append, IsUtf8-string_bytes}
-use Rattle.si_semantics.specs.Value.{Text}
-use Rattle.si_semantics.specs.World.{Answer}
-use Rattle.si_semantics.specs.Life.{not_read}
-use Rattle.si_semantics.specs.Machine.{At, Calling, Closed, Course, Ending, Place, Stamped, Table, Taking, next, on, stamped, start}
+use Rattle.si_semantics.specs.Value.{Text, Value}
 use Rattle.si_semantics.specs.Tree.{Module}
+use Rattle.si_semantics.specs.World.{Answer, Asked, Gave, Ran, Threw, World, first_world}
+use Rattle.si_semantics.specs.Operations.{call, load_global, operate, operate_unary}
+use Rattle.si_semantics.specs.Life as life
+use Rattle.si_semantics.specs.Life.{not_read}
+use Rattle.si_semantics.specs.Machine.{At, Block, Calling, Closed, Course, Ending, Instr, LoadGlobal, ApplyUnary, ApplyBinary, CallTop, Line, Place, Stamped, Table, Taking, act, fetched, next, on, on_callee, stamped, start, stuck, yields}
 use Rattle.si_semantics.specs.Shows.{joined, standing_of, texts}
 use Rattle.si_compile.specs.Code.{compiled}
+use Rattle.si_compile.specs.Correct.{run_at}
 use Rattle.si_compile.specs.Interpreter.{IsAfter}
 use Rattle.si_compile.proofs.Interpreter.{after_shows, line_keeps}
 use Rattle.si_machine.specs.declared.step.Outcome.{Outcome}
 use Rattle.si_machine.specs.declared.step.Step.TheVariants as step
-use Rattle.si_machine.specs.Machines.{IsAt, IsRunning, Seen, Steps, begun_at, moment_of, next_of}
+use Rattle.si_machine.specs.Machines as machine
+use Rattle.si_machine.specs.Machines.{IsAt, Seen, Steps, from_here, moment_of}
 use Rattle.si_machine.specs.Outcomes.{outcome_of}
 use Rattle.si_cli.specs.declared.interpreter.Standing.{Standing}
 use Rattle.si_cli.specs.declared.interpreter.Standing.TheVariants.{AtEnd, Ready, Starved}
 use Rattle.si_cli.specs.declared.interpreter.Solo.{Solo}
-use Rattle.si_cli.specs.Courses.{HasRun, IsUnderWay, afresh}
+use Rattle.si_cli.specs.Courses.{HasRun, IsUnderWay}
 use Rattle.si_cli.specs.Runs.{ShowsLife, Stands, one_run}
 
--- a line of a course is the same line of the course begun afresh, behind what was run and printed before
+-- a line of a course is the same line from here on, behind what was run and printed before; with the end of a run nothing is printed
 record SameLine (c new other : Course) : Type 0 where
-  pub table : new.table ≡ other.table
-  pub place : new.place ≡ other.place
-  pub world : new.world ≡ other.world
+  pub there : from_here new ≡ from_here other
   pub lines : new.lines ≡ c.lines + 1
   pub printed : texts new.printed ≡ texts c.printed ++ texts other.printed
+  pub ends : (o : life.Outcome) → other.place ≡ Ending o → texts new.printed ≡ texts c.printed
 
 texts_behind : (ts us : List Stamped) → texts (ts ++ us) ≡ texts ts ++ texts us
 texts_behind [] us = refl
@@ -39,14 +42,45 @@ stamped_behind None n k ts = sym (texts_nothing ts) where
   texts_nothing (u ∷ us) = ap (λ l. u.text ∷ l) (texts_nothing us)
 stamped_behind (Some t) n k ts = texts_behind ts (record { text = t; line = n } ∷ [])
 
-same_line : (p : Place) (answers : List Answer) (c : Course) → IsAt p → SameLine c (on compiled p answers c) (on compiled p answers (afresh c))
-same_line (At pc ops slots bs) answers c h = record {
-  table = refl;
-  place = refl;
-  world = refl;
-  lines = refl;
-  printed = stamped_behind _ _ _ c.printed;
-}
+-- a line that ends a run prints nothing
+IsQuiet : Line → Type 0
+IsQuiet l = (o : life.Outcome) → l.place ≡ Ending o → l.out ≡ None
+
+yields_quietly : (r : Ran) (next : ℕ) (ops : List Value) (slots : List (Option Value)) (bs : List Block) → IsQuiet (yields r next ops slots bs)
+unfolding IsQuiet
+yields_quietly (Gave v out w) next ops slots bs = λ o e. absurd cc
+yields_quietly (Threw k a w) next ops slots bs = λ o e. refl
+yields_quietly (Asked r w) next ops slots bs = λ o e. refl
+
+calls_quietly : (below : List Value) (args : List Value) (next : ℕ) (slots : List (Option Value)) (bs : List Block) (w : World) → IsQuiet (on_callee below (λ f rest. yields (call f args w) next rest slots bs) (stuck w))
+unfolding IsQuiet
+calls_quietly [] args next slots bs w = λ o e. refl
+calls_quietly (f ∷ rest) args next slots bs w = λ o e. yields_quietly (call f args w) next rest slots bs o e
+
+acts_quietly : (i : Instr) (next : ℕ) (ops : List Value) (slots : List (Option Value)) (bs : List Block) (w : World) → IsQuiet (act i next ops slots bs w)
+unfolding IsQuiet
+acts_quietly (LoadGlobal x) next ops slots bs w = λ o e. yields_quietly (load_global x w) next ops slots bs o e
+acts_quietly (ApplyUnary op) next (v ∷ ops) slots bs w = λ o e. yields_quietly (operate_unary op v w) next ops slots bs o e
+acts_quietly (ApplyBinary op) next (v ∷ u ∷ ops) slots bs w = λ o e. yields_quietly (operate op u v w) next ops slots bs o e
+acts_quietly (CallTop n) next ops slots bs w = λ o e. calls_quietly (drop n ops) (reverse (take n ops)) next slots bs w o e
+acts_quietly _ next [] slots bs w = λ o e. refl
+acts_quietly _ next (v ∷ []) slots bs w = λ o e. refl
+acts_quietly _ next (v ∷ u ∷ ops) slots bs w = λ o e. refl
+
+fetched_quietly : (i : Option Instr) (pc : ℕ) (ops : List Value) (slots : List (Option Value)) (bs : List Block) (w : World) (o : life.Outcome) → (fetched i pc ops slots bs w).place ≡ Ending o → (fetched i pc ops slots bs w).out ≡ None
+unfolding IsQuiet
+fetched_quietly None pc ops slots bs w o e = refl
+fetched_quietly (Some i) pc ops slots bs w o e = acts_quietly i (pc + 1) ops slots bs w o e
+
+same_line : (p : Place) (answers : List Answer) (c : Course) → IsAt p → SameLine c (on compiled p answers c) (on compiled p answers (from_here c))
+same_line (At pc ops slots bs) answers c h =
+    let i = slice_get c.table.lines pc in
+    record {
+      there = refl;
+      lines = refl;
+      printed = stamped_behind _ _ _ c.printed;
+      ends = λ o e. ap (λ out. texts (stamped out (c.lines + 1) c.printed)) (fetched_quietly i pc ops slots bs c.world o e);
+    }
 same_line (Calling r pc ops slots bs) answers c h = absurd h
 same_line Taking answers c h = absurd h
 same_line (Ending o) answers c h = absurd h
@@ -60,9 +94,6 @@ joined_behind (t ∷ ts) us = ap (λ l. t ++ l) (joined_behind ts us) ∙ sym (a
 bytes_behind : (a b c : List Text) (old : List ℕ) → old ≡ encode_utf8_all (joined a) → c ≡ a ++ b → old ++ encode_utf8_all (joined b) ≡ encode_utf8_all (joined c)
 bytes_behind a b c old o e =
     ap (λ l. l ++ encode_utf8_all (joined b)) o ∙ sym (encodes-append (joined a) (joined b)) ∙ ap encode_utf8_all (sym (joined_behind a b) ∙ ap joined (sym e))
-
-moment_is : (n : Course) (t : Seen) → n.table ≡ t.table → n.place ≡ t.place → n.world ≡ t.world → n.answers ≡ [] → afresh n ≡ moment_of t
-moment_is n t a b c d = cc
 
 at_instruction : (p : Place) → IsAt p → standing_of p ≡ None
 at_instruction (At pc ops slots bs) h = refl
@@ -86,14 +117,13 @@ pub goes_on : (answers : List Answer) (k : ℕ) (s t : Seen) → IsUnderWay answ
 goes_on answers k s t u did =
     let l = next_line answers k s u in
     let after = line_keeps answers u.moment u.after in
-    let is : t ≡ next_of s = did.0 in
     record {
       moment = next compiled u.moment;
       after = after;
       lines = l.lines ∙ ap (λ n. n + 1) u.lines;
-      there = moment_is (next compiled u.moment) t (l.table ∙ sym (ap (λ x. x.table) is)) (l.place ∙ sym (ap (λ x. x.place) is)) (l.world ∙ sym (ap (λ x. x.world) is)) after.used;
-      printed = ap (λ x. x.printed) is ∙ bytes_behind (texts u.moment.printed) (texts (next compiled (moment_of s)).printed) (texts (next compiled u.moment).printed) s.printed u.printed l.printed;
-      runs = record { at = did.1; fed = ap (λ x. x.starved) is ∙ u.runs.fed };
+      there = l.there ∙ sym did.0.moment;
+      printed = did.0.printed ∙ bytes_behind (texts u.moment.printed) (texts (next compiled (moment_of s)).printed) (texts (next compiled u.moment).printed) s.printed u.printed l.printed;
+      runs = record { at = did.1; fed = did.0.fed };
     }
 
 -- one line more, with which the run has ended
@@ -104,8 +134,8 @@ has_ended answers k o s t u did =
       moment = next compiled u.moment;
       after = line_keeps answers u.moment u.after;
       lines = l.lines ∙ ap (λ n. n + 1) u.lines;
-      printed = ap (λ (x : Seen). x.printed) did.1 ∙ bytes_behind (texts u.moment.printed) (texts (next compiled (moment_of s)).printed) (texts (next compiled u.moment).printed) s.printed u.printed l.printed;
-      stands = l.place ∙ did.0;
+      printed = did.1.printed ∙ u.printed ∙ ap (λ ts. encode_utf8_all (joined ts)) (sym (l.ends _ did.0));
+      stands = ap (λ (c : Course). c.place) l.there ∙ did.0;
     }
 
 -- no line more, and memory was refused
@@ -133,14 +163,14 @@ abbrev no_lines : Table
 no_lines = record { lines = [] }
 
 -- a text to run, as its run begins
-pub begins : (m : Module) (s : Seen) → s ≡ begun_at (compiled no_lines m) → IsUnderWay (one_run (Some m)) 0 s
-begins m s is = record {
+pub begins : (m : Module) (s : Seen) → machine.Stands s (run_at (compiled no_lines m) first_world) [] → IsUnderWay (one_run (Some m)) 0 s
+begins m s st = record {
   moment = next compiled (start (one_run (Some m)));
   after = record { moment = 1; is = refl; used = refl };
   lines = refl;
-  there = ap moment_of (sym is);
-  printed = ap (λ x. x.printed) is;
-  runs = let P : Seen → Type 0 = IsRunning in subst P (sym is) (record { at = tt; fed = refl });
+  there = sym st.moment;
+  printed = st.printed;
+  runs = record { at = subst IsAt (sym (ap (λ (c : Course). c.place) st.moment)) tt; fed = st.fed };
 }
 
 -- where a machine has run, the interpreter shows its life

@@ -3,7 +3,6 @@
 ghost use Rattle.std.specs.Prelude.{◌≤◌, ℕ, List, None, Some, IfOk};
 ghost use Rattle.si_semantics.specs.World.{Answer};
 ghost use Rattle.si_parse.specs.Modules.{tree_of};
-ghost use Rattle.si_machine.specs.Machines.{seen};
 ghost use Rattle.si_cli.specs.Courses.{HasRun, IsUnderWay};
 ghost use Rattle.si_cli.specs.Runs.{IsRunOf, ShowsLife, one_run};
 ghost use Rattle.si_cli.specs.Views.{AreUsed, HasUsed};
@@ -69,8 +68,8 @@ pub(crate) fn run_module(alloc: Global, module: &Module, turns: u64) -> Result<S
 fn run(machine: &mut Machine, turns: u64) -> (u64, Standing)
     requires { turns ≤ 1099511627776 }
     ensures used { AreUsed turns result.0 result.1 }
-    ensures ran { (answers : List Answer) → IsUnderWay answers 0 (seen machine.old)
-        → HasRun answers result.0 result.1 (seen machine.new) }
+    ensures ran { (answers : List Answer) → IsUnderWay answers 0 machine.old
+        → HasRun answers result.0 result.1 machine.new }
 {
     for turn in 0..turns {
         match machine.step() {

@@ -1,7 +1,6 @@
 use Rattle.std.proofs.Common.{◌≡◌, ℕ, arith, subst}
 use Rattle.si_cli.proofs.CourseLemmas.{goes_on, has_ended, has_paused, has_starved}
 use Rattle.si_cli.specs.declared.interpreter.Standing.TheVariants.{Ready}
-use Rattle.si_machine.specs.Machines.{seen}
 use Rattle.si_cli.specs.Courses.{HasRun}
 use Rattle.si_cli.proofs.alone.run.Goals as goal
 
@@ -23,5 +22,5 @@ returns-in-Starved-clause-ran c = λ answers begun.
 pub returns-clause-ran : goal.returns-clause-ran
 returns-clause-ran c = λ answers begun.
     let all : c.loop-turn.turn ≡ c.args.turns = omega arith in
-    let P : ℕ → Type 0 = λ count. HasRun answers count Ready (seen c.loop-turn.machine) in
+    let P : ℕ → Type 0 = λ count. HasRun answers count Ready c.loop-turn.machine in
     subst P all (has_paused answers c.loop-turn.turn _ (c.loop-turn.invariant answers begun))
