@@ -1,5 +1,8 @@
 // What a command line asks for.
 
+ghost use Rattle.std.specs.Prelude.{◌≡◌, ◌≤◌};
+ghost use Rattle.si_cli.specs.Service.{turns_of};
+
 use si_plain::Limits;
 
 /// What the words of a command line ask for. A path that is not named stands for standard input.
@@ -17,5 +20,15 @@ impl<'a> Request<'a> {
     pub fn script(&self) -> Option<&'a str> {
         let Request::Serial { script, .. } = self;
         *script
+    }
+
+    /// How many local turns an interpreter has at most.
+    pub fn turns(&self) -> u64
+        ensures value { result ≡ turns_of self.now }
+        ensures most { result ≤ 1099511627776 }
+    {
+        match self {
+            Request::Serial { limits, .. } => limits.turns(),
+        }
     }
 }
