@@ -1,59 +1,9 @@
--- The value of digits, digit by digit.
-use Rattle.std.proofs.Common.{◌≡◌, ℕ, ◌+◌, ◌-◌, ◌*◌, ◌<◌, ◌≤◌, List, [], ◌∷◌, ◌++◌, append_assoc, ◌⊎◌, inl, inr, length, drop, get_or, Option, Some, None, Bool, true, false, refl, sym, ap, ◌∙◌, arith, add-one, pos}
-use Rattle.std.specs.Prelude.{option_map, option_and_then, nat_eq, nat_le, ◌&&◌, if◌then◌else◌}
+-- The value of a str literal, character by character.
+use Rattle.std.proofs.Common.{◌≡◌, ℕ, List, [], ◌∷◌, ◌++◌, append_assoc, length, Option, Some, None, Bool, true, false, refl, sym, ap, ◌∙◌, arith}
+use Rattle.std.specs.Prelude.{option_map, option_and_then, nat_eq, if◌then◌else◌}
 use Rattle.std.specs.Str.{chars}
-use Rattle.std.proofs.Math.Seq.{drop-cons}
 use Rattle.std.proofs.lemmas.Bool.Decides.{nat_tests}
-use Rattle.si_semantics.specs.Grammar.{max_int, number_after, in_range, value_of_int, escape_of, ended, escaped, unquoted, quoted, value_of_str}
-
-abbrev is_digit : ℕ → Bool
-is_digit c = nat_le 48 c && nat_le c 57
-
-digit_test : (c : ℕ) → 48 ≤ c → c ≤ 57 → is_digit c ≡ true
-digit_test c low high = grind (arith, nat_tests)
-
-no_digit_test : (c : ℕ) → (c < 48) ⊎ (57 < c) → is_digit c ≡ false
-no_digit_test c (inl h) = grind (arith, nat_tests)
-no_digit_test c (inr h) = grind (arith, nat_tests)
-
-split : (n i : ℕ) (digits : List ℕ) (d : ℕ) → i < length digits
-    → number_after n (drop i digits) ≡ (if is_digit (get_or digits i d) then number_after (n * 10 + (get_or digits i d - 48)) (drop (i + 1) digits) else None)
-split n i digits d h =
-    ap (number_after n) (drop-cons digits i d h)
-    ∙ ap (λ k. if is_digit (get_or digits i d) then number_after (n * 10 + (get_or digits i d - 48)) (drop k digits) else None) (sym (add-one i))
-
-pub next_digit : (n i : ℕ) (digits : List ℕ) (d : ℕ) → i < length digits → 48 ≤ get_or digits i d → get_or digits i d ≤ 57
-    → number_after n (drop i digits) ≡ number_after (n * 10 + (get_or digits i d - 48)) (drop (i + 1) digits)
-next_digit n i digits d h low high =
-    split n i digits d h
-    ∙ ap (λ b. if b then number_after (n * 10 + (get_or digits i d - 48)) (drop (i + 1) digits) else None) (digit_test (get_or digits i d) low high)
-
-pub no_digit : (n i : ℕ) (digits : List ℕ) (d : ℕ) → i < length digits → (get_or digits i d < 48) ⊎ (57 < get_or digits i d) → number_after n (drop i digits) ≡ None
-no_digit n i digits d h out =
-    split n i digits d h
-    ∙ ap (λ b. if b then number_after (n * 10 + (get_or digits i d - 48)) (drop (i + 1) digits) else None) (no_digit_test (get_or digits i d) out)
-
-past : (n : ℕ) → max_int < n → nat_le n max_int ≡ false
-past n h = grind (arith, nat_tests)
-
--- a value that is too large stays too large
-pub too_large : (n : ℕ) (digits : List ℕ) → max_int < n → in_range (number_after n digits) ≡ None
-too_large n [] h = ap (λ b. if b then Some (pos n) else None) (past n h)
-too_large n (c ∷ cs) h =
-    elim (is_digit c) as (λ b. in_range (if b then number_after (n * 10 + (c - 48)) cs else None) ≡ None) [ true ↦ too_large (n * 10 + (c - 48)) cs (omega arith) | false ↦ refl ]
-
-pub value_none : (digits : List ℕ) → in_range (number_after 0 digits) ≡ None → value_of_int digits ≡ None
-value_none digits h = elim (nat_eq (length digits) 0) as (λ b. (if b then None else in_range (number_after 0 digits)) ≡ None) [ true ↦ refl | false ↦ h ]
-
-some_digits : (k : ℕ) → 0 < k → nat_eq k 0 ≡ false
-some_digits k h = grind (arith, nat_tests)
-
-low_enough : (n : ℕ) → n ≤ max_int → nat_le n max_int ≡ true
-low_enough n h = grind (arith, nat_tests)
-
-pub value_some : (digits : List ℕ) (n : ℕ) → 0 < length digits → number_after 0 digits ≡ Some n → n ≤ max_int → value_of_int digits ≡ Some (pos n)
-value_some digits n some is low =
-    ap (λ b. if b then None else in_range (number_after 0 digits)) (some_digits (length digits) some) ∙ ap in_range is ∙ ap (λ b. if b then Some (pos n) else None) (low_enough n low)
+use Rattle.si_semantics.specs.Grammar.{escape_of, ended, escaped, unquoted, quoted, value_of_str}
 
 same_test : (a b : ℕ) → a ≡ b → nat_eq a b ≡ true
 same_test a b h = grind (arith, nat_tests)

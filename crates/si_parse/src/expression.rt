@@ -8,11 +8,11 @@ ghost use Rattle.si_parse.specs.Reading.{role_of, continuation_at, strength_of, 
 ghost use Rattle.si_parse.specs.Gives.{Gives, from, continuation_view};
 
 use crate::fault::ParseFault;
-use crate::literal::{int_value, str_value};
+use crate::literal::str_value;
 use crate::lookahead::{after_arguments, after_close, after_comma, line_at, token_at};
 use crate::syntax::{BinaryOperator, Expr, UnaryOperator};
 use si_plain::Text;
-use si_token::{Symbol, Token, TokenKind};
+use si_token::{Symbol, Token, TokenKind, int_value};
 use std::alloc::Global;
 
 // An expression with its depth, and the place behind it.

@@ -1,37 +1,12 @@
-// The values of literals.
+// The value of a str literal.
 
 ghost use Rattle.std.specs.Prelude.{◌≡◌};
-ghost use Rattle.si_semantics.specs.Grammar.{value_of_int, escape_of, value_of_str};
+ghost use Rattle.si_semantics.specs.Grammar.{escape_of, value_of_str};
 ghost use Rattle.si_parse.specs.Gives.{Gives};
 
 use crate::fault::ParseFault;
 use si_plain::Text;
 use std::alloc::Global;
-
-// The greatest value of an integer literal.
-const MAX_INT: u64 = 9_223_372_036_854_775_807;
-
-// The value of decimal digits, where there is one and it is at most 9223372036854775807.
-pub(crate) fn int_value(digits: &[u8]) -> Option<i64>
-    ensures { result ≡ value_of_int digits.now }
-{
-    if digits.is_empty() {
-        return None;
-    }
-    let mut value: u64 = 0;
-    for byte in digits {
-        let byte = *byte;
-        if byte < b'0' || b'9' < byte {
-            return None;
-        }
-        let digit = u64::from(byte - b'0');
-        if (MAX_INT - digit) / 10 < value {
-            return None;
-        }
-        value = value * 10 + digit;
-    }
-    Some(value as i64)
-}
 
 // The character that an escape stands for, by the one behind its backslash.
 pub(crate) fn escape_value(letter: char) -> Option<char>

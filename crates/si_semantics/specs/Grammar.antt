@@ -1,11 +1,12 @@
 -- The grammar: which tokens derive which tree (Python Language Reference 3.14, 6, 7 and 10).
 -- Each rule stands in the line above its production, in the notation of the reference.
-use Rattle.std.specs.Prelude.{◌≡◌, ℕ, zero, suc, ◌+◌, ◌-◌, ◌*◌, ◌<◌, ◌≤◌, max, ℤ, pos, ◌&&◌, ◌||◌, List, [], ◌∷◌, ◌++◌, length, flat_map, chars, ◌⊎◌, Option, Some, None, option_map, option_and_then, nat_eq, nat_le, if◌then◌else◌}
+use Rattle.std.specs.Prelude.{◌≡◌, ℕ, zero, suc, ◌+◌, ◌<◌, ◌≤◌, max, ◌||◌, List, [], ◌∷◌, ◌++◌, length, flat_map, chars, ◌⊎◌, Option, Some, None, option_map, option_and_then, nat_eq, if◌then◌else◌}
 use Rattle.si_semantics.specs.Value.{Text, Nothing, Truth, Int, Str, Provided}
 use Rattle.si_semantics.specs.Tree.{BinaryOperator, Add, Subtract, Multiply, FloorDivide, Modulo, Power, BitOr, BitXor, BitAnd, ShiftLeft, ShiftRight, UnaryOperator, Expr, Constant, Name, Unary, Binary, Call, Boolean, Compare, Conditional, Exprs, NoExprs, MoreExprs, Comparisons, NoComparisons, MoreComparisons, Stmt, Evaluate, Assign, Augment, Pass, If, While, Break, Continue, Stmts, NoStmts, MoreStmts}
 use Rattle.si_semantics.specs.Tree as tree
 use Rattle.si_semantics.specs.Tokens.{Symbol, Keyword, TokenKind, Token}
 use Rattle.si_semantics.specs.Tokens as token
+pub use Rattle.si_semantics.specs.Literals.{value_of_int}
 
 -- ---- terminals
 
@@ -36,23 +37,6 @@ abbrev pub terminal_of : Token → Terminal
 terminal_of t = terminal t.kind t.text
 
 -- ---- literals
-
--- the greatest value of an integer literal (this project's own)
-abbrev pub max_int : ℕ
-max_int = 9223372036854775807
-
--- the number that decimal digits (48 to 57) write when they follow those of n
-abbrev pub number_after : ℕ → List ℕ → Option ℕ
-number_after n [] = Some n
-number_after n (c ∷ cs) = if nat_le 48 c && nat_le c 57 then number_after (n * 10 + (c - 48)) cs else None
-
-abbrev pub in_range : Option ℕ → Option ℤ
-in_range None = None
-in_range (Some n) = if nat_le n max_int then Some (pos n) else None
-
--- the value of an integer literal (2.4.4), which has a digit
-abbrev pub value_of_int : List ℕ → Option ℤ
-value_of_int digits = if nat_eq (length digits) 0 then None else in_range (number_after 0 digits)
 
 -- what an escape stands for, by the character behind its backslash: `\\`, `\'` and `\"` for that one, `\n` (110) for LF (2.4.1.1)
 abbrev pub escape_of : ℕ → Option ℕ

@@ -11,6 +11,8 @@ pub mod Shows
 pub mod Report
 pub mod Cases
 pub mod Laws
+pub mod Literals
+pub mod LiteralCases
 pub mod Grammar
 pub mod Words
 pub mod Layout

@@ -1,8 +1,10 @@
 -- The words of a text, blanks, comments and line ends among them (Python Language Reference 3.14, "Lexical analysis").
 -- A byte stands for its code. Which letters, numbers, literals and escapes there are is this project's own choice among
 -- Python's, and so is the range of integers.
-use Rattle.std.specs.Prelude.{◌≡◌, ℕ, ◌+◌, ◌-◌, ◌*◌, ◌<◌, ◌==◌, ◌&&◌, ◌||◌, not, List, [], ◌∷◌, ◌++◌, ◌⊎◌, length, Bool, true, false, Option, Some, None, nat_le, codes, if◌then◌else◌}
-use Rattle.std.specs.List.{AllByRecursion, list_all}
+use Rattle.std.specs.Prelude.{◌≡◌, ℕ, ◌<◌, ◌==◌, ◌&&◌, ◌||◌, not, List, [], ◌∷◌, ◌++◌, ◌⊎◌, length, Bool, true, false, Option, Some, None, nat_le, codes, if◌then◌else◌}
+use Rattle.std.specs.List.{AllByRecursion}
+use Rattle.std.specs.Option.{is_some}
+use Rattle.si_semantics.specs.Literals.{value_of_int}
 use Rattle.si_semantics.specs.Tokens as tokens
 use Rattle.si_semantics.specs.Tokens.{Symbol, Keyword}
 
@@ -129,7 +131,7 @@ line_ends = (10 ∷ []) ∷ (13 ∷ 10 ∷ []) ∷ (13 ∷ []) ∷ []
 -- which bytes are a word
 abbrev pub IsWord : Sort → List ℕ → Type 0
 IsWord Name w = IsRun begins_name continues_name w
-IsWord Int w = IsRun is_digit is_digit w
+IsWord Int w = IsRun is_digit continues_name w
 IsWord Text w = IsText w
 IsWord Operator w = (s : Symbol) × (spelled symbols w ≡ Some s)
 IsWord Spaces w = IsRun is_space is_space w
@@ -143,20 +145,14 @@ IsLongest w rest = (more after : List ℕ) (k : Sort) → 0 < length more → re
 
 -- ---- what is refused
 
--- the number that these digits write behind n
-abbrev pub decimal_from : ℕ → List ℕ → ℕ
-decimal_from n [] = n
-decimal_from n (d ∷ ds) = decimal_from (n * 10 + (d - 48)) ds
-
--- A number has no zero before other digits ("Integer literals"), and is at most 9223372036854775807.
+-- A number has a value ("Integer literals").
 abbrev pub is_number : List ℕ → Bool
-is_number [] = false
-is_number (d ∷ ds) = if d == 48 then list_all (λ b. b == 48) ds else nat_le (decimal_from 0 (d ∷ ds)) 9223372036854775807
+is_number w = is_some (value_of_int w)
 
--- no letter, digit, `_` or point follows
+-- no point follows
 abbrev pub is_apart : List ℕ → Bool
 is_apart [] = true
-is_apart (b ∷ bs) = not (continues_name b || (b == 46))
+is_apart (b ∷ bs) = not (b == 46)
 
 -- Behind two quotes no third one follows: three always open a literal in three quotes.
 abbrev pub is_closed : List ℕ → List ℕ → Bool

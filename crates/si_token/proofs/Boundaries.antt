@@ -28,8 +28,8 @@ run_last first p small is (b ∷ w) h = each_last p small (b ∷ w) (is b h.0, h
 small_name : (b : ℕ) → continues_name b ≡ true → b < 128
 small_name b h = grind (arith, nat_tests)
 
-small_digit : (b : ℕ) → is_digit b ≡ true → b < 128
-small_digit b h = grind (arith, nat_tests)
+digit_in : (b : ℕ) → is_digit b ≡ true → continues_name b ≡ true
+digit_in b h = grind (arith, nat_tests)
 
 small_space : (b : ℕ) → is_space b ≡ true → b < 128
 small_space b h = grind (arith, nat_tests)
@@ -82,7 +82,7 @@ no_comment _ = Unit {0}
 
 word_last : (k : Sort) (w : List ℕ) → no_comment k → IsWord k w → last w < 128
 word_last Name w u h = run_last begins_name continues_name small_name name_in w h
-word_last Int w u h = run_last is_digit is_digit small_digit (λ b e. e) w h
+word_last Int w u h = run_last is_digit continues_name small_name digit_in w h
 word_last Text w u h = text_last w h
 word_last Operator w u h = symbol_last w h.0 h.1
 word_last Spaces w u h = run_last is_space is_space small_space (λ b e. e) w h

@@ -1,4 +1,4 @@
-pub mod Decimals
+pub mod Digits
 pub mod Runs
 pub mod Spellings
 pub mod Boundaries

@@ -387,9 +387,12 @@ run_front first p b bs n f h e =
 hash_in : (b : ℕ) → is_hash b ≡ true → in_comment b ≡ true
 hash_in b h = ap in_comment (eqb-true b 35 h)
 
+digit_in : (b : ℕ) → is_digit b ≡ true → continues_name b ≡ true
+digit_in b h = grind (arith, nat_tests)
+
 pub front : (k : Sort) (b : ℕ) (bs : List ℕ) (n : ℕ) → sort_at b ≡ k → length_of k (b ∷ bs) ≡ Some n → Front k (b ∷ bs) n
 front Name b bs n s h = let t = test_of Name b s in run_front begins_name continues_name b bs n t (or_true (begins_name b) (is_digit b) t) h
-front Int b bs n s h = let t = test_of Int b s in run_front is_digit is_digit b bs n t t h
+front Int b bs n s h = let t = test_of Int b s in run_front is_digit continues_name b bs n t (digit_in b t) h
 front Spaces b bs n s h = let t = test_of Spaces b s in run_front is_space is_space b bs n t t h
 front Tabs b bs n s h = let t = test_of Tabs b s in run_front is_tab is_tab b bs n t t h
 front Comment b bs n s h = let t = test_of Comment b s in run_front is_hash in_comment b bs n t (hash_in b t) h
@@ -416,7 +419,7 @@ nonempty k w h = by w (sort_first k w h)
 
 reaches : (k : Sort) (w rest : List ℕ) → IsWord k w → AtLeast (length_of k (w ++ rest)) (length w)
 reaches Name w rest h = (prefix_len continues_name (w ++ rest), refl, run_reaches begins_name continues_name w rest (λ b t. or_true (begins_name b) (is_digit b) t) h)
-reaches Int w rest h = (prefix_len is_digit (w ++ rest), refl, run_reaches is_digit is_digit w rest (λ b t. t) h)
+reaches Int w rest h = (prefix_len continues_name (w ++ rest), refl, run_reaches is_digit continues_name w rest digit_in h)
 reaches Spaces w rest h = (prefix_len is_space (w ++ rest), refl, run_reaches is_space is_space w rest (λ b t. t) h)
 reaches Tabs w rest h = (prefix_len is_tab (w ++ rest), refl, run_reaches is_tab is_tab w rest (λ b t. t) h)
 reaches Comment w rest h = (prefix_len in_comment (w ++ rest), refl, run_reaches is_hash in_comment w rest hash_in h)

@@ -62,7 +62,7 @@ line_end_length (a ∷ (b ∷ bs)) = if (a == 13) && (b == 10) then 2 else 1
 
 abbrev pub length_of : Sort → List ℕ → Option ℕ
 length_of Name bs = Some (prefix_len continues_name bs)
-length_of Int bs = Some (prefix_len is_digit bs)
+length_of Int bs = Some (prefix_len continues_name bs)
 length_of Text bs = text_length bs
 length_of Operator bs = symbol_length bs
 length_of Spaces bs = Some (prefix_len is_space bs)

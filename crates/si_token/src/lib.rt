@@ -4,19 +4,21 @@
 // comments and line ends between them. The layout then makes tokens of words: blanks and comments make none, a
 // line end makes one behind a token and outside brackets.
 //
-// `tokens` is the one public call. It answers the one list of tokens that the definition allows (`HasTokens` of
+// `tokens` answers the one list of tokens that the definition allows (`HasTokens` of
 // si_semantics), each a slice of the source, in order; `BadText` says that there is none.
 //
-// Read: `token` (what a token is), `symbols` and `keywords` (the spellings), `words` (the word at the front),
-// `scan` (the layout, and the loop over the text).
+// Read: `token` (what a token is), `symbols` and `keywords` (the spellings), `numbers` (the values of
+// integer literals), `words` (the word at the front), `scan` (the layout, and the loop over the text).
 #![tactic(auto)]
 
 mod keywords;
+pub mod numbers;
 mod scan;
 mod symbols;
 pub mod token;
 mod words;
 
+pub use numbers::int_value;
 pub use scan::{TokenFault, tokens};
 pub use token::{Keyword, Span, Symbol, Token, TokenKind};
 

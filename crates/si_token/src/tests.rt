@@ -2,7 +2,7 @@
 
 use crate::token::TokenKind::{End, Int, Name, Newline, Str};
 use crate::token::{Keyword, Symbol, TokenKind};
-use crate::{TokenFault, tokens};
+use crate::{TokenFault, int_value, tokens};
 use std::process::Abort;
 
 fn expect(rt: &(impl Abort + AllocGlobal), text: &str, wanted: &[(TokenKind, &str)]) {
@@ -150,12 +150,79 @@ fn words(rt: HostRuntime) {
 }
 
 #[test]
+fn numbers(rt: HostRuntime) {
+    expect(
+        &rt,
+        "1_0 0x_Ff 0O17 0b1_0 0_0+0",
+        &[
+            (Int, "1_0"),
+            (Int, "0x_Ff"),
+            (Int, "0O17"),
+            (Int, "0b1_0"),
+            (Int, "0_0"),
+            (sign(Symbol::Plus), "+"),
+            (Int, "0"),
+            (Newline, ""),
+            (End, ""),
+        ],
+    );
+}
+
+#[test]
+fn values_of_numbers(rt: HostRuntime) {
+    let known = [
+        ("0", 0),
+        ("00_0", 0),
+        ("12_345", 12_345),
+        ("0xFf_e", 4094),
+        ("0X_7f", 127),
+        ("0o17", 15),
+        ("0O_7_7", 63),
+        ("0B1_01", 5),
+        ("9223372036854775807", i64::MAX),
+        ("0x7fff_ffff_ffff_ffff", i64::MAX),
+    ];
+    for (literal, value) in known {
+        assert_eq!(rt; int_value(literal.as_bytes()), Some(value), "{literal:?}");
+    }
+    for literal in [
+        "",
+        "_1",
+        "1_",
+        "1__0",
+        "01",
+        "0_1",
+        "0x",
+        "0x_",
+        "0_x1",
+        "0x__1",
+        "0b2",
+        "0o8",
+        "0xg",
+        "1a",
+        "0x10000000000000000",
+        "9223372036854775808",
+    ] {
+        assert_eq!(rt; int_value(literal.as_bytes()), None, "{literal:?}");
+    }
+}
+
+#[test]
 fn refused(rt: HostRuntime) {
     for text in [
         "1a",
         "1.",
-        "1_0",
+        "1_",
+        "1__0",
         "007",
+        "0_7",
+        "0x",
+        "0x_",
+        "0b2",
+        "0o_8",
+        "1if",
+        "0x1g",
+        "0x8000_0000_0000_0000",
         "9223372036854775808",
         "'a",
         "'a\n'",

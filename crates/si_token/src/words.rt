@@ -1,16 +1,14 @@
 // The word at the front of a text.
 
-ghost use Rattle.std.specs.Prelude.{◌≡◌, ◌||◌, ◌==◌, ◌-◌, not, nat_le};
-ghost use Rattle.std.specs.List.{prefix_len, list_all};
+ghost use Rattle.std.specs.Prelude.{◌≡◌, ◌||◌, ◌==◌, ◌-◌, not};
+ghost use Rattle.std.specs.List.{prefix_len};
 ghost use Rattle.std.specs.Option.{option_map};
-ghost use Rattle.si_semantics.specs.Words.{continues_name, begins_name, in_comment, is_digit, is_escape, is_number, is_apart, is_closed, is_allowed, decimal_from};
+ghost use Rattle.si_semantics.specs.Words.{continues_name, begins_name, in_comment, is_digit, is_escape, is_number, is_apart, is_closed, is_allowed};
 ghost use Rattle.si_token.specs.Reading.{sort_at, text_length, line_end_length, length_of, word_at};
 ghost use Rattle.si_token.specs.Views.{sort_of, word_of};
 
+use crate::numbers::int_value;
 use crate::symbols::symbol_length;
-
-/// The greatest value of an integer literal.
-pub const MAX_INT: u64 = 9_223_372_036_854_775_807;
 
 /// What a word of a text is.
 #[derive(Clone, Copy, Debug, PartialEq, Eq)]
@@ -38,7 +36,7 @@ fn is_digit(b: u8) -> bool
     b.is_ascii_digit()
 }
 
-// What a name may hold behind its first byte.
+// What a name or a number may hold behind its first byte.
 fn continues_name(b: u8) -> bool
     ensures { result ≡ continues_name b }
 {
@@ -79,16 +77,11 @@ fn sort_at(first: u8) -> Sort
     }
 }
 
+// The length of a name or a number.
 fn name_length(bytes: &[u8]) -> usize
     ensures { result ≡ prefix_len continues_name bytes.now }
 {
     bytes.iter().take_while(|b| continues_name(**b)).count()
-}
-
-fn digits_length(bytes: &[u8]) -> usize
-    ensures { result ≡ prefix_len is_digit bytes.now }
-{
-    bytes.iter().take_while(|b| is_digit(**b)).count()
 }
 
 fn comment_length(bytes: &[u8]) -> usize
@@ -144,8 +137,7 @@ fn length_of(sort: Sort, bytes: &[u8]) -> Option<usize>
     ensures { result ≡ length_of (sort_of sort) bytes.now }
 {
     match sort {
-        Sort::Name => Some(name_length(bytes)),
-        Sort::Int => Some(digits_length(bytes)),
+        Sort::Name | Sort::Int => Some(name_length(bytes)),
         Sort::Text => text_length(bytes),
         Sort::Operator => symbol_length(bytes),
         Sort::Spaces => Some(repeated_length(bytes, b' ')),
@@ -155,44 +147,19 @@ fn length_of(sort: Sort, bytes: &[u8]) -> Option<usize>
     }
 }
 
-// Whether the value of these decimal digits is at most 9223372036854775807.
-fn fits(digits: &[u8]) -> bool
-    ensures { result ≡ nat_le (decimal_from 0 digits.now) MAX_INT }
+// A number has a value.
+fn is_number(word: &[u8]) -> bool
+    ensures { result ≡ is_number word.now }
 {
-    let mut value = 0u64;
-    for d in digits {
-        let digit = d.saturating_sub(b'0') as u64;
-        if value > (MAX_INT - digit) / 10 {
-            return false;
-        }
-        value = value * 10 + digit;
-    }
-    true
+    int_value(word).is_some()
 }
 
-fn are_zeros(digits: &[u8]) -> bool
-    ensures { result ≡ list_all (λ b. b == 48) digits.now }
-{
-    digits.iter().all(|d| *d == b'0')
-}
-
-// A number has no zero before other digits.
-fn is_number(digits: &[u8]) -> bool
-    ensures { result ≡ is_number digits.now }
-{
-    match digits {
-        [] => false,
-        [b'0', rest @ ..] => are_zeros(rest),
-        _ => fits(digits),
-    }
-}
-
-// No letter, digit, `_` or point follows.
+// No point follows.
 fn is_apart(rest: &[u8]) -> bool
     ensures { result ≡ is_apart rest.now }
 {
     match rest {
-        [next, ..] => !(continues_name(*next) || *next == b'.'),
+        [next, ..] => *next != b'.',
         [] => true,
     }
 }
