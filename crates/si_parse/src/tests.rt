@@ -88,7 +88,44 @@ fn calls_take_a_trailing_comma(rt: HostRuntime) -> Result<(), Fail> {
         shown(alloc, "(x) = 1")?.as_str(),
         "[Assign(\"x\", Int(1))]"
     );
-    assert_eq!(rt; shown(alloc, "")?.as_str(), "[]");
+    Ok(())
+}
+
+#[test]
+fn a_line_ends_in_lf_cr_or_cr_lf_and_the_last_one_may_lack_it(rt: HostRuntime) -> Result<(), Fail> {
+    let alloc = rt.alloc();
+    for text in [
+        "x = 1\nf(x)\n",
+        "x = 1\rf(x)\r",
+        "x = 1\r\nf(x)\r\n",
+        "x = 1\nf(x)",
+        "x = 1; f(x)",
+        "x = 1; f(x);\n",
+        "x = 1;\nf(x);",
+        "x = 1 # one; two\nf(x) # (",
+        "\n  # first\nx = 1\n\n \t\nf( # here\n  x)\n",
+    ] {
+        assert_eq!(rt;
+            shown(alloc, text)?.as_str(),
+            "[Assign(\"x\", Int(1)), Evaluate(Call(Name(\"f\"), [Name(\"x\")]))]",
+            "{text:?}"
+        );
+    }
+    for text in ["", "\n", "# x", " \t"] {
+        assert_eq!(rt; shown(alloc, text)?.as_str(), "[]", "{text:?}");
+    }
+    Ok(())
+}
+
+#[test]
+fn the_greatest_integer_is_read_and_none_above_it(rt: HostRuntime) -> Result<(), Fail> {
+    let alloc = rt.alloc();
+    assert_eq!(rt;
+        shown(alloc, "9223372036854775807")?.as_str(),
+        "[Evaluate(Int(9223372036854775807))]"
+    );
+    assert!(rt; is_refused(alloc, "9223372036854775808"));
+    assert!(rt; is_refused(alloc, "-9223372036854775808"));
     Ok(())
 }
 
@@ -105,18 +142,47 @@ fn literals_beside_each_other_are_joined(rt: HostRuntime) -> Result<(), Fail> {
 #[test]
 fn texts_outside_the_grammar_are_refused(rt: HostRuntime) -> Result<(), Fail> {
     let alloc = rt.alloc();
-    assert!(rt; is_refused(alloc, "a = b = 1"));
-    assert!(rt; is_refused(alloc, "x + 1 = 2"));
-    assert!(rt; is_refused(alloc, "if"));
-    assert!(rt; is_refused(alloc, ";"));
-    assert!(rt; is_refused(alloc, "x;;"));
-    assert!(rt; is_refused(alloc, "()"));
-    assert!(rt; is_refused(alloc, "f(,)"));
-    assert!(rt; is_refused(alloc, "f(1 2)"));
-    assert!(rt; is_refused(alloc, "a, b"));
-    assert!(rt; is_refused(alloc, "x.y"));
-    assert!(rt; is_refused(alloc, "(x"));
-    assert!(rt; is_refused(alloc, "x 'a'"));
+    for text in [
+        "a = b = 1",
+        "x + 1 = 2",
+        "1 = x",
+        "f() = 1",
+        "x =",
+        "if",
+        "class = 1",
+        "None = 1",
+        "f(if)",
+        ";",
+        "; x",
+        "x;;",
+        "x y",
+        "()",
+        "f(,)",
+        "f(1 2)",
+        "f(1,, 2)",
+        "a, b",
+        "x.y",
+        "(x",
+        "x)",
+        "(x]",
+        "f(1",
+        "2 +",
+        "* 2",
+        "x 'a'",
+    ] {
+        assert!(rt; is_refused(alloc, text), "{text:?}");
+    }
+    Ok(())
+}
+
+#[test]
+fn texts_without_tokens_are_refused(rt: HostRuntime) -> Result<(), Fail> {
+    let alloc = rt.alloc();
+    for text in [
+        "1a", "1if", "007", "'a", "'a\n'", "\"a'", "'\\t'", "'''a'''", "x $ y", "x\u{0}",
+    ] {
+        assert!(rt; is_refused(alloc, text), "{text:?}");
+    }
     Ok(())
 }
 

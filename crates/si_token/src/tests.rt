@@ -90,7 +90,7 @@ fn spans(rt: HostRuntime) {
 }
 
 #[test]
-fn words(rt: HostRuntime) {
+fn names_and_operators(rt: HostRuntime) {
     expect(
         &rt,
         "x=1;y\t= 2",
@@ -121,6 +121,10 @@ fn words(rt: HostRuntime) {
             (End, ""),
         ],
     );
+}
+
+#[test]
+fn keywords_and_numbers(rt: HostRuntime) {
     expect(
         &rt,
         "while whiles None 00 9223372036854775807",
@@ -134,6 +138,10 @@ fn words(rt: HostRuntime) {
             (End, ""),
         ],
     );
+}
+
+#[test]
+fn literals(rt: HostRuntime) {
     expect(
         &rt,
         "'a\\n\"é#' '' \"\\\"\" 'b'''",
