@@ -3,3 +3,4 @@ pub mod Courses
 pub mod Worked
 pub mod Names
 pub mod WorkedLiterals
+pub mod Scoped
