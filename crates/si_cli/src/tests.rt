@@ -205,7 +205,9 @@ fn words_that_are_refused(rt: HostRuntime) -> Result<(), Fail> {
     for (words, message) in cases {
         let fault = fault_of(rt.alloc(), words)?;
         assert_eq!(rt; fault.status(), 2);
-        assert!(rt; matches!(&fault, WordsFault::Words { help: false, text } if text.as_str() == message));
+        assert!(rt;
+            matches!(&fault, WordsFault::Words { help: false, text } if text.as_str() == message)
+        );
     }
     Ok(())
 }
@@ -223,7 +225,9 @@ fn words_that_ask_for_help(rt: HostRuntime) -> Result<(), Fail> {
     for (words, begins) in cases {
         let fault = fault_of(rt.alloc(), words)?;
         assert_eq!(rt; fault.status(), 0);
-        assert!(rt; matches!(&fault, WordsFault::Words { help: true, text } if text.as_str().starts_with(begins)));
+        assert!(rt;
+            matches!(&fault, WordsFault::Words { help: true, text } if text.as_str().starts_with(begins))
+        );
     }
     Ok(())
 }
