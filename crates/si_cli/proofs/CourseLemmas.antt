@@ -24,7 +24,8 @@ use Rattle.si_cli.specs.declared.interpreter.Solo.{Solo}
 use Rattle.si_cli.specs.Courses.{HasRun, IsUnderWay}
 use Rattle.si_cli.specs.Runs.{ShowsLife, Stands, one_run}
 
--- a line of a course is the same line from here on, behind what was run and printed before; with the end of a run nothing is printed
+-- a line of a course is the same line from here on, behind what was run and printed before; with the end of a run
+-- nothing is printed
 record SameLine (c new other : Course) : Type 0 where
   pub there : from_here new ≡ from_here other
   pub lines : new.lines ≡ c.lines + 1

@@ -16,7 +16,8 @@ pub record IsUnderWay (answers : List Answer) (count : ℕ) (s : Seen) : Type 0 
   pub printed : s.printed ≡ printed_of moment
   pub runs : IsRunning s
 
--- a machine has printed what the interpreter has that has taken these answers and has run so many lines, and that stands so
+-- a machine has printed what the interpreter has that has taken these answers and has run so many lines, and that
+-- stands so
 pub record HasRun (answers : List Answer) (count : ℕ) (standing : Standing) (s : Seen) : Type 0 where
   pub moment : Course
   pub after : IsAfter answers moment

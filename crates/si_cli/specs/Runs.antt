@@ -23,7 +23,8 @@ Stands (AtEnd outcome) place = place ≡ Ending (outcome_of outcome)
 Stands Ready place = standing_of place ≡ None
 Stands Starved place = standing_of place ≡ None
 
--- interpreter 0 shows its life under these answers: at a moment of its course it has run so many lines, has printed this, and stands so
+-- interpreter 0 shows its life under these answers: at a moment that shows it, it has run so many lines, has printed
+-- this, and stands so
 pub record ShowsLife (answers : List Answer) (solo : Solo) : Type 0 where
   pub moment : Course
   pub shows : Shows (λ n. life_of n answers) moment
@@ -31,11 +32,11 @@ pub record ShowsLife (answers : List Answer) (solo : Solo) : Type 0 where
   pub lines : moment.lines ≡ solo.locals
   pub stands : Stands solo.standing moment.place
 
--- the answers of a life that is given one text to run, or one that isn't read
+-- the one answer of a life that is given a text to run, by its tree, or one that isn't read
 abbrev pub one_run : Option Module → List Answer
 one_run job = Taken (Run job) ∷ []
 
--- the run of a script
+-- the run of a script, be it read or not
 pub record IsRunOf (script : List ℕ) (solo : Solo) : Type 0 where
   pub job : Option Module
   pub is : IsJob script job

@@ -33,7 +33,8 @@ IsRefusal _ = ⊥
 abbrev pub turns_of : Request → ℕ
 turns_of (Serial path limits) = limits.turns
 
--- the run of a script in interpreter 0, of so many turns at most, is reported: the writer grew by its report, and the status is the run's
+-- the run of a script that is read, of so many turns at most, is reported: the writer grew by its report, and the
+-- status is the run's
 pub record Reports (turns : ℕ) (script : List ℕ) (old new : Option (List ℕ)) (answer : ℕ) : Type 0 where
   pub body : Stmts
   pub read : IsScript script body

@@ -36,7 +36,8 @@ pub fn serve<A: Write, B: Write>(
     _saved: &mut A,
     out: &mut B,
 ) -> Result<u8, CliFault>
-    ensures reports { IfOk result (Reports (turns_of request.now) script.now (B.contents out.old) (B.contents out.new)) }
+    ensures reports { IfOk result
+        (Reports (turns_of request.now) script.now (B.contents out.old) (B.contents out.new)) }
     // Only a script that is not read is refused as a script.
     ensures refused { IfErr result (λ fault. IsRefusal fault → (body : Stmts) → IsScript script.now body → ⊥) }
     // After every other fault than that of a write the writer is as before.
