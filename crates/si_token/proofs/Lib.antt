@@ -2,6 +2,8 @@ pub mod Decimals
 pub mod Runs
 pub mod Spellings
 pub mod Boundaries
+pub mod Lines
 pub mod Steps
-pub mod Loop
 pub mod Slices
+pub mod Blocks
+pub mod Loop
