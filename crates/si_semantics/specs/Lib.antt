@@ -14,3 +14,4 @@ pub mod Laws
 pub mod Grammar
 pub mod Words
 pub mod Layout
+pub mod LayoutCases

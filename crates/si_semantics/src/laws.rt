@@ -1,11 +1,17 @@
 // Laws of lives and of courses, for those who build on them.
 
 ghost use Rattle.si_semantics.specs.Cases.{Cases};
+ghost use Rattle.si_semantics.specs.LayoutCases.{LayoutCases};
 ghost use Rattle.si_semantics.specs.Laws.{Binding, OneLife, LivesGrow, GoneStays, AnswersWait, OnePieceALine, OneMoment};
 
 /// The worked cases: what scripts print and how they end.
 pub fn worked_cases()
     ensures { Cases }
+{}
+
+/// Worked cases of the layout: what tokens lines make, and which blocks they open and close.
+pub fn layout_cases()
+    ensures { LayoutCases }
 {}
 
 /// A name that was bound has its value, and every other has what it had.
