@@ -5,5 +5,5 @@ pub mod Boundaries
 pub mod Lines
 pub mod Steps
 pub mod Slices
-pub mod Blocks
+pub mod Added
 pub mod Loop

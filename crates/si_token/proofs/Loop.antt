@@ -16,7 +16,7 @@ use Rattle.si_token.specs.Views.{Place, token_of, kind_of}
 use Rattle.si_token.specs.Laying.{laid, before_word, stepped, with_line_end, missing_newline, Adds}
 use Rattle.si_token.proofs.Lines.{end_laid, with_before}
 use Rattle.si_token.proofs.Steps.{all_ending}
-use Rattle.si_token.proofs.Blocks.{adds_tokens, dedents_of}
+use Rattle.si_token.proofs.Added.{adds_tokens, dedents_of}
 use Rattle.si_token.specs.Spans.{IsPart}
 
 pub some_rest : (rest : List ℕ) → (length rest == 0) ≡ false → 0 < length rest

@@ -12,7 +12,7 @@ use Rattle.si_token.specs.Reading.{word_at}
 use Rattle.si_token.specs.Spans.{IsPart, EndsIn}
 use Rattle.si_token.specs.declared.token.TokenKind.TheVariants.{End}
 use Rattle.si_token.proofs.Steps.{AreBefore, all_ending, at_start, next_word, no_word, no_place, over_right, over_only}
-use Rattle.si_token.proofs.Blocks.{adds_parts, parts_ended}
+use Rattle.si_token.proofs.Added.{adds_parts, parts_ended}
 use Rattle.si_token.proofs.Loop.{some_rest, no_rest, laid_at, turned, not_turned, end_is, ended}
 use Rattle.si_token.proofs.Slices.{AreParts, parts_first, at_first, behind_word, parts_kept, ends_in}
 use Rattle.si_token.proofs.scan.tokens.Goals as goal
