@@ -4,3 +4,4 @@ pub mod Worked
 pub mod Names
 pub mod WorkedLiterals
 pub mod Scoped
+pub mod WorkedLayout

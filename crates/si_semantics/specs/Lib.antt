@@ -17,3 +17,4 @@ pub mod LiteralCases
 pub mod Grammar
 pub mod Words
 pub mod Layout
+pub mod LayoutCases

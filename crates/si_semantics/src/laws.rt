@@ -2,6 +2,7 @@
 
 ghost use Rattle.si_semantics.specs.Cases.{Cases};
 ghost use Rattle.si_semantics.specs.LiteralCases.{LiteralCases};
+ghost use Rattle.si_semantics.specs.LayoutCases.{LayoutCases};
 ghost use Rattle.si_semantics.specs.Laws.{Binding, OneLife, LivesGrow, GoneStays, AnswersWait, OnePieceALine, OneMoment};
 ghost use Rattle.si_semantics.specs.Scope.{LeftByExceptions};
 
@@ -13,6 +14,11 @@ pub fn worked_cases()
 /// The worked cases of literals: their values, and which are none.
 pub fn worked_literals()
     ensures { LiteralCases }
+{}
+
+/// The worked cases of the layout: what tokens lines make, and which blocks they open and close.
+pub fn worked_layout()
+    ensures { LayoutCases }
 {}
 
 /// A name that was bound has its value, and every other has what it had.

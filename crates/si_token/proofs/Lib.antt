@@ -2,6 +2,8 @@ pub mod Digits
 pub mod Runs
 pub mod Spellings
 pub mod Boundaries
+pub mod Lines
 pub mod Steps
-pub mod Loop
 pub mod Slices
+pub mod Added
+pub mod Loop

@@ -1,9 +1,7 @@
 -- The word at the front as a function on lists, which the code computes.
 use Rattle.std.specs.Prelude.{ℕ, suc, ◌+◌, ◌==◌, ◌&&◌, ◌||◌, List, [], ◌∷◌, Bool, true, false, Option, Some, None, take, drop, if◌then◌else◌}
 use Rattle.std.specs.List.{prefix_len}
-use Rattle.si_semantics.specs.Tokens.{Token}
-use Rattle.si_semantics.specs.Layout.{Place, Lays}
-use Rattle.si_semantics.specs.Words.{Sort, Name, Int, Text, Operator, Spaces, Tabs, Comment, LineEnd, is_digit, begins_name, continues_name, is_space, is_tab, is_hash, is_quote, in_comment, is_escape, symbols, spelled, is_allowed, Word, IsCut}
+use Rattle.si_semantics.specs.Words.{Sort, Name, Int, Text, Operator, Spaces, Tabs, Comment, LineEnd, is_digit, begins_name, continues_name, is_space, is_tab, is_hash, is_quote, in_comment, is_escape, symbols, spelled, is_allowed}
 
 abbrev pub then_read : {A B : Type 0} → Option A → (A → Option B) → Option B
 then_read None f = None
@@ -77,7 +75,3 @@ if_allowed k bs n = if is_allowed k (take n bs) (drop n bs) then Some (k, n) els
 abbrev pub word_at : List ℕ → Option (Sort × ℕ)
 word_at [] = None
 word_at (b ∷ bs) = then_read (length_of (sort_at b) (b ∷ bs)) (if_allowed (sort_at b) (b ∷ bs))
-
--- the tokens of the rest of a text, from a place on
-abbrev pub Reads : Place → List Token → List ℕ → Type 0
-Reads p ts bs = (ws : List Word) × IsCut ws bs × Lays p ws ts

@@ -1,6 +1,6 @@
 // Texts and their tokens, as Python's own `tokenize` gives them, but for blank lines, comments and CR.
 
-use crate::token::TokenKind::{End, Int, Name, Newline, Str};
+use crate::token::TokenKind::{Dedent, End, Indent, Int, Name, Newline, Str};
 use crate::token::{Keyword, Symbol, TokenKind};
 use crate::{TokenFault, int_value, tokens};
 use std::process::Abort;
@@ -250,12 +250,84 @@ fn refused(rt: HostRuntime) {
         "'\u{0}'",
         "é",
         "x\u{c}",
-        " x",
         "\tx",
+        "  \tx",
+        "\t  x",
         "1é",
     ] {
         expect_refused(&rt, text, 1);
     }
-    expect_refused(&rt, "x\r\n#\r  y", 3);
+    expect_refused(&rt, "x\r\n#\r \ty", 3);
     expect_refused(&rt, "(\n\n$)", 3);
+    // a line at the column of no open block
+    expect_refused(&rt, "  x\n y", 2);
+    expect_refused(&rt, "if x:\n    y\n  else:\n    z\n", 3);
+}
+
+#[test]
+fn nested_blocks(rt: HostRuntime) {
+    expect(
+        &rt,
+        "if x:\n  if y:\n     z\nx\n",
+        &[
+            (TokenKind::Keyword(Keyword::If), "if"),
+            (Name, "x"),
+            (sign(Symbol::Colon), ":"),
+            (Newline, "\n"),
+            (Indent, ""),
+            (TokenKind::Keyword(Keyword::If), "if"),
+            (Name, "y"),
+            (sign(Symbol::Colon), ":"),
+            (Newline, "\n"),
+            (Indent, ""),
+            (Name, "z"),
+            (Newline, "\n"),
+            (Dedent, ""),
+            (Dedent, ""),
+            (Name, "x"),
+            (Newline, "\n"),
+            (End, ""),
+        ],
+    );
+    expect(
+        &rt,
+        " a\n  b\n c\n   d",
+        &[
+            (Indent, ""),
+            (Name, "a"),
+            (Newline, "\n"),
+            (Indent, ""),
+            (Name, "b"),
+            (Newline, "\n"),
+            (Dedent, ""),
+            (Name, "c"),
+            (Newline, "\n"),
+            (Indent, ""),
+            (Name, "d"),
+            (Newline, ""),
+            (Dedent, ""),
+            (Dedent, ""),
+            (End, ""),
+        ],
+    );
+}
+
+#[test]
+fn lines_of_no_block(rt: HostRuntime) {
+    // blank lines and comments in a block, at any column; line ends, spaces and tabs inside brackets
+    expect(
+        &rt,
+        "  a\n\n#\n      # b\n\t# c\n   \n  (\n1\n\t )\n",
+        &[
+            (Indent, ""),
+            (Name, "a"),
+            (Newline, "\n"),
+            (sign(Symbol::LeftParenthesis), "("),
+            (Int, "1"),
+            (sign(Symbol::RightParenthesis), ")"),
+            (Newline, "\n"),
+            (Dedent, ""),
+            (End, ""),
+        ],
+    );
 }
