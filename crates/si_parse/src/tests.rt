@@ -140,6 +140,59 @@ fn literals_beside_each_other_are_joined(rt: HostRuntime) -> Result<(), Fail> {
 }
 
 #[test]
+fn literals_have_the_values_of_python(rt: HostRuntime) -> Result<(), Fail> {
+    let alloc = rt.alloc();
+    let known = [
+        ("'it\\'s'", "it's"),
+        ("u\"\"", ""),
+        ("''''''", ""),
+        ("'''a''\r\nb\r\"'''", "a''\nb\n\""),
+        ("\"\"\"\\\"\"\"\"", "\""),
+        ("U'\u{e9}\\\u{e9}'", "\u{e9}\\\u{e9}"),
+        (r"r'\n\'\x'", r"\n\'\x"),
+        ("R'''\\\r\n'''", "\\\n"),
+        (r#"'\\\'\"\a\b\f\n\r\t\v'"#, "\\'\"\x07\x08\x0c\n\r\t\x0b"),
+        ("'a\\\r\nb\\\nc\\\rd'", "abcd"),
+        (r"'\0\18\377\1234'", "\0\x018\u{ff}S4"),
+        (r"'\x41f\u20aC0\U0010ffff1'", "Af\u{20ac}0\u{10ffff}1"),
+        (r"'\q\8\('", r"\q\8\("),
+    ];
+    for (literal, value) in known {
+        let module = parse(alloc, literal)?;
+        match module.body() {
+            [Stmt::Evaluate(Expr::Str(text))] => {
+                assert_eq!(rt; text.as_str(), value, "{literal:?}")
+            }
+            _ => panic!(rt; "one literal"),
+        }
+    }
+    Ok(())
+}
+
+#[test]
+fn wrong_escapes_are_refused(rt: HostRuntime) -> Result<(), Fail> {
+    let alloc = rt.alloc();
+    for literal in [
+        r"'\400'",
+        r"'\777'",
+        r"'\x'",
+        r"'\x4'",
+        r"'\xg0'",
+        r"'\u123'",
+        r"'\ud800'",
+        r"'\U0010fff'",
+        r"'\U00110000'",
+        r"'\Uffffffff'",
+        r"'\N{DIGIT ONE}'",
+        r"b'a'",
+        r"'a' b'b'",
+    ] {
+        assert!(rt; is_refused(alloc, literal), "{literal:?}");
+    }
+    Ok(())
+}
+
+#[test]
 fn texts_outside_the_grammar_are_refused(rt: HostRuntime) -> Result<(), Fail> {
     let alloc = rt.alloc();
     for text in [

@@ -1,4 +1,5 @@
 pub mod Digits
+pub mod Texts
 pub mod Runs
 pub mod Spellings
 pub mod Boundaries

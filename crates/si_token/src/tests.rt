@@ -177,6 +177,43 @@ fn numbers(rt: HostRuntime) {
 }
 
 #[test]
+fn texts(rt: HostRuntime) {
+    expect(
+        &rt,
+        r#"r'\'' R"\""U'a'u"" b'c' ru'd'"#,
+        &[
+            (Str, r"r'\''"),
+            (Str, r#"R"\"""#),
+            (Str, "U'a'"),
+            (Str, "u\"\""),
+            (Name, "b"),
+            (Str, "'c'"),
+            (Name, "ru"),
+            (Str, "'d'"),
+            (Newline, ""),
+            (End, ""),
+        ],
+    );
+    expect(
+        &rt,
+        "'''a\r\n''\\'\n''' \"\"\"b'\"\"\" ''''c'''r''''''",
+        &[
+            (Str, "'''a\r\n''\\'\n'''"),
+            (Str, "\"\"\"b'\"\"\""),
+            (Str, "''''c'''"),
+            (Str, "r''''''"),
+            (Newline, ""),
+            (End, ""),
+        ],
+    );
+    expect(
+        &rt,
+        "'a\\\r\nb\\\nc\\\r'",
+        &[(Str, "'a\\\r\nb\\\nc\\\r'"), (Newline, ""), (End, "")],
+    );
+}
+
+#[test]
 fn values_of_numbers(rt: HostRuntime) {
     let known = [
         ("0", 0),
@@ -234,9 +271,17 @@ fn refused(rt: HostRuntime) {
         "9223372036854775808",
         "'a",
         "'a\n'",
-        "'\\t'",
         "'a\\",
         "'''a'",
+        "r'''a'",
+        "''''a'",
+        "'''a''''",
+        "'a\r'",
+        "'a\\\n\n'",
+        "'a\\\r\n\n'",
+        "r'a\\'",
+        "u'a",
+        "'''a\u{0}'''",
         "\"\"\"",
         "!",
         "$",
