@@ -1,5 +1,5 @@
 -- From words to tokens: lines, brackets and blocks (Python Language Reference 3.14, "Line structure").
--- A byte of a line is a column. That no tab may stand before a line's first token is this project's own.
+-- That no tab may stand before a line's first token is this project's own.
 use Rattle.std.specs.Prelude.{◌≡◌, ℕ, ◌+◌, ◌-◌, ◌<◌, ◌==◌, List, [], ◌∷◌, ◌++◌, length, map, Bool, true, false, Option, Some, None, nat_lt, if◌then◌else◌}
 use Rattle.std.specs.Option.{option_map, option_and_then, option_to_list}
 use Rattle.si_semantics.specs.Tokens as tokens
@@ -20,7 +20,10 @@ kind_of words.Name w = Some (name_kind (spelled keywords w))
 kind_of words.Int w = Some tokens.Int
 kind_of words.Text w = Some tokens.Str
 kind_of words.Operator w = option_map tokens.Sign (spelled symbols w)
-kind_of _ w = None
+kind_of words.Spaces w = None
+kind_of words.Tabs w = None
+kind_of words.Comment w = None
+kind_of words.LineEnd w = None
 
 abbrev pub token : ℕ → List ℕ → TokenKind → Token
 token at w k = record { kind = k; text = w; start = at }
@@ -28,7 +31,8 @@ token at w k = record { kind = k; text = w; start = at }
 -- the tokens among words that begin at this byte
 abbrev pub tokens_at : ℕ → List Word → List Token
 tokens_at at [] = []
-tokens_at at (w ∷ ws) = option_to_list (option_map (token at w.text) (kind_of w.sort w.text)) ++ tokens_at (at + length w.text) ws
+tokens_at at (w ∷ ws) =
+    option_to_list (option_map (token at w.text) (kind_of w.sort w.text)) ++ tokens_at (at + length w.text) ws
 
 -- the byte behind words that begin at this byte
 abbrev pub behind : ℕ → List Word → ℕ
@@ -74,12 +78,14 @@ pub record Line : Type 0 where
 abbrev pub line_end : List ℕ → Word
 line_end w = record { sort = words.LineEnd; text = w }
 
--- The words are these logical lines: all but the last have a line end, which stands outside brackets.
+-- The words are these logical lines: all but the last have a line end, which stands outside brackets. Brackets that the
+-- last leaves open are refused by the grammar.
 abbrev pub AreLines : List Line → List Word → Type 0
 AreLines [] ws = ⊥
 AreLines (l ∷ []) ws = (ws ≡ l.words) × IsJoined 0 l.words × (l.end ≡ [])
 AreLines (l ∷ (m ∷ ls)) ws =
-    (rest : List Word) × (ws ≡ l.words ++ line_end l.end ∷ rest) × IsJoined 0 l.words × (open_after 0 l.words ≡ 0) × AreLines (m ∷ ls) rest
+    (rest : List Word) × (ws ≡ l.words ++ line_end l.end ∷ rest) × IsJoined 0 l.words × (open_after 0 l.words ≡ 0)
+    × AreLines (m ∷ ls) rest
 
 -- ---- columns and blocks
 
@@ -104,8 +110,8 @@ abbrev pub innermost : List ℕ → ℕ
 innermost [] = 0
 innermost (top ∷ below) = top
 
--- A line that is no deeper than the innermost block: a DEDENT for each block that it closes, and the blocks that stay open.
--- It stands at the column of the innermost of these.
+-- A line that is no deeper than the innermost block: a DEDENT for each block that it closes, and the blocks that stay
+-- open. It stands at the column of the innermost of these.
 abbrev pub closing : ℕ → List ℕ → Option (List TokenKind × List ℕ)
 closing c [] = if c == 0 then Some ([], []) else None
 closing c (top ∷ below) =
@@ -128,12 +134,14 @@ empty_tokens at kinds = map (token at []) kinds
 abbrev pub laid_out : List ℕ → Option ℕ → List Token → Token → Option (List Token × List ℕ)
 laid_out blocks column [] newline = Some ([], blocks)
 laid_out blocks column (t ∷ ts) newline =
-    option_map (λ r. (empty_tokens t.start r.0 ++ (t ∷ (ts ++ newline ∷ [])), r.1)) (option_and_then (λ c. indentation c blocks) column)
+    option_map (λ r. (empty_tokens t.start r.0 ++ (t ∷ (ts ++ newline ∷ [])), r.1))
+    (option_and_then (λ c. indentation c blocks) column)
 
 -- The tokens of a logical line that begins at a byte, and the blocks that are then open. Its NEWLINE is its line end,
 -- and stands also where the text ends without one.
 abbrev pub line_tokens : List ℕ → ℕ → Line → Option (List Token × List ℕ)
-line_tokens blocks at l = laid_out blocks (column_of l.words) (tokens_at at l.words) (token (behind at l.words) l.end tokens.Newline)
+line_tokens blocks at l =
+    laid_out blocks (column_of l.words) (tokens_at at l.words) (token (behind at l.words) l.end tokens.Newline)
 
 -- at the end of the text: a DEDENT for each block, and END
 abbrev pub ending : List ℕ → ℕ → List Token
@@ -143,8 +151,8 @@ ending blocks at = empty_tokens at (map (λ c. tokens.Dedent) blocks) ++ token a
 abbrev pub Lays : List ℕ → ℕ → List Line → List Token → Type 0
 Lays blocks at [] ts = ts ≡ ending blocks at
 Lays blocks at (l ∷ ls) ts =
-    (made more : List Token) × (open_blocks : List ℕ) × (line_tokens blocks at l ≡ Some (made, open_blocks)) × (ts ≡ made ++ more)
-    × Lays open_blocks (behind at l.words + length l.end) ls more
+    (made more : List Token) × (open_blocks : List ℕ) × (line_tokens blocks at l ≡ Some (made, open_blocks))
+    × (ts ≡ made ++ more) × Lays open_blocks (behind at l.words + length l.end) ls more
 
 -- the tokens of a text
 abbrev pub HasTokens : List Token → List ℕ → Type 0

@@ -54,12 +54,17 @@ four_lines =
 
 abbrev pub words_of_four_lines : List Word
 words_of_four_lines =
-    x ∷ line_end lf ∷ spaces (codes "  ") ∷ open_bracket ∷ line_end lf ∷ closed_bracket ∷ line_end lf ∷ spaces (codes " ") ∷ comment ∷ line_end lf ∷ x ∷ []
+    x ∷ line_end lf
+    ∷ spaces (codes "  ") ∷ open_bracket ∷ line_end lf ∷ closed_bracket ∷ line_end lf
+    ∷ spaces (codes " ") ∷ comment ∷ line_end lf
+    ∷ x
+    ∷ []
 
 abbrev pub tokens_of_four_lines : List Token
 tokens_of_four_lines =
     token 0 (codes "x") Name ∷ token 1 lf Newline
-    ∷ token 4 [] Indent ∷ token 4 (codes "(") (Sign LeftParenthesis) ∷ token 6 (codes ")") (Sign RightParenthesis) ∷ token 7 lf Newline
+    ∷ token 4 [] Indent ∷ token 4 (codes "(") (Sign LeftParenthesis)
+    ∷ token 6 (codes ")") (Sign RightParenthesis) ∷ token 7 lf Newline
     ∷ token 13 [] Dedent ∷ token 13 (codes "x") Name ∷ token 14 [] Newline
     ∷ token 14 [] End
     ∷ []

@@ -78,8 +78,8 @@ not_turned p k s w blocks is before = ap (step_by p blocks s w) (sym is) ∙ ap 
 
 -- ---- the end
 
-pub end_is : (t : Token) (at : ℕ) (rest : List ℕ) → t.kind ≡ kind.End → IsPart at rest t → rest ≡ [] → token_of t ≡ token at [] tokens.End
-end_is t at rest k part e = λ i. record { kind = kind_of (k i); text = (part.text ∙ e) i; start = part.start i }
+pub end_is : (t : Token) (at : ℕ) → t.kind ≡ kind.End → IsPart at [] t → token_of t ≡ token at [] tokens.End
+end_is t at k part = λ i. record { kind = kind_of (k i); text = part.text i; start = part.start i }
 
 -- the tokens with those at the end
 pub ended : (items new between last : List Token) (missing : Option Token) (t : Token) (p : Place) (blocks : List ℕ) → option_to_list (option_map token_of missing) ≡ missing_newline p → token_of t ≡ token p.at [] tokens.End

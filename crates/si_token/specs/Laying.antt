@@ -17,16 +17,16 @@ line_start at = record { at = at; begun = false; column = 0; has_tab = false; br
 -- ---- behind a word
 
 abbrev pub behind : Place → List ℕ → Place
-behind p w = record { at = p.at + length w; begun = p.begun; column = p.column; has_tab = p.has_tab; brackets = p.brackets }
+behind p w = record p { at = p.at + length w }
 
 abbrev pub behind_spaces : Place → List ℕ → Place
-behind_spaces p w = record { at = p.at + length w; begun = p.begun; column = p.column + length w; has_tab = p.has_tab; brackets = p.brackets }
+behind_spaces p w = record p { at = p.at + length w; column = p.column + length w }
 
 abbrev pub behind_tabs : Place → List ℕ → Place
-behind_tabs p w = record { at = p.at + length w; begun = p.begun; column = p.column; has_tab = true; brackets = p.brackets }
+behind_tabs p w = record p { at = p.at + length w; has_tab = true }
 
 abbrev pub behind_token : Place → tokens.TokenKind → List ℕ → Place
-behind_token p k w = record { at = p.at + length w; begun = true; column = p.column; has_tab = p.has_tab; brackets = brackets_after (Some k) p.brackets }
+behind_token p k w = record p { at = p.at + length w; begun = true; brackets = brackets_after (Some k) p.brackets }
 
 -- a line end, which makes a NEWLINE behind a token and outside brackets
 abbrev pub with_line_end : Place → List ℕ → List tokens.Token × Place
@@ -62,7 +62,8 @@ behind_dedents n o = option_map (λ r. (replicate n tokens.Dedent ++ r.0, r.1)) 
 -- the tokens that a word makes with what stands before it, and where it leads
 abbrev pub stepped : Place → List ℕ → Sort → List ℕ → Option (List tokens.Token × Place × List ℕ)
 stepped p blocks s w =
-    option_map (λ b. (empty_tokens p.at b.0 ++ (laid p (kind_of s w) s w).0, (laid p (kind_of s w) s w).1, b.1)) (before_word p blocks (kind_of s w))
+    option_map (λ b. (empty_tokens p.at b.0 ++ (laid p (kind_of s w) s w).0, (laid p (kind_of s w) s w).1, b.1))
+    (before_word p blocks (kind_of s w))
 
 -- the NEWLINE that is missing at the end of the text
 abbrev pub missing_newline : Place → List tokens.Token
@@ -71,7 +72,8 @@ missing_newline p = if p.begun then token p.at [] tokens.Newline ∷ [] else []
 -- the tokens of words from a place on
 abbrev pub laid_all : Place → List ℕ → List Word → Option (List tokens.Token)
 laid_all p blocks [] = Some (missing_newline p ++ ending blocks p.at)
-laid_all p blocks (w ∷ ws) = option_and_then (λ r. option_map (λ more. r.0 ++ more) (laid_all r.1 r.2 ws)) (stepped p blocks w.sort w.text)
+laid_all p blocks (w ∷ ws) =
+    option_and_then (λ r. option_map (λ more. r.0 ++ more) (laid_all r.1 r.2 ws)) (stepped p blocks w.sort w.text)
 
 -- the tokens of the rest of a text, from a place on
 abbrev pub Reads : Place → List ℕ → List tokens.Token → List ℕ → Type 0

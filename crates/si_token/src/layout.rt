@@ -34,6 +34,7 @@ pub struct Place {
 pub fn line_start(at: usize, line: usize) -> Place
     requires { line ≤ at + 1 }
     ensures gives { place_of result ≡ line_start at }
+    ensures line { result.line ≡ line }
     ensures within { IsWithin result }
 {
     Place {
@@ -210,16 +211,15 @@ pub fn laid<'a>(
 }
 
 /// The NEWLINE that is missing at the end of the text, where one is.
-pub fn missing_newline<'a>(place: Place, rest: &'a str) -> Option<Token<'a>>
-    requires room { place.at + length rest.now < 2 ^ 63 }
-    requires over { rest.now ≡ [] }
+pub fn missing_newline<'a>(place: Place) -> Option<Token<'a>>
+    requires { place.at < 2 ^ 63 }
     ensures gives { option_to_list (option_map token_of result) ≡ missing_newline (place_of place) }
-    ensures part { IfSome result (IsPart place.at rest.now) }
+    ensures part { IfSome result (IsPart place.at []) }
 {
     if !place.begun {
         return None;
     }
-    Some(token_at(place, TokenKind::Newline, rest))
+    Some(token_at(place, TokenKind::Newline, ""))
 }
 
 /// The column of the innermost block; the columns of blocks stand in a `Vec`, the innermost last.

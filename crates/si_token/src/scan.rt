@@ -74,7 +74,7 @@ fn token_kind(sort: Sort, word: &str) -> Option<TokenKind>
             let found = symbol(word.as_bytes())?;
             Some(TokenKind::Symbol(found))
         }
-        _ => None,
+        Sort::Spaces | Sort::Tabs | Sort::Comment | Sort::LineEnd => None,
     }
 }
 
@@ -177,8 +177,8 @@ pub fn tokens(alloc: Global, text: &str) -> Result<Vec<Token<'_>>, TokenFault>
         place = next;
         rest = after;
     }
-    keep(&mut all, missing_newline(place, rest))?;
+    keep(&mut all, missing_newline(place))?;
     dedents(&mut all, place, columns.len())?;
-    all.push(token_at(place, TokenKind::End, rest))?;
+    all.push(token_at(place, TokenKind::End, ""))?;
     Ok(all)
 }

@@ -1,4 +1,5 @@
-// Texts and their tokens, as Python's own `tokenize` gives them, but for blank lines, comments and CR.
+// Texts and their tokens, as Python's own `tokenize` gives them, but for blank lines, comments, CR, tabs before a line's
+// first token, and the text of an INDENT.
 
 use crate::token::TokenKind::{Dedent, End, Indent, Int, Name, Newline, Str};
 use crate::token::{Keyword, Symbol, TokenKind};

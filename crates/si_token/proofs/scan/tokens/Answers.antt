@@ -1,5 +1,5 @@
 use Rattle.std.proofs.Common.{arith, sym, ◌∙◌, ap, subst, length, map, reverse, ◌+◌, ◌++◌, drop, ◌≡◌, []}
-use Rattle.std.specs.Prelude.{IfSome, IfErr, IsErrAnd, replicate}
+use Rattle.std.specs.Prelude.{IfErr, IsErrAnd, replicate}
 use Rattle.std.proofs.Common.{Result, Ok, Err}
 use Rattle.si_semantics.specs.Tokens.{Dedent}
 use Rattle.si_token.specs.declared.scan.TokenFault.{TokenFault}
@@ -9,7 +9,7 @@ use Rattle.si_semantics.specs.Layout.{HasTokens}
 use Rattle.si_token.specs.Views.{Place, token_of, kind_of, place_of, sort_of}
 use Rattle.std.specs.Option.{option_map}
 use Rattle.si_token.specs.Reading.{word_at}
-use Rattle.si_token.specs.Spans.{IsPart, EndsIn}
+use Rattle.si_token.specs.Spans.{EndsIn}
 use Rattle.si_token.specs.declared.token.TokenKind.TheVariants.{End}
 use Rattle.si_token.proofs.Steps.{AreBefore, all_ending, at_start, next_word, no_word, no_place, over_right, over_only}
 use Rattle.si_token.proofs.Added.{adds_parts, parts_ended}
@@ -94,7 +94,7 @@ dedents_added c =
 all_ended : (c : goal.After-drop-columns-2) → map token_of c.push.new.self.items ≡ map token_of c.loop-rest.all.items ++ all_ending (place_of c.loop-rest.place) (reverse c.loop-rest.columns.items)
 all_ended c =
     ended c.loop-rest.all.items c.keep-2.new.all.items c.dedents.new.all.items c.push.new.self.items c.missing_newline.result c.token_at.result (place_of c.loop-rest.place) c.loop-rest.columns.items
-    c.missing_newline.ensures.gives (end_is c.token_at.result c.loop-rest.place.at c.loop-rest.rest.now c.token_at.ensures.kind c.token_at.ensures.part (nothing_left c))
+    c.missing_newline.ensures.gives (end_is c.token_at.result c.loop-rest.place.at c.token_at.ensures.kind c.token_at.ensures.part)
     c.in_ok-keep-2.ensures (dedents_added c) c.in_ok-push.ensures.items
 
 all_parts : (c : goal.After-drop-columns-2) → AreParts c.args.text.now c.push.new.self.items (length c.args.text.now)
@@ -104,8 +104,7 @@ all_parts c =
     let none = ap length over in
     parts_ended c.args.text.now c.loop-rest.all.items c.keep-2.new.all.items c.dedents.new.all.items c.push.new.self.items c.loop-rest.place.at c.missing_newline.result _ c.token_at.result
     (c.loop-rest.invariant.left ∙ over) (omega (arith, whole, none))
-    (subst (λ w. IfSome c.missing_newline.result (IsPart c.loop-rest.place.at w)) over c.missing_newline.ensures.part)
-    (subst (λ w. IsPart c.loop-rest.place.at w c.token_at.result) over c.token_at.ensures.part)
+    c.missing_newline.ensures.part c.token_at.ensures.part
     c.in_ok-keep-2.ensures (dedents_added c) c.in_ok-push.ensures.items c.loop-rest.invariant.parts
 
 pub returns-clause-tokens : goal.returns-clause-tokens
