@@ -46,13 +46,13 @@ fn unread(alloc: Global) -> Result<Solo, NoMemory>
 }
 
 /// Runs a module in interpreter 0, as `solo` runs the script that is read as it.
-pub(crate) fn run_module(alloc: Global, module: &Module, turns: u64) -> Result<Solo, NoMemory>
+pub(crate) fn run_module(alloc: Global, tree: &Module, turns: u64) -> Result<Solo, NoMemory>
     requires { turns ≤ 1099511627776 }
     ensures used { IfOk result (HasUsed turns) }
-    ensures shows { IfOk result (ShowsLife (one_run (Some (record { body = tree_of module.now })))) }
+    ensures shows { IfOk result (ShowsLife (one_run (Some (record { body = tree_of tree.now })))) }
 {
     let mut table = CodeTable::new(alloc);
-    let entry = compile(module, &mut table)?;
+    let entry = compile(tree, &mut table)?;
     let mut machine = Machine::new(alloc);
     machine.load(table, entry)?;
     let (locals, standing) = run(&mut machine, turns);
