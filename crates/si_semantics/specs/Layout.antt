@@ -25,6 +25,7 @@ kind_of words.Tabs w = None
 kind_of words.Comment w = None
 kind_of words.LineEnd w = None
 
+-- a token that begins at this byte and has these bytes
 abbrev pub token : ℕ → List ℕ → TokenKind → Token
 token at w k = record { kind = k; text = w; start = at }
 
@@ -89,13 +90,14 @@ AreLines (l ∷ (m ∷ ls)) ws =
 
 -- ---- columns and blocks
 
--- how much a word that is no token moves the column behind it: spaces by their length, tabs leave none
+-- the column of a line that begins with a word that is no token, from the column of what follows: spaces add their
+-- length, and behind a tab there is none
 abbrev pub moved : Sort → List ℕ → Option ℕ → Option ℕ
 moved words.Spaces w column = option_map (λ c. length w + c) column
 moved words.Tabs w column = None
 moved _ w column = column
 
--- the column behind a word, by the token that it may be
+-- the same for any word, by the token that it is
 abbrev pub column_by : Option TokenKind → Sort → List ℕ → Option ℕ → Option ℕ
 column_by None s w column = moved s w column
 column_by (Some k) s w column = Some 0
@@ -154,6 +156,6 @@ Lays blocks at (l ∷ ls) ts =
     (made more : List Token) × (open_blocks : List ℕ) × (line_tokens blocks at l ≡ Some (made, open_blocks))
     × (ts ≡ made ++ more) × Lays open_blocks (behind at l.words + length l.end) ls more
 
--- the tokens of a text
+-- The tokens of a text: what the logical lines of its words make.
 abbrev pub HasTokens : List Token → List ℕ → Type 0
 HasTokens ts text = (ws : List Word) × IsCut ws text × (ls : List Line) × AreLines ls ws × Lays [] 0 ls ts
