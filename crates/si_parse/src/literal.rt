@@ -120,7 +120,8 @@ fn with_digit(base: u32, number: u32, digit: u32, limit: u32) -> Option<u32>
     if next <= limit { Some(next) } else { None }
 }
 
-// The number that the digits in front write, as many as there are, but at least and at most so many; and how many they are.
+// The number that the digits in front write, as many as there are, but at least and at most so many; and how many
+// they are.
 fn digits(base: u32, least: usize, most: usize, limit: u32, text: &str) -> Option<(u32, usize)>
     requires some { 2 ≤ base }
     requires few { base ≤ 36 }

@@ -9,7 +9,8 @@ use Rattle.si_semantics.specs.Value.{Text}
 abbrev pub max_int : ℕ
 max_int = 9223372036854775807
 
--- The number that digits of a base write behind n. One `_` (95) may stand before a digit; where a digit is due, none may.
+-- The number that digits of a base write behind n. One `_` (95) may stand before a digit; where a digit is due, none
+-- may.
 abbrev pub digits_behind : ℕ → Bool → ℕ → List ℕ → Option ℕ
 digits_behind base due n [] = if due then None else Some n
 digits_behind base due n (c ∷ cs) =
@@ -21,7 +22,7 @@ abbrev pub behind_prefix : ℕ → List ℕ → Option ℕ
 behind_prefix base [] = None
 behind_prefix base (c ∷ cs) = digits_behind base false 0 (c ∷ cs)
 
--- Behind a zero: `x`, `o`, `b` in either case and digits of base 16, 8 or 2; or else zeros only, and only 0 is a digit below 1.
+-- Behind a zero: `x`, `o`, `b` in either case and digits of base 16, 8 or 2; or else zeros only, the digits of base 1.
 abbrev pub behind_zero : List ℕ → Option ℕ
 behind_zero [] = Some 0
 behind_zero (c ∷ cs) =
@@ -111,12 +112,14 @@ abbrev pub with_one_more : Option (ℕ × ℕ) → Option (ℕ × ℕ)
 with_one_more None = None
 with_one_more (Some r) = Some (r.0, suc r.1)
 
--- The number that digits of a base write behind n, as many as there are, but at least and at most so many; and how many they are.
+-- The number that digits of a base write behind n, as many as there are, but at least and at most so many; and how many
+-- they are.
 abbrev pub digits_within : ℕ → ℕ → ℕ → ℕ → Text → Option (ℕ × ℕ)
 digits_within base least zero n cs = Some (n, 0)
 digits_within base least (suc most) n [] = if least == 0 then Some (n, 0) else None
 digits_within base least (suc most) n (c ∷ cs) =
-    if nat_lt (digit_value c) base then with_one_more (digits_within base (least - 1) most (n * base + digit_value c) cs)
+    if nat_lt (digit_value c) base
+    then with_one_more (digits_within base (least - 1) most (n * base + digit_value c) cs)
     else (if least == 0 then Some (n, 0) else None)
 
 -- a character is at most 10FFFF and no surrogate
@@ -167,4 +170,5 @@ value_of_body false cs = unescaped 0 cs
 
 -- the value of a str literal, by its bytes
 abbrev pub value_of_str : List ℕ → Option Text
-value_of_str literal = value_of_body (begins_raw (chars literal)) (with_line_feeds (between_quotes (unprefixed (chars literal))))
+value_of_str literal =
+    value_of_body (begins_raw (chars literal)) (with_line_feeds (between_quotes (unprefixed (chars literal))))

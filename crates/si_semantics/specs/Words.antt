@@ -1,6 +1,5 @@
 -- The words of a text, blanks, comments and line ends among them (Python Language Reference 3.14, "Lexical analysis").
--- A byte stands for its code. Which letters, numbers, literals and escapes there are is this project's own choice among
--- Python's, and so is the range of integers.
+-- A byte stands for its code. Which letters, numbers and literals there are is this project's own choice among Python's.
 use Rattle.std.specs.Prelude.{◌≡◌, ℕ, ◌+◌, ◌<◌, ◌==◌, ◌&&◌, ◌||◌, not, List, [], ◌∷◌, ◌++◌, ◌⊎◌, length, drop, Bool, true, false, Option, Some, None, nat_le, codes, if◌then◌else◌}
 use Rattle.std.specs.List.{AllByRecursion}
 use Rattle.std.specs.Option.{is_some}
@@ -101,8 +100,9 @@ IsRun first p (b ∷ bs) = (first b ≡ true) × each p bs
 abbrev pub is_plain : ℕ → ℕ → Bool
 is_plain count b = if count == 1 then in_comment b else not (b == 0)
 
--- What follows the open quotes, up to the closed ones, of which there are as many (count). So many closed ones stand in a row
--- just before (row), or an escaped CR does (joins), to which an LF belongs. A backslash (92) takes the next character with it.
+-- What follows the open quotes, up to the closed ones, of which there are as many (count). So many closed ones stand in
+-- a row just before (row), or an escaped CR does (joins), to which an LF belongs. A backslash (92) takes the next
+-- character with it.
 abbrev mutual
   pub is_body : ℕ → ℕ → ℕ → Bool → List ℕ → Bool
   is_body count quote row joins [] = row == count
@@ -116,9 +116,11 @@ abbrev mutual
   is_escaped count quote [] = false
   is_escaped count quote (b ∷ bs) = not (b == 0) && is_body count quote 0 (b == 13) bs
 
+-- a literal without prefix
 abbrev pub is_quoted : List ℕ → Bool
 is_quoted [] = false
-is_quoted (quote ∷ bs) = is_quote quote && is_body (quotes_at (quote ∷ bs)) quote 0 false (drop (quotes_at (quote ∷ bs)) (quote ∷ bs))
+is_quoted (quote ∷ bs) =
+    is_quote quote && is_body (quotes_at (quote ∷ bs)) quote 0 false (drop (quotes_at (quote ∷ bs)) (quote ∷ bs))
 
 -- a str literal with its prefix and quotes ("String and Bytes literals")
 abbrev pub is_text : List ℕ → Bool

@@ -7,8 +7,8 @@ ghost use Rattle.si_semantics.specs.Literals.{value_of_int, in_range, behind_pre
 /// The greatest value of an integer literal.
 pub const MAX_INT: u64 = 9_223_372_036_854_775_807;
 
-/// The value of an integer literal, where it has one: digits with `_` between them, decimal ones or behind `0x`, `0o` or
-/// `0b`, and at most 9223372036854775807.
+/// The value of an integer literal, where it has one: digits with `_` between them, decimal ones or behind `0x`, `0o`
+/// or `0b`, and at most 9223372036854775807.
 pub fn int_value(literal: &[u8]) -> Option<i64>
     ensures { result ≡ value_of_int literal.now }
 {
