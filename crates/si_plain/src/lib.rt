@@ -14,7 +14,9 @@ pub mod literal;
 pub mod numeral;
 pub mod text;
 
-pub use integer::{add, floordiv, modulo, mul, neg, power, shl, shr, sub};
+pub use integer::{
+    add, bit_and, bit_or, bit_xor, floordiv, invert, modulo, mul, neg, power, shl, shr, sub,
+};
 pub use kind::Kind;
 pub use limits::{Limits, Range};
 pub use literal::{repr_bytes, repr_str};

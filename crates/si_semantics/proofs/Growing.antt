@@ -1,11 +1,11 @@
 -- With more turns and more answers an evaluation and a life go further, and go alike as far as they went.
-use Rattle.std.proofs.Common.{◌≡◌, ℕ, zero, suc, ◌+◌, ◌≤◌, List, [], ◌∷◌, ◌++◌, length, Option, Some, None, refl, sym, ap, ◌∙◌, subst, arith, append_assoc, length-append}
+use Rattle.std.proofs.Common.{◌≡◌, ℕ, zero, suc, ◌+◌, ◌≤◌, List, [], ◌∷◌, ◌++◌, length, Bool, true, false, Option, Some, None, refl, sym, ap, ◌∙◌, subst, arith, append_assoc, length-append}
 use Rattle.std.proofs.lemmas.List.{append-nil}
 use Rattle.si_semantics.specs.Value.{Text, Value, Exception}
-use Rattle.si_semantics.specs.Tree.{Expr, Constant, Name, Unary, Binary, Call, Exprs, NoExprs, MoreExprs, Stmt, Evaluate, Assign, Stmts, NoStmts, MoreStmts}
+use Rattle.si_semantics.specs.Tree.{BooleanOperator, Expr, Constant, Name, Unary, Binary, Call, Boolean, Compare, Conditional, Exprs, NoExprs, MoreExprs, Comparisons, NoComparisons, MoreComparisons, Stmt, Evaluate, Assign, Augment, Pass, If, While, Break, Continue, Stmts, NoStmts, MoreStmts}
 use Rattle.si_semantics.specs.World.{World, Request, Bind, Run, Closing, Answer, Taken, Done, Replied, Got, Failed, Wants, Ran, Gave, Threw, Asked, bind_all}
-use Rattle.si_semantics.specs.Operations.{exception, operate, operate_unary, load_global, call, reply}
-use Rattle.si_semantics.specs.Meaning.{State, Result, Gives, Leaves, Asks, Cut, Meaning, Scope, visit, then, printed, raised, asked, ran, assign, expr, exprs, stmt, stmts}
+use Rattle.si_semantics.specs.Operations.{exception, operate, operate_unary, is_true, compare, load_global, call, reply}
+use Rattle.si_semantics.specs.Meaning.{State, Raises, Breaks, Continues, Result, Gives, Leaves, Asks, Cut, Meaning, Scope, visit, then, printed, raised, asked, ran, assign, choose, decides, compared, expr, exprs, operands, chain, after_turn, loop, stmt, stmts}
 use Rattle.si_semantics.specs.Life.{Outcome, Returned, Told, Stops, IsGone, IsCut, Action, outcome_of, not_read, after_end, ends_with, run_ended, module_scope, takes, life, newborn, life_of}
 use Rattle.si_semantics.specs.Shows.{end_of}
 use Rattle.si_semantics.specs.Laws.{Grows, state_of, OneLife, LivesGrow, GoneStays}
@@ -63,6 +63,14 @@ ran_adds (Asked q w) s = let g = asked_adds s.answers q (record s { world = w })
 visit_adds : (s : State) → Grows s (visit s)
 visit_adds s = record { pieces = (same s).pieces; visits = omega arith }
 
+choose_adds : {A : Type 0} {s : State} (t : Bool) (r r' : Result A) → Grows s (state_at r) → Grows s (state_at r') → Grows s (state_at (choose t r r'))
+choose_adds true r r' g h = g
+choose_adds false r r' g h = h
+
+compared_adds : (cs : Comparisons) (t : Value) (rest : Meaning Value) → Adds rest → Adds (compared cs t rest)
+compared_adds NoComparisons t rest h s = same s
+compared_adds (MoreComparisons o a cs) t rest h s = choose_adds (is_true t) (rest s) (Gives t s) (h s) (same s)
+
 mutual
   expr_adds : (e : Scope) (a : Expr) → Adds (expr e a)
   expr_adds e (Constant v) s = visit_adds s
@@ -72,22 +80,63 @@ mutual
       both_add s (expr e a (visit s)) _ (trans (visit_adds s) (expr_adds e a (visit s))) (λ u s1. both_add s1 (expr e b s1) _ (expr_adds e b s1) (λ v s2. ran_adds (operate o u v s2.world) s2))
   expr_adds e (Call f args) s =
       both_add s (expr e f (visit s)) _ (trans (visit_adds s) (expr_adds e f (visit s))) (λ g s1. both_add s1 (exprs e args s1) _ (exprs_add e args s1) (λ vs s2. ran_adds (call g vs s2.world) s2))
+  expr_adds e (Boolean o a more) s = both_add s (expr e a (visit s)) _ (trans (visit_adds s) (expr_adds e a (visit s))) (λ u s1. operands_add e o u more s1)
+  expr_adds e (Compare a cs) s = both_add s (expr e a (visit s)) _ (trans (visit_adds s) (expr_adds e a (visit s))) (λ u s1. chain_adds e u cs s1)
+  expr_adds e (Conditional a b c) s =
+      both_add s (expr e a (visit s)) _ (trans (visit_adds s) (expr_adds e a (visit s))) (λ t s1. choose_adds (is_true t) (expr e b s1) (expr e c s1) (expr_adds e b s1) (expr_adds e c s1))
 
   exprs_add : (e : Scope) (args : Exprs) → Adds (exprs e args)
   exprs_add e NoExprs s = same s
   exprs_add e (MoreExprs a args) s =
       both_add s (expr e a s) _ (expr_adds e a s) (λ v s1. both_add s1 (exprs e args s1) _ (exprs_add e args s1) (λ vs s2. same s2))
 
+  operands_add : (e : Scope) (o : BooleanOperator) (u : Value) (more : Exprs) → Adds (operands e o u more)
+  operands_add e o u NoExprs s = same s
+  operands_add e o u (MoreExprs a more) s =
+      choose_adds (decides o u) (Gives u s) (then (expr e a s) (λ v s1. operands e o v more s1)) (same s) (both_add s (expr e a s) _ (expr_adds e a s) (λ v s1. operands_add e o v more s1))
+
+  chain_adds : (e : Scope) (u : Value) (cs : Comparisons) → Adds (chain e u cs)
+  chain_adds e u NoComparisons s = same s
+  chain_adds e u (MoreComparisons o a cs) s =
+      both_add s (expr e a s) _ (expr_adds e a s)
+      (λ v s1. both_add s1 (ran (compare o u v s1.world) s1) _ (ran_adds (compare o u v s1.world) s1) (λ t s2. compared_adds cs t (chain e v cs) (λ s3. chain_adds e v cs s3) s2))
+
 assign_adds : (x : Text) (v : Value) → Adds (assign x v)
 assign_adds x v s = record { pieces = (same s).pieces; visits = (same s).visits }
 
-stmt_adds : (e : Scope) (a : Stmt) → Adds (stmt e a)
-stmt_adds e (Evaluate a) s = both_add s (expr e a (visit s)) _ (trans (visit_adds s) (expr_adds e a (visit s))) (λ v s1. same s1)
-stmt_adds e (Assign x a) s = both_add s (expr e a (visit s)) _ (trans (visit_adds s) (expr_adds e a (visit s))) (λ v s1. trans (visit_adds s1) (assign_adds x v (visit s1)))
+after_turn_adds : (r : Result (Unit {0})) (again : Meaning (Unit {0})) → Adds again → Grows (state_at r) (state_at (after_turn r again))
+after_turn_adds (Gives u s) again h = h s
+after_turn_adds (Leaves Continues s) again h = h s
+after_turn_adds (Leaves Breaks s) again h = same s
+after_turn_adds (Leaves (Raises x) s) again h = same s
+after_turn_adds (Asks q s) again h = same s
+after_turn_adds (Cut s) again h = same s
 
-stmts_add : (e : Scope) (b : Stmts) → Adds (stmts e b)
-stmts_add e NoStmts s = same s
-stmts_add e (MoreStmts a b) s = both_add s (stmt e a s) _ (stmt_adds e a s) (λ u s1. stmts_add e b s1)
+loop_adds : (n : ℕ) (test : Meaning Value) (body last : Meaning (Unit {0})) → Adds test → Adds body → Adds last → Adds (loop n test body last)
+loop_adds zero test body last h k l s = same s
+loop_adds (suc n) test body last h k l s =
+    both_add s (test (visit s)) _ (trans (visit_adds s) (h (visit s)))
+    (λ t s1. choose_adds (is_true t) (after_turn (body s1) (loop n test body last)) (last s1) (trans (k s1) (after_turn_adds (body s1) (loop n test body last) (loop_adds n test body last h k l))) (l s1))
+
+mutual
+  stmt_adds : (e : Scope) (a : Stmt) → Adds (stmt e a)
+  stmt_adds e (Evaluate a) s = both_add s (expr e a (visit s)) _ (trans (visit_adds s) (expr_adds e a (visit s))) (λ v s1. same s1)
+  stmt_adds e (Assign x a) s = both_add s (expr e a (visit s)) _ (trans (visit_adds s) (expr_adds e a (visit s))) (λ v s1. trans (visit_adds s1) (assign_adds x v (visit s1)))
+  stmt_adds e (Augment x o a) s =
+      both_add s (ran (load_global x s.world) (visit (visit s))) _ (trans (trans (visit_adds s) (visit_adds (visit s))) (ran_adds (load_global x s.world) (visit (visit s))))
+      (λ u s1. both_add s1 (expr e a s1) _ (expr_adds e a s1)
+      (λ v s2. both_add s2 (ran (operate o u v s2.world) s2) _ (ran_adds (operate o u v s2.world) s2) (λ z s3. assign_adds x z s3)))
+  stmt_adds e Pass s = visit_adds s
+  stmt_adds e (If a b c) s =
+      both_add s (expr e a (visit s)) _ (trans (visit_adds s) (expr_adds e a (visit s))) (λ t s1. choose_adds (is_true t) (stmts e b s1) (stmts e c s1) (stmts_add e b s1) (stmts_add e c s1))
+  stmt_adds e (While a b c) s =
+      trans (visit_adds s) (loop_adds e.turns (expr e a) (stmts e b) (stmts e c) (λ s1. expr_adds e a s1) (λ s1. stmts_add e b s1) (λ s1. stmts_add e c s1) (visit s))
+  stmt_adds e Break s = visit_adds s
+  stmt_adds e Continue s = visit_adds s
+
+  stmts_add : (e : Scope) (b : Stmts) → Adds (stmts e b)
+  stmts_add e NoStmts s = same s
+  stmts_add e (MoreStmts a b) s = both_add s (stmt e a s) _ (stmt_adds e a s) (λ u s1. stmts_add e b s1)
 
 -- ---- growing, of a life
 
@@ -165,6 +214,35 @@ ran_further b (Gave v out w) s = printed_further b out v (record s { world = w }
 ran_further b (Threw k a w) s = refl
 ran_further b (Asked q w) s = asked_further b s.answers q (record s { world = w }) (s.answers ++ b)
 
+choose_further : {A : Type 0} (b : List Answer) (t : Bool) (r q r' q' : Result A) → Further b r r' → Further b q q' → Further b (choose t r q) (choose t r' q')
+choose_further b true r q r' q' h k = h
+choose_further b false r q r' q' h k = k
+
+compared_further : (b : List Answer) (cs : Comparisons) (t : Value) (rest rest' : Meaning Value) → ((s : State) → Further b (rest s) (rest' (more b s))) → (s : State) → Further b (compared cs t rest s) (compared cs t rest' (more b s))
+compared_further b NoComparisons t rest rest' h s = refl
+compared_further b (MoreComparisons o a cs) t rest rest' h s = choose_further b (is_true t) (rest s) (Gives t s) (rest' (more b s)) (Gives t (more b s)) (h s) refl
+
+after_turn_further : (b : List Answer) (r r' : Result (Unit {0})) (again again' : Meaning (Unit {0})) → Further b r r' → ((s : State) → Further b (again s) (again' (more b s))) → Adds again' → Further b (after_turn r again) (after_turn r' again')
+after_turn_further b (Gives u s) r' again again' h k g = subst (λ x. Further b (again s) (after_turn x again')) (sym h) (k s)
+after_turn_further b (Leaves Continues s) r' again again' h k g = subst (λ x. Further b (again s) (after_turn x again')) (sym h) (k s)
+after_turn_further b (Leaves Breaks s) r' again again' h k g = ap (λ x. after_turn x again') h
+after_turn_further b (Leaves (Raises x) s) r' again again' h k g = ap (λ x. after_turn x again') h
+after_turn_further b (Asks q s) r' again again' h k g = (trans h.0 (after_turn_adds r' again' g), λ e. ap (λ x. after_turn x again') (h.1 e))
+after_turn_further b (Cut s) r' again again' h k g = trans h (after_turn_adds r' again' g)
+
+-- a loop, from what is known of its parts
+module _ (b : List Answer) (test test' : Meaning Value) (body body' last last' : Meaning (Unit {0}))
+    (tests : (s : State) → Further b (test s) (test' (more b s))) (bodies : (s : State) → Further b (body s) (body' (more b s))) (lasts : (s : State) → Further b (last s) (last' (more b s)))
+    (test_adds : Adds test') (body_adds : Adds body') (last_adds : Adds last') where
+  loop_further : (n m : ℕ) → n ≤ m → (s : State) → Further b (loop n test body last s) (loop m test' body' last' (more b s))
+  loop_further zero m fewer s = let g = loop_adds m test' body' last' test_adds body_adds last_adds (more b s) in record { pieces = g.pieces; visits = g.visits }
+  loop_further (suc n) zero fewer s = absurd (omega arith)
+  loop_further (suc n) (suc m) fewer s =
+      let adds = loop_adds m test' body' last' test_adds body_adds last_adds in
+      then_further b _ _ _ _ (tests (visit s))
+      (λ t s1. choose_further b (is_true t) _ _ _ _ (after_turn_further b (body s1) (body' (more b s1)) (loop n test body last) (loop m test' body' last') (bodies s1) (λ s2. loop_further n m (omega arith) s2) adds) (lasts s1))
+      (λ t s1. choose_adds (is_true t) (after_turn (body' s1) (loop m test' body' last')) (last' s1) (trans (body_adds s1) (after_turn_adds (body' s1) (loop m test' body' last') adds)) (last_adds s1))
+
 -- scopes that differ in the most turns of a loop
 module _ (b : List Answer) (active : Option Exception) (n m : ℕ) (fewer : n ≤ m) where
   abbrev first : Scope
@@ -187,6 +265,12 @@ module _ (b : List Answer) (active : Option Exception) (n m : ℕ) (fewer : n �
         then_further b _ _ _ _ (expr_further f (visit s))
         (λ g s1. then_further b _ _ _ _ (exprs_further args s1) (λ vs s2. ran_further b (call g vs s2.world) s2) (λ vs s2. ran_adds (call g vs s2.world) s2))
         (λ g s1. both_add s1 (exprs second args s1) _ (exprs_add second args s1) (λ vs s2. ran_adds (call g vs s2.world) s2))
+    expr_further (Boolean o a c) s = then_further b _ _ _ _ (expr_further a (visit s)) (λ u s1. operands_further o u c s1) (λ u s1. operands_add second o u c s1)
+    expr_further (Compare a cs) s = then_further b _ _ _ _ (expr_further a (visit s)) (λ u s1. chain_further u cs s1) (λ u s1. chain_adds second u cs s1)
+    expr_further (Conditional a c d) s =
+        then_further b _ _ _ _ (expr_further a (visit s))
+        (λ t s1. choose_further b (is_true t) _ _ _ _ (expr_further c s1) (expr_further d s1))
+        (λ t s1. choose_adds (is_true t) (expr second c s1) (expr second d s1) (expr_adds second c s1) (expr_adds second d s1))
 
     exprs_further : (args : Exprs) (s : State) → Further b (exprs first args s) (exprs second args (more b s))
     exprs_further NoExprs s = refl
@@ -195,14 +279,48 @@ module _ (b : List Answer) (active : Option Exception) (n m : ℕ) (fewer : n �
         (λ v s1. then_further b _ _ _ _ (exprs_further args s1) (λ vs s2. refl) (λ vs s2. same s2))
         (λ v s1. both_add s1 (exprs second args s1) _ (exprs_add second args s1) (λ vs s2. same s2))
 
-  stmt_further : (a : Stmt) (s : State) → Further b (stmt first a s) (stmt second a (more b s))
-  stmt_further (Evaluate a) s = then_further b _ _ _ _ (expr_further a (visit s)) (λ v s1. refl) (λ v s1. same s1)
-  stmt_further (Assign x a) s =
-      then_further b _ _ _ _ (expr_further a (visit s)) (λ v s1. refl) (λ v s1. trans (visit_adds s1) (assign_adds x v (visit s1)))
+    operands_further : (o : BooleanOperator) (u : Value) (c : Exprs) (s : State) → Further b (operands first o u c s) (operands second o u c (more b s))
+    operands_further o u NoExprs s = refl
+    operands_further o u (MoreExprs a c) s =
+        choose_further b (decides o u) _ _ _ _ refl
+        (then_further b _ _ _ _ (expr_further a s) (λ v s1. operands_further o v c s1) (λ v s1. operands_add second o v c s1))
 
-  stmts_further : (c : Stmts) (s : State) → Further b (stmts first c s) (stmts second c (more b s))
-  stmts_further NoStmts s = refl
-  stmts_further (MoreStmts a c) s = then_further b _ _ _ _ (stmt_further a s) (λ u s1. stmts_further c s1) (λ u s1. stmts_add second c s1)
+    chain_further : (u : Value) (cs : Comparisons) (s : State) → Further b (chain first u cs s) (chain second u cs (more b s))
+    chain_further u NoComparisons s = refl
+    chain_further u (MoreComparisons o a cs) s =
+        then_further b _ _ _ _ (expr_further a s)
+        (λ v s1. then_further b _ _ _ _ (ran_further b (compare o u v s1.world) s1)
+        (λ t s2. compared_further b cs t (chain first v cs) (chain second v cs) (λ s3. chain_further v cs s3) s2)
+        (λ t s2. compared_adds cs t (chain second v cs) (chain_adds second v cs) s2))
+        (λ v s1. both_add s1 (ran (compare o u v s1.world) s1) _ (ran_adds (compare o u v s1.world) s1) (λ t s2. compared_adds cs t (chain second v cs) (chain_adds second v cs) s2))
+
+  mutual
+    stmt_further : (a : Stmt) (s : State) → Further b (stmt first a s) (stmt second a (more b s))
+    stmt_further (Evaluate a) s = then_further b _ _ _ _ (expr_further a (visit s)) (λ v s1. refl) (λ v s1. same s1)
+    stmt_further (Assign x a) s =
+        then_further b _ _ _ _ (expr_further a (visit s)) (λ v s1. refl) (λ v s1. trans (visit_adds s1) (assign_adds x v (visit s1)))
+    stmt_further (Augment x o a) s =
+        then_further b _ _ _ _ (ran_further b (load_global x s.world) (visit (visit s)))
+        (λ u s1. then_further b _ _ _ _ (expr_further a s1)
+        (λ v s2. then_further b _ _ _ _ (ran_further b (operate o u v s2.world) s2) (λ z s3. refl) (λ z s3. assign_adds x z s3))
+        (λ v s2. both_add s2 (ran (operate o u v s2.world) s2) _ (ran_adds (operate o u v s2.world) s2) (λ z s3. assign_adds x z s3)))
+        (λ u s1. both_add s1 (expr second a s1) _ (expr_adds second a s1)
+        (λ v s2. both_add s2 (ran (operate o u v s2.world) s2) _ (ran_adds (operate o u v s2.world) s2) (λ z s3. assign_adds x z s3)))
+    stmt_further Pass s = refl
+    stmt_further (If a c d) s =
+        then_further b _ _ _ _ (expr_further a (visit s))
+        (λ t s1. choose_further b (is_true t) _ _ _ _ (stmts_further c s1) (stmts_further d s1))
+        (λ t s1. choose_adds (is_true t) (stmts second c s1) (stmts second d s1) (stmts_add second c s1) (stmts_add second d s1))
+    stmt_further (While a c d) s =
+        loop_further b (expr first a) (expr second a) (stmts first c) (stmts second c) (stmts first d) (stmts second d)
+        (λ s1. expr_further a s1) (λ s1. stmts_further c s1) (λ s1. stmts_further d s1)
+        (λ s1. expr_adds second a s1) (λ s1. stmts_add second c s1) (λ s1. stmts_add second d s1) n m fewer (visit s)
+    stmt_further Break s = refl
+    stmt_further Continue s = refl
+
+    stmts_further : (c : Stmts) (s : State) → Further b (stmts first c s) (stmts second c (more b s))
+    stmts_further NoStmts s = refl
+    stmts_further (MoreStmts a c) s = then_further b _ _ _ _ (stmt_further a s) (λ u s1. stmts_further c s1) (λ u s1. stmts_add second c s1)
 
 -- ---- going further, of a life
 

@@ -1,12 +1,12 @@
 -- The worked cases compute.
 use Rattle.std.specs.Prelude.{refl}
 use Rattle.std.specs.Fmt.{digits}
-use Rattle.si_plain.specs.Integers.{in_range, sum_of, difference_of, product_of, negative_of, floor_over, floor_of, rest_of, floor_quotient, floor_remainder, power_of, power_result}
+use Rattle.si_plain.specs.Integers.{in_range, sum_of, difference_of, product_of, negative_of, floor_over, floor_of, rest_of, floor_quotient, floor_remainder, power_of, power_result, shifted_left, shifted_right, inverted, bits_and, bits_or, bits_xor}
 use Rattle.si_plain.specs.Kinds.{name_of}
 use Rattle.si_semantics.specs.Cases.{Cases}
 
 pub worked : Cases
-unfolding digits in_range sum_of difference_of product_of negative_of floor_over floor_of rest_of floor_quotient floor_remainder power_of power_result name_of
+unfolding digits in_range sum_of difference_of product_of negative_of floor_over floor_of rest_of floor_quotient floor_remainder power_of power_result shifted_left shifted_right inverted bits_and bits_or bits_xor name_of
 worked = record {
   floor_division = refl;
   sum_past_the_range = refl;
@@ -33,4 +33,21 @@ worked = record {
   visits_of_a_run = refl;
   pieces_of_a_life = refl;
   end_of_a_life = refl;
+  truths_as_integers = refl;
+  bits = refl;
+  shifted_by_less_than_nothing = refl;
+  comparisons = refl;
+  no_order = refl;
+  chains = refl;
+  operands_given = refl;
+  one_of_two = refl;
+  read_before_the_right_side = refl;
+  broken_and_continued = refl;
+  cut_before_the_break = refl;
+  no_end_before_the_break = refl;
+  endless_loop = refl;
+  no_end = refl;
+  number_behind_a_loop = refl;
+  visits_of_a_loop = refl;
+  last_turn_counts = refl;
 }

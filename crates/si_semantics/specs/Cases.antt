@@ -1,7 +1,7 @@
 -- Worked cases: what scripts print and how they end, computed from the definitions.
-use Rattle.std.specs.Prelude.{◌≡◌, codes, ℕ, pos, List, [], ◌∷◌, ◌++◌, Some, None}
-use Rattle.si_semantics.specs.Value.{Text, Int, Str}
-use Rattle.si_semantics.specs.Tree.{Add, Subtract, Multiply, FloorDivide, Modulo, Power, Minus, Expr, Constant, Name, Unary, Binary, Call, Exprs, NoExprs, MoreExprs, Stmt, Evaluate, Assign, Stmts, NoStmts, MoreStmts}
+use Rattle.std.specs.Prelude.{◌≡◌, codes, ℕ, pos, List, [], ◌∷◌, ◌++◌, true, false, Some, None}
+use Rattle.si_semantics.specs.Value.{Text, Nothing, Truth, Int, Str}
+use Rattle.si_semantics.specs.Tree.{Add, Subtract, Multiply, FloorDivide, Modulo, Power, BitOr, BitXor, BitAnd, ShiftLeft, ShiftRight, Minus, Invert, Not, ComparisonOperator, Less, Greater, LessEqual, Equal, NotEqual, Is, And, Or, Expr, Constant, Name, Unary, Binary, Call, Boolean, Compare, Conditional, Exprs, NoExprs, MoreExprs, NoComparisons, MoreComparisons, Stmt, Evaluate, Assign, Augment, Pass, If, While, Break, Continue, Stmts, NoStmts, MoreStmts}
 use Rattle.si_semantics.specs.Text.{repr_text}
 use Rattle.si_semantics.specs.World.{Answer, Taken, Done, Bind, Run, Closing}
 use Rattle.si_semantics.specs.Life.{Outcome, Returned, End, Told, Stops, life_of}
@@ -30,6 +30,14 @@ abbrev pub suite : List Stmt → Stmts
 suite [] = NoStmts
 suite (a ∷ more) = MoreStmts a (suite more)
 
+-- `a o b`, for an operator of comparison
+abbrev pub compared : ComparisonOperator → Expr → Expr → Expr
+compared o a b = Compare a (MoreComparisons o b NoComparisons)
+
+-- `i`
+abbrev pub i_name : Expr
+i_name = Name (codes "i")
+
 -- `'a'`
 abbrev pub a_text : Expr
 a_text = str (codes "a")
@@ -46,6 +54,30 @@ three_values =
 abbrev pub three_lines : List Stmt
 three_lines = Assign (codes "a") (int 7) ∷ Assign (codes "b") (str (codes "x")) ∷ Evaluate (print three_values) ∷ []
 
+-- `i = 0`, `while i < 2: i += 1`, then `print(i)`
+abbrev pub counting : List Stmt
+counting =
+    Assign (codes "i") (int 0)
+    ∷ While (compared Less i_name (int 2)) (suite (Augment (codes "i") Add (int 1) ∷ [])) NoStmts
+    ∷ Evaluate (print (i_name ∷ []))
+    ∷ []
+
+-- `i += 1`, `if i == 2: continue`, `elif i == 4: break`, `else: pass`, then `print(i)`
+abbrev pub turn : List Stmt
+turn =
+    Augment (codes "i") Add (int 1)
+    ∷ If (compared Equal i_name (int 2)) (suite (Continue ∷ [])) (suite (If (compared Equal i_name (int 4)) (suite (Break ∷ [])) (suite (Pass ∷ [])) ∷ []))
+    ∷ Evaluate (print (i_name ∷ []))
+    ∷ []
+
+-- `i = 0`, then `while True:` with that for its suite, then `print('a')`
+abbrev pub left_by_break : List Stmt
+left_by_break = Assign (codes "i") (int 0) ∷ While (Constant (Truth true)) (suite turn) NoStmts ∷ Evaluate (print (a_text ∷ [])) ∷ []
+
+-- `while True: print('a')`
+abbrev pub endless : List Stmt
+endless = While (Constant (Truth true)) (suite (Evaluate (print (a_text ∷ [])) ∷ [])) NoStmts ∷ []
+
 -- `a` is bound to 7, then `print(a)` is run, then a text that is not read, and then the interpreter is closed
 abbrev pub four_jobs : List Answer
 four_jobs =
@@ -57,18 +89,30 @@ four_jobs =
 
 -- ---- what becomes of them
 
--- the life of an interpreter that is given a text to run
+-- the life of an interpreter that is given a text to run, with at most n turns of a loop
+abbrev pub run_within : ℕ → List Stmt → Told
+run_within n body = life_of n (Taken (Run (Some (record { body = suite body }))) ∷ [])
+
+-- the same of a text without a loop
 abbrev pub run_of : List Stmt → Told
-run_of body = life_of 0 (Taken (Run (Some (record { body = suite body }))) ∷ [])
+run_of body = run_within 0 body
 
 -- how the run ends that a life tells of
 abbrev pub outcome : Told → Outcome
 outcome (Stops (End o) s) = o
 outcome _ = Returned
 
--- the report of a script
+-- the report of a script, with at most n turns of a loop
+abbrev pub report_within : ℕ → List Stmt → Text
+report_within n body = report (joined (texts_of (run_within n body))) (AtEnd (outcome (run_within n body)))
+
+-- the same of a text without a loop
 abbrev pub report_of : List Stmt → Text
-report_of body = report (joined (texts_of (run_of body))) (AtEnd (outcome (run_of body)))
+report_of body = report_within 0 body
+
+-- what a text without a loop reports that prints these values
+abbrev pub shown : List Expr → Text
+shown args = report_of (Evaluate (print args) ∷ [])
 
 -- ---- the cases
 
@@ -124,3 +168,35 @@ pub record Cases : Type 0 where
   pub pieces_of_a_life : pieces_of (life_of 0 four_jobs) ≡ record { text = codes "7\n"; number = 6 } ∷ []
   -- closed, it is gone
   pub end_of_a_life : end_of (life_of 0 four_jobs) ≡ Some (None, 10)
+  -- `print(True + True, True & False, True | False, True ^ True, 'a' * True)`: they count as 1 and 0, and `&`, `|` and `^` give one of them
+  pub truths_as_integers : shown (Binary Add (Constant (Truth true)) (Constant (Truth true)) ∷ Binary BitAnd (Constant (Truth true)) (Constant (Truth false)) ∷ Binary BitOr (Constant (Truth true)) (Constant (Truth false)) ∷ Binary BitXor (Constant (Truth true)) (Constant (Truth true)) ∷ Binary Multiply a_text (Constant (Truth true)) ∷ []) ≡ codes "== interpreter 0 ==\n2 False True False a\nend: finished\n"
+  -- `print(6 & -4, 6 | -4, 6 ^ -4, ~6, ~True, 3 << 4, -7 >> 1)`
+  pub bits : shown (Binary BitAnd (int 6) (minus (int 4)) ∷ Binary BitOr (int 6) (minus (int 4)) ∷ Binary BitXor (int 6) (minus (int 4)) ∷ Unary Invert (int 6) ∷ Unary Invert (Constant (Truth true)) ∷ Binary ShiftLeft (int 3) (int 4) ∷ Binary ShiftRight (minus (int 7)) (int 1) ∷ []) ≡ codes "== interpreter 0 ==\n4 -2 -6 -7 -2 48 -4\nend: finished\n"
+  -- `1 << -1`
+  pub shifted_by_less_than_nothing : report_of (Evaluate (Binary ShiftLeft (int 1) (minus (int 1))) ∷ []) ≡ codes "== interpreter 0 ==\nraised ValueError: wrong value\nend: finished\n"
+  -- `print(True == 1, 'a' < 'ab', 'b' <= 'ab', 'a' == 97, None is None, 1 is True)`
+  pub comparisons : shown (compared Equal (Constant (Truth true)) (int 1) ∷ compared Less a_text (str (codes "ab")) ∷ compared LessEqual (str (codes "b")) (str (codes "ab")) ∷ compared Equal a_text (int 97) ∷ compared Is (Constant Nothing) (Constant Nothing) ∷ compared Is (int 1) (Constant (Truth true)) ∷ []) ≡ codes "== interpreter 0 ==\nTrue True False False True False\nend: finished\n"
+  -- `'a' < 1`
+  pub no_order : report_of (Evaluate (compared Less a_text (int 1)) ∷ []) ≡ codes "== interpreter 0 ==\nraised TypeError: wrong type\nend: finished\n"
+  -- `print(1 < 2 < 3, 2 > 1 != 1, 1 > 2 > f)` where f is not bound: a comparison that is not true ends the chain
+  pub chains : shown (Compare (int 1) (MoreComparisons Less (int 2) (MoreComparisons Less (int 3) NoComparisons)) ∷ Compare (int 2) (MoreComparisons Greater (int 1) (MoreComparisons NotEqual (int 1) NoComparisons)) ∷ Compare (int 1) (MoreComparisons Greater (int 2) (MoreComparisons Greater (Name (codes "f")) NoComparisons)) ∷ []) ≡ codes "== interpreter 0 ==\nTrue False False\nend: finished\n"
+  -- `print(0 or 'a' or f, 1 and '' and f, not '')` where f is not bound: one of the operands is given, and those behind it are not evaluated
+  pub operands_given : shown (Boolean Or (int 0) (arguments (a_text ∷ Name (codes "f") ∷ [])) ∷ Boolean And (int 1) (arguments (str [] ∷ Name (codes "f") ∷ [])) ∷ Unary Not (str []) ∷ []) ≡ codes "== interpreter 0 ==\na  True\nend: finished\n"
+  -- `print('a' if 1 else f, f if None else 2)` where f is not bound
+  pub one_of_two : shown (Conditional (int 1) a_text (Name (codes "f")) ∷ Conditional (Constant Nothing) (Name (codes "f")) (int 2) ∷ []) ≡ codes "== interpreter 0 ==\na 2\nend: finished\n"
+  -- `a += print('a')` where a is not bound: it is read before the right side is evaluated
+  pub read_before_the_right_side : report_of (Augment (codes "a") Add (print (a_text ∷ [])) ∷ []) ≡ codes "== interpreter 0 ==\nraised NameError: name a is not defined\nend: finished\n"
+  -- 2 ends its turn, 4 the loop
+  pub broken_and_continued : report_within 4 left_by_break ≡ codes "== interpreter 0 ==\n1\n3\na\nend: finished\n"
+  -- with three turns it is cut behind the third
+  pub cut_before_the_break : texts_of (run_within 3 left_by_break) ≡ codes "1\n" ∷ codes "3\n" ∷ []
+  pub no_end_before_the_break : end_of (run_within 3 left_by_break) ≡ None
+  -- The wait for the job is visit 1, the loop 2. A turn is 3, its test 4, the statement 5, the call 6, its callee 7, the literal 8; the next turn ends with 14.
+  pub endless_loop : pieces_of (run_within 2 endless) ≡ record { text = codes "a\n"; number = 8 } ∷ record { text = codes "a\n"; number = 14 } ∷ []
+  pub no_end : end_of (run_within 2 endless) ≡ None
+  -- The wait for the job is visit 1. `i = 0` is 2, its literal 3, its target 4. The loop is 5, its first turn 6, the test 7, 8 and 9, `i += 1` 10, its target 11, its literal 12;
+  -- the second turn is 13 to 19; the third 20, with its test 21, 22 and 23, ends the loop. The last statement is 24, the call 25, its callee 26, i 27. Then the piece is printed, and the end is 28.
+  pub number_behind_a_loop : pieces_of (run_within 3 counting) ≡ record { text = codes "2\n"; number = 27 } ∷ []
+  pub visits_of_a_loop : end_of (run_within 3 counting) ≡ Some (Some (End Returned), 28)
+  -- the test that ends a loop is a turn
+  pub last_turn_counts : end_of (run_within 2 counting) ≡ None

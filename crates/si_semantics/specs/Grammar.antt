@@ -1,8 +1,8 @@
 -- The grammar: which tokens derive which tree (Python Language Reference 3.14, 6, 7 and 10).
 -- Each rule stands in the line above its production, in the notation of the reference.
 use Rattle.std.specs.Prelude.{◌≡◌, ℕ, zero, suc, ◌+◌, ◌-◌, ◌*◌, ◌<◌, ◌≤◌, max, ℤ, pos, ◌&&◌, ◌||◌, List, [], ◌∷◌, ◌++◌, length, flat_map, chars, ◌⊎◌, Option, Some, None, option_map, option_and_then, nat_eq, nat_le, if◌then◌else◌}
-use Rattle.si_semantics.specs.Value.{Text, Nothing, Int, Str, Provided}
-use Rattle.si_semantics.specs.Tree.{BinaryOperator, Add, Subtract, Multiply, FloorDivide, Modulo, Power, UnaryOperator, Expr, Constant, Name, Unary, Binary, Call, Exprs, NoExprs, MoreExprs, Stmt, Evaluate, Assign, Stmts, NoStmts, MoreStmts}
+use Rattle.si_semantics.specs.Value.{Text, Nothing, Truth, Int, Str, Provided}
+use Rattle.si_semantics.specs.Tree.{BinaryOperator, Add, Subtract, Multiply, FloorDivide, Modulo, Power, BitOr, BitXor, BitAnd, ShiftLeft, ShiftRight, UnaryOperator, Expr, Constant, Name, Unary, Binary, Call, Boolean, Compare, Conditional, Exprs, NoExprs, MoreExprs, Comparisons, NoComparisons, MoreComparisons, Stmt, Evaluate, Assign, Augment, Pass, If, While, Break, Continue, Stmts, NoStmts, MoreStmts}
 use Rattle.si_semantics.specs.Tree as tree
 use Rattle.si_semantics.specs.Tokens.{Symbol, Keyword, TokenKind, Token}
 use Rattle.si_semantics.specs.Tokens as token
@@ -83,7 +83,7 @@ value_of_str literal = quoted (chars literal)
 
 -- ---- precedence (6.17)
 
--- the level of an operator between two operands: a tighter one has a higher level
+-- the level of an operator between two operands: a tighter one has a higher level; those of level 0 are not read yet
 abbrev pub level_of : BinaryOperator → ℕ
 level_of Add = 14
 level_of Subtract = 14
@@ -91,6 +91,11 @@ level_of Multiply = 15
 level_of FloorDivide = 15
 level_of Modulo = 15
 level_of Power = 17
+level_of BitOr = 0
+level_of BitXor = 0
+level_of BitAnd = 0
+level_of ShiftLeft = 0
+level_of ShiftRight = 0
 
 -- the level that its left operand has at least
 abbrev pub left_level : BinaryOperator → ℕ
@@ -100,6 +105,11 @@ left_level Multiply = 15
 left_level FloorDivide = 15
 left_level Modulo = 15
 left_level Power = 18
+left_level BitOr = 0
+left_level BitXor = 0
+left_level BitAnd = 0
+left_level ShiftLeft = 0
+left_level ShiftRight = 0
 
 -- the level that its right operand has at least
 abbrev pub right_level : BinaryOperator → ℕ
@@ -109,6 +119,11 @@ right_level Multiply = 16
 right_level FloorDivide = 16
 right_level Modulo = 16
 right_level Power = 16
+right_level BitOr = 1
+right_level BitXor = 1
+right_level BitAnd = 1
+right_level ShiftLeft = 1
+right_level ShiftRight = 1
 
 abbrev pub symbol_of : BinaryOperator → Symbol
 symbol_of Add = token.Plus
@@ -117,10 +132,24 @@ symbol_of Multiply = token.Star
 symbol_of FloorDivide = token.DoubleSlash
 symbol_of Modulo = token.Percent
 symbol_of Power = token.DoubleStar
+symbol_of BitOr = token.Bar
+symbol_of BitXor = token.Caret
+symbol_of BitAnd = token.Ampersand
+symbol_of ShiftLeft = token.LeftShift
+symbol_of ShiftRight = token.RightShift
 
 abbrev pub sign_of : UnaryOperator → Symbol
 sign_of tree.Plus = token.Plus
 sign_of tree.Minus = token.Minus
+sign_of tree.Invert = token.Tilde
+sign_of tree.Not = token.Tilde
+
+-- the level of an operator before its operand; those of level 0 are not read yet
+abbrev pub sign_level : UnaryOperator → ℕ
+sign_level tree.Plus = 16
+sign_level tree.Minus = 16
+sign_level tree.Invert = 0
+sign_level tree.Not = 0
 
 -- ---- lists of items
 
@@ -166,15 +195,20 @@ Produces E l (Name x) ts = ts ≡ NAME x ∷ []
 Produces E l (Constant (Int n)) ts = (digits : List ℕ) × (ts ≡ NUMBER digits ∷ []) × (value_of_int digits ≡ Some n)
 Produces E l (Constant (Str s)) ts = (0 < length ts) × Strings s ts
 Produces E l (Constant Nothing) ts = ⊥
+Produces E l (Constant (Truth b)) ts = ⊥
 Produces E l (Constant (Provided b)) ts = ⊥
 -- factor: ('+' | '-') factor
-Produces E l (Unary op a) ts = (f : List Terminal) × (ts ≡ Sign (sign_of op) ∷ f) × (l ≤ 16) × E 16 a f
+Produces E l (Unary op a) ts = (f : List Terminal) × (ts ≡ Sign (sign_of op) ∷ f) × (l ≤ sign_level op) × E 16 a f
 -- sum: sum ('+' | '-') term; term: term ('*' | '//' | '%') factor; power: primary '**' factor
 Produces E l (Binary op a b) ts =
     (f : List Terminal) × (g : List Terminal) × (ts ≡ f ++ Sign (symbol_of op) ∷ g) × (l ≤ level_of op) × E (left_level op) a f × E (right_level op) b g
 -- primary: primary '(' [ expression { ',' expression } [','] ] ')'
 Produces E l (Call a args) ts =
     (f : List Terminal) × (g : List Terminal) × (ts ≡ f ++ Sign token.LeftParenthesis ∷ (g ++ Sign token.RightParenthesis ∷ [])) × (l ≤ 18) × E 18 a f × Separated (E 1) token.Comma (items_of args) g
+-- not read yet
+Produces E l (Boolean o a more) ts = ⊥
+Produces E l (Compare a cs) ts = ⊥
+Produces E l (Conditional a b c) ts = ⊥
 
 -- The tokens of a tree of at most this depth, where an expression of level l may stand.
 -- group: '(' expression ')'. It makes no node, and adds 1 to the depth.
@@ -196,6 +230,13 @@ IsExpression = Spells max_depth 1
 abbrev pub Small : Stmt → List Terminal → Type 0
 Small (Evaluate e) ts = IsExpression e ts
 Small (Assign x e) ts = (f : List Terminal) × (g : List Terminal) × (ts ≡ f ++ Sign token.Equal ∷ g) × IsExpression (Name x) f × IsExpression e g
+-- not read yet
+Small (Augment x o e) ts = ⊥
+Small Pass ts = ⊥
+Small (If a b c) ts = ⊥
+Small (While a b c) ts = ⊥
+Small Break ts = ⊥
+Small Continue ts = ⊥
 
 -- simple: small { ';' small } [';'] NEWLINE
 abbrev pub Simple : List Stmt → List Terminal → Type 0
@@ -220,12 +261,26 @@ abbrev mutual
   depth_of (Unary op a) = depth_of a + 1
   depth_of (Binary op a b) = max (depth_of a) (depth_of b) + 1
   depth_of (Call a args) = max (depth_of a) (depth_of_all args) + 1
+  depth_of (Boolean o a more) = max (depth_of a) (depth_of_all more) + 1
+  depth_of (Compare a cs) = max (depth_of a) (depth_of_chain cs) + 1
+  depth_of (Conditional a b c) = max (depth_of a) (max (depth_of b) (depth_of c)) + 1
 
   pub depth_of_all : Exprs → ℕ
   depth_of_all NoExprs = 0
   depth_of_all (MoreExprs e es) = max (depth_of e) (depth_of_all es)
 
+  pub depth_of_chain : Comparisons → ℕ
+  depth_of_chain NoComparisons = 0
+  depth_of_chain (MoreComparisons o e cs) = max (depth_of e) (depth_of_chain cs)
+
 -- no expression of the statement is deeper than the limit
 abbrev pub IsShallow : Stmt → Type 0
 IsShallow (Evaluate e) = depth_of e ≤ max_depth
 IsShallow (Assign x e) = depth_of e ≤ max_depth
+-- not read yet
+IsShallow (Augment x o e) = ⊥
+IsShallow Pass = ⊥
+IsShallow (If a b c) = ⊥
+IsShallow (While a b c) = ⊥
+IsShallow Break = ⊥
+IsShallow Continue = ⊥

@@ -5,7 +5,7 @@ use Rattle.si_plain.specs.declared.kind.Kind.TheVariants.{SyntaxError}
 use Rattle.si_semantics.specs.Value.{Text, Thrown}
 use Rattle.si_semantics.specs.Text.{message_of}
 use Rattle.si_semantics.specs.World.{World, Request, Bind, Run, Closing, Answer, Taken, Done, bind_all, first_world}
-use Rattle.si_semantics.specs.Meaning.{State, Leave, Raises, Result, Gives, Leaves, Asks, Cut, Scope, visit, stmts}
+use Rattle.si_semantics.specs.Meaning.{State, Leave, Raises, Breaks, Continues, Result, Gives, Leaves, Asks, Cut, Scope, visit, stmts}
 
 -- how a run ended: at its end, or left by an exception of a kind with a message
 pub data Outcome : Type 0 where
@@ -24,9 +24,11 @@ pub data Told : Type 0 where
   IsGone : State → Told
   IsCut : State → Told
 
--- the outcome of a run that was left
+-- the outcome of a run that was left; `break` and `continue` stand in loops alone (Language Reference, 7.9 and 7.10), and leave no run
 abbrev pub outcome_of : Leave → World → Outcome
 outcome_of (Raises (Thrown k a)) w = Raised k (message_of (Thrown k a))
+outcome_of Breaks w = Returned
+outcome_of Continues w = Returned
 
 -- the outcome of a run whose text is not read (Language Reference, 8.4; the message is this project's own)
 abbrev pub not_read : Outcome

@@ -1,9 +1,9 @@
--- What a tree means (Python Language Reference 3.14, 6 and 7): no program counter, no frame, no stack.
-use Rattle.std.specs.Prelude.{ℕ, ◌+◌, List, [], ◌∷◌, ◌++◌, Option, Some, None}
+-- What a tree means (Python Language Reference 3.14, 6 to 8): no program counter, no frame, no stack.
+use Rattle.std.specs.Prelude.{ℕ, zero, suc, ◌+◌, List, [], ◌∷◌, ◌++◌, Bool, true, false, not, Option, Some, None}
 use Rattle.si_semantics.specs.Value.{Text, Value, Exception}
-use Rattle.si_semantics.specs.Tree.{Expr, Constant, Name, Unary, Binary, Call, Exprs, NoExprs, MoreExprs, Stmt, Evaluate, Assign, Stmts, NoStmts, MoreStmts}
+use Rattle.si_semantics.specs.Tree.{BooleanOperator, And, Or, Expr, Constant, Name, Unary, Binary, Call, Boolean, Compare, Conditional, Exprs, NoExprs, MoreExprs, Comparisons, NoComparisons, MoreComparisons, Stmt, Evaluate, Assign, Augment, Pass, If, While, Break, Continue, Stmts, NoStmts, MoreStmts}
 use Rattle.si_semantics.specs.World.{World, Request, Answer, Got, Failed, Wants, Ran, Gave, Threw, Asked, set_global}
-use Rattle.si_semantics.specs.Operations.{exception, operate, operate_unary, load_global, call, reply}
+use Rattle.si_semantics.specs.Operations.{exception, operate, operate_unary, is_true, compare, load_global, call, reply}
 
 -- a printed text, and its number: the visits begun before it
 pub record Piece : Type 0 where
@@ -21,6 +21,8 @@ pub record State : Type 0 where
 -- how a suite is left other than at its end (Language Reference, 4.3)
 pub data Leave : Type 0 where
   Raises : Exception → Leave
+  Breaks : Leave
+  Continues : Leave
 
 -- a value; leaving; a request with no answer left; a loop that wants one turn too many
 pub data Result (A : Type 0) : Type 0 where
@@ -38,7 +40,7 @@ pub record Scope : Type 0 where
   pub active : Option Exception
   pub turns : ℕ
 
--- the evaluation of a statement, an expression or a target begins
+-- the evaluation of a statement, an expression or a target begins, or a turn of a loop
 abbrev pub visit : State → State
 visit s = record s { visits = s.visits + 1 }
 
@@ -78,26 +80,77 @@ ran (Asked r w) s = asked s.answers r (record s { world = w })
 abbrev pub assign : Text → Value → Meaning (Unit {0})
 assign x v s = Gives tt (record s { world = set_global x v s.world })
 
+-- one of two, by a test
+abbrev pub choose : {A : Type 0} → Bool → A → A → A
+choose true a b = a
+choose false a b = b
+
+-- `and` ends with the first operand that is not true, `or` with the first that is (Language Reference, 6.11)
+abbrev pub decides : BooleanOperator → Value → Bool
+decides And v = not (is_true v)
+decides Or v = is_true v
+
+-- a comparison of a chain gave t: it ends with the last one, and with one that is not true (Language Reference, 6.10)
+abbrev pub compared : Comparisons → Value → Meaning Value → Meaning Value
+compared NoComparisons t rest s = Gives t s
+compared (MoreComparisons o a cs) t rest s = choose (is_true t) (rest s) (Gives t s)
+
 abbrev mutual
-  -- an expression, its operands from left to right (Language Reference, 6.16); of a call the callee first (6.3.4)
+  -- an expression, its operands from left to right (Language Reference, 6.16); of a call the callee first (6.3.4), of a conditional expression the test (6.12)
   pub expr : Scope → Expr → Meaning Value
   expr e (Constant v) s = Gives v (visit s)
   expr e (Name x) s = ran (load_global x s.world) (visit s)
   expr e (Unary o a) s = then (expr e a (visit s)) (λ v s1. ran (operate_unary o v s1.world) s1)
   expr e (Binary o a b) s = then (expr e a (visit s)) (λ u s1. then (expr e b s1) (λ v s2. ran (operate o u v s2.world) s2))
   expr e (Call f args) s = then (expr e f (visit s)) (λ g s1. then (exprs e args s1) (λ vs s2. ran (call g vs s2.world) s2))
+  expr e (Boolean o a more) s = then (expr e a (visit s)) (λ u s1. operands e o u more s1)
+  expr e (Compare a cs) s = then (expr e a (visit s)) (λ u s1. chain e u cs s1)
+  expr e (Conditional a b c) s = then (expr e a (visit s)) (λ t s1. choose (is_true t) (expr e b s1) (expr e c s1))
 
   -- expressions in a row
   pub exprs : Scope → Exprs → Meaning (List Value)
   exprs e NoExprs s = Gives [] s
   exprs e (MoreExprs a args) s = then (expr e a s) (λ v s1. then (exprs e args s1) (λ vs s2. Gives (v ∷ vs) s2))
 
--- a statement (Language Reference, 7.1 and 7.2): of an assignment the right side first, then its target
-abbrev pub stmt : Scope → Stmt → Meaning (Unit {0})
-stmt e (Evaluate a) s = then (expr e a (visit s)) (λ v s1. Gives tt s1)
-stmt e (Assign x a) s = then (expr e a (visit s)) (λ v s1. assign x v (visit s1))
+  -- what `and` or `or` makes of an operand and those behind it: each is evaluated unless one before it decides
+  pub operands : Scope → BooleanOperator → Value → Exprs → Meaning Value
+  operands e o u NoExprs s = Gives u s
+  operands e o u (MoreExprs a more) s = choose (decides o u) (Gives u s) (then (expr e a s) (λ v s1. operands e o v more s1))
 
--- statements in a row
-abbrev pub stmts : Scope → Stmts → Meaning (Unit {0})
-stmts e NoStmts s = Gives tt s
-stmts e (MoreStmts a b) s = then (stmt e a s) (λ u s1. stmts e b s1)
+  -- a chain of comparisons behind an operand
+  pub chain : Scope → Value → Comparisons → Meaning Value
+  chain e u NoComparisons s = Gives u s
+  chain e u (MoreComparisons o a cs) s =
+      then (expr e a s) (λ v s1. then (ran (compare o u v s1.world) s1) (λ t s2. compared cs t (chain e v cs) s2))
+
+-- after the body of a turn there is another turn, unless the body was left by `break`, which ends the loop without its else suite (Language Reference, 7.9 and 7.10), or by an exception
+abbrev pub after_turn : Result (Unit {0}) → Meaning (Unit {0}) → Result (Unit {0})
+after_turn (Gives u s) again = again s
+after_turn (Leaves Continues s) again = again s
+after_turn (Leaves Breaks s) again = Gives tt s
+after_turn (Leaves (Raises x) s) again = Leaves (Raises x) s
+after_turn (Asks r s) again = Asks r s
+after_turn (Cut s) again = Cut s
+
+-- a loop of a test, a body and an else suite, of at most n turns (Language Reference, 8.2); the test that ends it is a turn too
+abbrev pub loop : ℕ → Meaning Value → Meaning (Unit {0}) → Meaning (Unit {0}) → Meaning (Unit {0})
+loop zero test body last s = Cut s
+loop (suc n) test body last s = then (test (visit s)) (λ t s1. choose (is_true t) (after_turn (body s1) (loop n test body last)) (last s1))
+
+abbrev mutual
+  -- a statement (Language Reference, 7 and 8): of an assignment the right side first, then its target; of an augmented one the target, its value, the right side, the operation, and then the name is bound (7.2.1)
+  pub stmt : Scope → Stmt → Meaning (Unit {0})
+  stmt e (Evaluate a) s = then (expr e a (visit s)) (λ v s1. Gives tt s1)
+  stmt e (Assign x a) s = then (expr e a (visit s)) (λ v s1. assign x v (visit s1))
+  stmt e (Augment x o a) s =
+      then (ran (load_global x s.world) (visit (visit s))) (λ u s1. then (expr e a s1) (λ v s2. then (ran (operate o u v s2.world) s2) (λ z s3. assign x z s3)))
+  stmt e Pass s = Gives tt (visit s)
+  stmt e (If a b c) s = then (expr e a (visit s)) (λ t s1. choose (is_true t) (stmts e b s1) (stmts e c s1))
+  stmt e (While a b c) s = loop e.turns (expr e a) (stmts e b) (stmts e c) (visit s)
+  stmt e Break s = Leaves Breaks (visit s)
+  stmt e Continue s = Leaves Continues (visit s)
+
+  -- statements in a row
+  pub stmts : Scope → Stmts → Meaning (Unit {0})
+  stmts e NoStmts s = Gives tt s
+  stmts e (MoreStmts a b) s = then (stmt e a s) (λ u s1. stmts e b s1)

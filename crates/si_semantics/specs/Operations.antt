@@ -1,10 +1,10 @@
--- What operations on values do (Python Language Reference 3.14, 6.5 to 6.7). They never see answers.
-use Rattle.std.specs.Prelude.{codes, ℕ, zero, suc, ◌*◌, ℤ, pos, negsuc, List, [], ◌++◌, length, true, false, Option, Some, None, Result, Ok, Err, nat_lt, if◌then◌else◌}
+-- What operations on values do (Python Language Reference 3.14, 6.5 to 6.10). They never see answers.
+use Rattle.std.specs.Prelude.{codes, ℕ, zero, suc, ◌*◌, ℤ, pos, negsuc, int_lt, int_le, List, [], ◌∷◌, ◌++◌, length, Bool, true, false, not, ◌&&◌, ◌||◌, Option, Some, None, option_map, Result, Ok, Err, nat_lt, nat_eq, if◌then◌else◌}
 use Rattle.si_plain.specs.declared.kind.Kind.{Kind}
-use Rattle.si_plain.specs.declared.kind.Kind.TheVariants.{TypeError, NameError, OverflowError, ZeroDivisionError}
-use Rattle.si_plain.specs.Integers.{sum_of, difference_of, product_of, floor_quotient, floor_remainder, power_result, negative_of}
-use Rattle.si_semantics.specs.Value.{Text, Value, Nothing, Int, Str, Provided, BuiltIn, Print, Exception, Thrown}
-use Rattle.si_semantics.specs.Tree.{BinaryOperator, Add, Subtract, Multiply, FloorDivide, Modulo, Power, UnaryOperator, Plus, Minus}
+use Rattle.si_plain.specs.declared.kind.Kind.TheVariants.{TypeError, ValueError, NameError, OverflowError, ZeroDivisionError}
+use Rattle.si_plain.specs.Integers.{sum_of, difference_of, product_of, floor_quotient, floor_remainder, power_result, negative_of, shifted_left, shifted_right, inverted, bits_and, bits_or, bits_xor}
+use Rattle.si_semantics.specs.Value.{Text, Value, Nothing, Truth, Int, Str, Provided, BuiltIn, Print, Exception, Thrown}
+use Rattle.si_semantics.specs.Tree.{BinaryOperator, Add, Subtract, Multiply, FloorDivide, Modulo, Power, BitOr, BitXor, BitAnd, ShiftLeft, ShiftRight, UnaryOperator, Plus, Minus, Invert, Not, ComparisonOperator, Less, Greater, LessEqual, GreaterEqual, Equal, NotEqual, Is, IsNot}
 use Rattle.si_semantics.specs.Text.{max_length, same_text, line_of}
 use Rattle.si_semantics.specs.World.{World, Request, Answer, Ran, Gave, Threw, Replied}
 
@@ -40,6 +40,7 @@ within s w = if nat_lt max_length (length s) then too_long w else gave (Str s) w
 abbrev pub arithmetic_message : Kind → Text
 arithmetic_message ZeroDivisionError = codes "division by zero"
 arithmetic_message OverflowError = codes "integer out of range"
+arithmetic_message ValueError = codes "wrong value"
 arithmetic_message _ = codes "wrong type"
 
 -- what an operation on integers gives
@@ -57,7 +58,7 @@ abbrev pub repeated : Text → ℤ → World → Ran
 repeated s (pos n) w = elim (nat_lt max_length (n * length s)) [ true ↦ too_long w | false ↦ gave (Str (times n s)) w ]
 repeated s (negsuc n) w = gave (Str []) w
 
--- an operator between integers (Language Reference, 6.5 and 6.7)
+-- an operator between integers (Language Reference, 6.5 and 6.7 to 6.9)
 abbrev pub operate_integers : BinaryOperator → ℤ → ℤ → Result ℤ Kind
 operate_integers Add i j = sum_of i j
 operate_integers Subtract i j = difference_of i j
@@ -65,20 +66,118 @@ operate_integers Multiply i j = product_of i j
 operate_integers FloorDivide i j = floor_quotient i j
 operate_integers Modulo i j = floor_remainder i j
 operate_integers Power i j = power_result i j
+operate_integers BitOr i j = Ok (bits_or i j)
+operate_integers BitXor i j = Ok (bits_xor i j)
+operate_integers BitAnd i j = Ok (bits_and i j)
+operate_integers ShiftLeft i j = shifted_left i j
+operate_integers ShiftRight i j = shifted_right i j
 
--- an operator between two values (Language Reference, 6.5 and 6.7)
+-- True counts as 1 and False as 0 (Language Reference, 3.2)
+abbrev pub int_of_truth : Bool → ℤ
+int_of_truth true = pos 1
+int_of_truth false = pos 0
+
+-- one of two is true and the other is not
+abbrev pub differ : Bool → Bool → Bool
+differ true b = not b
+differ false b = b
+
+-- an operator between two of True and False: `|`, `^` and `&` give one of them (Language Reference, 6.9)
+abbrev pub operate_truths : BinaryOperator → Bool → Bool → World → Ran
+operate_truths BitOr a b w = gave (Truth (a || b)) w
+operate_truths BitXor a b w = gave (Truth (differ a b)) w
+operate_truths BitAnd a b w = gave (Truth (a && b)) w
+operate_truths o a b w = integer (operate_integers o (int_of_truth a) (int_of_truth b)) w
+
+-- an operator between two values (Language Reference, 6.5 and 6.7 to 6.9)
 abbrev pub operate : BinaryOperator → Value → Value → World → Ran
 operate o (Int i) (Int j) w = integer (operate_integers o i j) w
+operate o (Int i) (Truth b) w = integer (operate_integers o i (int_of_truth b)) w
+operate o (Truth a) (Int j) w = integer (operate_integers o (int_of_truth a) j) w
+operate o (Truth a) (Truth b) w = operate_truths o a b w
 operate Add (Str s) (Str t) w = within (s ++ t) w
 operate Multiply (Str s) (Int j) w = repeated s j w
+operate Multiply (Str s) (Truth b) w = repeated s (int_of_truth b) w
 operate Multiply (Int i) (Str t) w = repeated t i w
+operate Multiply (Truth a) (Str t) w = repeated t (int_of_truth a) w
 operate _ _ _ w = wrong_type w
 
--- an operator before a value (Language Reference, 6.6)
+-- whether a value counts as true (Standard Library, "Built-in Types": truth value testing)
+abbrev pub is_true : Value → Bool
+is_true Nothing = false
+is_true (Truth b) = b
+is_true (Int (pos zero)) = false
+is_true (Str []) = false
+is_true _ = true
+
+-- an operator before a value (Language Reference, 6.6; `not`: 6.11)
 abbrev pub operate_unary : UnaryOperator → Value → World → Ran
+operate_unary Not v w = gave (Truth (not (is_true v))) w
 operate_unary Plus (Int i) w = gave (Int i) w
+operate_unary Plus (Truth a) w = gave (Int (int_of_truth a)) w
 operate_unary Minus (Int i) w = integer (negative_of i) w
+operate_unary Minus (Truth a) w = integer (negative_of (int_of_truth a)) w
+operate_unary Invert (Int i) w = gave (Int (inverted i)) w
+operate_unary Invert (Truth a) w = gave (Int (inverted (int_of_truth a))) w
 operate_unary _ _ w = wrong_type w
+
+-- a text comes before another: at the first character that differs, or where it ends, a longer one goes on (6.10.1)
+abbrev pub is_before : Text → Text → Bool
+is_before [] [] = false
+is_before [] (d ∷ ds) = true
+is_before (c ∷ cs) [] = false
+is_before (c ∷ cs) (d ∷ ds) = nat_lt c d || (nat_eq c d && is_before cs ds)
+
+-- two built-ins have one name
+abbrev pub same_built_in : BuiltIn → BuiltIn → Bool
+same_built_in Print Print = true
+
+-- integers are equal
+abbrev pub same_int : ℤ → ℤ → Bool
+same_int i j = int_le i j && int_le j i
+
+-- `==`: integers, True and False by their values, str by their characters, built-ins by name, None is equal to itself;
+-- what is of different kinds is unequal (Language Reference, 6.10.1)
+abbrev pub are_equal : Value → Value → Bool
+are_equal Nothing Nothing = true
+are_equal (Int i) (Int j) = same_int i j
+are_equal (Int i) (Truth b) = same_int i (int_of_truth b)
+are_equal (Truth a) (Int j) = same_int (int_of_truth a) j
+are_equal (Truth a) (Truth b) = not (differ a b)
+are_equal (Str s) (Str t) = same_text s t
+are_equal (Provided f) (Provided g) = same_built_in f g
+are_equal _ _ = false
+
+-- `is`: None, True and False are each itself and nothing else (Language Reference, 6.10.3); the grammar lets nothing else stand behind it
+abbrev pub is_same : Value → Value → Bool
+is_same Nothing Nothing = true
+is_same (Truth a) (Truth b) = not (differ a b)
+is_same _ _ = false
+
+-- `<`: two integers, where True and False count as 1 and 0, or two str; None where there is no order (Language Reference, 6.10.1)
+abbrev pub is_less : Value → Value → Option Bool
+is_less (Int i) (Int j) = Some (int_lt i j)
+is_less (Int i) (Truth b) = Some (int_lt i (int_of_truth b))
+is_less (Truth a) (Int j) = Some (int_lt (int_of_truth a) j)
+is_less (Truth a) (Truth b) = Some (int_lt (int_of_truth a) (int_of_truth b))
+is_less (Str s) (Str t) = Some (is_before s t)
+is_less _ _ = None
+
+-- a truth, where there is one
+abbrev pub truth : Option Bool → World → Ran
+truth (Some b) w = gave (Truth b) w
+truth None w = wrong_type w
+
+-- a comparison of two values (Language Reference, 6.10)
+abbrev pub compare : ComparisonOperator → Value → Value → World → Ran
+compare Less u v w = truth (is_less u v) w
+compare Greater u v w = truth (is_less v u) w
+compare LessEqual u v w = truth (option_map not (is_less v u)) w
+compare GreaterEqual u v w = truth (option_map not (is_less u v)) w
+compare Equal u v w = gave (Truth (are_equal u v)) w
+compare NotEqual u v w = gave (Truth (not (are_equal u v))) w
+compare Is u v w = gave (Truth (is_same u v)) w
+compare IsNot u v w = gave (Truth (not (is_same u v))) w
 
 -- the value of a built-in name (Language Reference, 4.2.2)
 abbrev pub built_in : Text → Option Value

@@ -1,4 +1,4 @@
--- Syntax trees (Python Language Reference 3.14, 6 and 7).
+-- Syntax trees (Python Language Reference 3.14, 6 to 8).
 use Rattle.si_semantics.specs.Value.{Text, Value}
 
 -- an operator between two operands
@@ -9,30 +9,73 @@ pub data BinaryOperator : Type 0 where
   FloorDivide : BinaryOperator
   Modulo : BinaryOperator
   Power : BinaryOperator
+  BitOr : BinaryOperator
+  BitXor : BinaryOperator
+  BitAnd : BinaryOperator
+  ShiftLeft : BinaryOperator
+  ShiftRight : BinaryOperator
 
 -- an operator before its operand
 pub data UnaryOperator : Type 0 where
   Plus : UnaryOperator
   Minus : UnaryOperator
+  -- `~`
+  Invert : UnaryOperator
+  Not : UnaryOperator
+
+-- an operator of a comparison
+pub data ComparisonOperator : Type 0 where
+  Less : ComparisonOperator
+  Greater : ComparisonOperator
+  LessEqual : ComparisonOperator
+  GreaterEqual : ComparisonOperator
+  Equal : ComparisonOperator
+  NotEqual : ComparisonOperator
+  Is : ComparisonOperator
+  IsNot : ComparisonOperator
+
+-- the word between operands of which not each is evaluated
+pub data BooleanOperator : Type 0 where
+  And : BooleanOperator
+  Or : BooleanOperator
 
 mutual
   pub data Expr : Type 0 where
-    -- a literal, by its value
+    -- a literal, by its value; True, False and None too
     Constant : Value → Expr
     Name : Text → Expr
     Unary : UnaryOperator → Expr → Expr
     Binary : BinaryOperator → Expr → Expr → Expr
     -- a callee and its positional arguments
     Call : Expr → Exprs → Expr
+    -- operands of `and` or of `or` in a row: the first, and the others, of which there is one at least (6.11)
+    Boolean : BooleanOperator → Expr → Exprs → Expr
+    -- a chain of comparisons: the first operand, and each operator with the operand behind it (6.10)
+    Compare : Expr → Comparisons → Expr
+    -- `value if test else other`: the test, the value, the other (6.12)
+    Conditional : Expr → Expr → Expr → Expr
 
   pub data Exprs : Type 0 where
     NoExprs : Exprs
     MoreExprs : Expr → Exprs → Exprs
 
+  pub data Comparisons : Type 0 where
+    NoComparisons : Comparisons
+    MoreComparisons : ComparisonOperator → Expr → Comparisons → Comparisons
+
 mutual
   pub data Stmt : Type 0 where
     Evaluate : Expr → Stmt
     Assign : Text → Expr → Stmt
+    -- `NAME op= expr` (7.2.1)
+    Augment : Text → BinaryOperator → Expr → Stmt
+    Pass : Stmt
+    -- the test, the suite, and the else suite; an `elif` is an `if` of its own in the else suite (8.1)
+    If : Expr → Stmts → Stmts → Stmt
+    -- the test, the suite, and the else suite, which is always empty in this stage (8.2)
+    While : Expr → Stmts → Stmts → Stmt
+    Break : Stmt
+    Continue : Stmt
 
   pub data Stmts : Type 0 where
     NoStmts : Stmts

@@ -1,5 +1,5 @@
 -- Values and exceptions (Python Language Reference 3.14, 3.2).
-use Rattle.std.specs.Prelude.{ℕ, ℤ, List, Option}
+use Rattle.std.specs.Prelude.{ℕ, ℤ, List, Bool, Option}
 use Rattle.si_plain.specs.declared.kind.Kind.{Kind}
 
 -- a text is the list of its characters, each by its code point
@@ -12,6 +12,8 @@ pub data BuiltIn : Type 0 where
 
 pub data Value : Type 0 where
   Nothing : Value
+  -- True and False
+  Truth : Bool → Value
   Int : ℤ → Value
   Str : Text → Value
   Provided : BuiltIn → Value
