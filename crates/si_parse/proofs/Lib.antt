@@ -4,7 +4,10 @@ pub mod Turns
 pub mod Literals
 pub mod Strings
 pub mod Laws
+pub mod Levels
 pub mod Lists
+pub mod Chains
+pub mod Starts
 pub mod Sound
 pub mod Complete
 pub mod Modules

@@ -3,10 +3,12 @@
 ghost use Rattle.std.specs.Prelude.{◌≡◌, ℕ, ◌+◌, ◌<◌, ◌≤◌, length, [], ◌∷◌, option_map, MatchOption, OnSome};
 ghost use Rattle.si_semantics.specs.Grammar.{terminal_of};
 ghost use Rattle.si_token.specs.Views.{token_of};
-ghost use Rattle.si_parse.specs.Reading.{after_close, after_comma, after_equal, after_newline, after_semicolon, closing, is_end};
+ghost use Rattle.si_parse.specs.Trees.{boolean_of};
+ghost use Rattle.si_parse.specs.Reading.{after_close, after_comma, after_equal, after_newline, after_semicolon, after_not, after_else, after_and, after_or, after_boolean, closing, is_end};
 ghost use Rattle.si_parse.specs.Gives.{from};
 
-use si_token::{Symbol, Token, TokenKind};
+use crate::syntax::BooleanOperator;
+use si_token::{Keyword, Symbol, Token, TokenKind};
 
 // The token at the place.
 pub(crate) fn token_at<'a>(tokens: &[Token<'a>], at: usize) -> Option<Token<'a>>
@@ -80,6 +82,60 @@ pub(crate) fn after_newline(tokens: &[Token], at: usize) -> Option<usize>
     match token.kind {
         TokenKind::Newline => Some(at + 1),
         _ => None,
+    }
+}
+
+// The place behind a `not`, where one stands at the place.
+pub(crate) fn after_not(tokens: &[Token], at: usize) -> Option<usize>
+    ensures { option_map (from tokens.now) result ≡ after_not (from tokens.now at) }
+{
+    let token = token_at(tokens, at)?;
+    match token.kind {
+        TokenKind::Keyword(Keyword::Not) => Some(at + 1),
+        _ => None,
+    }
+}
+
+// The place behind an `else`, where one stands at the place.
+pub(crate) fn after_else(tokens: &[Token], at: usize) -> Option<usize>
+    ensures { option_map (from tokens.now) result ≡ after_else (from tokens.now at) }
+{
+    let token = token_at(tokens, at)?;
+    match token.kind {
+        TokenKind::Keyword(Keyword::Else) => Some(at + 1),
+        _ => None,
+    }
+}
+
+// The place behind an `and`, where one stands at the place.
+pub(crate) fn after_and(tokens: &[Token], at: usize) -> Option<usize>
+    ensures { option_map (from tokens.now) result ≡ after_and (from tokens.now at) }
+{
+    let token = token_at(tokens, at)?;
+    match token.kind {
+        TokenKind::Keyword(Keyword::And) => Some(at + 1),
+        _ => None,
+    }
+}
+
+// The place behind an `or`, where one stands at the place.
+pub(crate) fn after_or(tokens: &[Token], at: usize) -> Option<usize>
+    ensures { option_map (from tokens.now) result ≡ after_or (from tokens.now at) }
+{
+    let token = token_at(tokens, at)?;
+    match token.kind {
+        TokenKind::Keyword(Keyword::Or) => Some(at + 1),
+        _ => None,
+    }
+}
+
+// The place behind the word of the operator, where it stands at the place.
+pub(crate) fn after_boolean(operator: BooleanOperator, tokens: &[Token], at: usize) -> Option<usize>
+    ensures { option_map (from tokens.now) result ≡ after_boolean (boolean_of operator) (from tokens.now at) }
+{
+    match operator {
+        BooleanOperator::And => after_and(tokens, at),
+        BooleanOperator::Or => after_or(tokens, at),
     }
 }
 

@@ -6,9 +6,10 @@ ghost use Rattle.si_parse.specs.Trees.{expr_of, stmt_of};
 ghost use Rattle.si_parse.specs.Reading.{expression_at, statement_by, line_by, is_end, module_by};
 ghost use Rattle.si_parse.specs.Gives.{Gives, from};
 
-use crate::expression::{ANY, expression};
+use crate::expression::expression;
 use crate::fault::ParseFault;
 use crate::lookahead::{after_equal, after_line, after_semicolon, line_at, token_at};
+use crate::precedence::ANY;
 use crate::syntax::{Expr, Stmt};
 use si_plain::limits::MAX_EXPRESSION_DEPTH;
 use si_token::{Token, TokenKind};
