@@ -21,7 +21,7 @@ module _ {O X : Type 0} (make : O → Expr → X) (next : List Terminal → Opti
   module _ (I : ℕ → Items X) (n level : ℕ)
       (deeper : (c d : ℕ) → c ≤ d → (x : X) (f : List Terminal) → I c x f → I d x f)
       (item_sound : (ts : List Terminal) (o : O) (rest : List Terminal) (r : Found) → next ts ≡ Some (o, rest) → item o rest ≡ Some r
-          → (f : List Terminal) × (ts ≡ f ++ r.2) × I r.1 (make o r.0) f × (r.1 ≤ n) × (strength_at r.2 < level)) where
+      → (f : List Terminal) × (ts ≡ f ++ r.2) × I r.1 (make o r.0) f × (r.1 ≤ n) × (strength_at r.2 < level)) where
     abbrev pub Chain : List X × ℕ → List Terminal → (List X × ℕ) × List Terminal → Type 0
     Chain b ts r =
         (xs : List X) × (f : List Terminal) × (r.0.0 ≡ b.0 ++ xs) × (ts ≡ f ++ r.1) × (b.1 ≤ r.0.1) × (r.0.1 ≤ n) × Many (I r.0.1) xs f × (strength_at r.1 < level) × (next r.1 ≡ None)
@@ -53,7 +53,7 @@ module _ {O X : Type 0} (make : O → Expr → X) (next : List Terminal → Opti
 
   module _ (I : Items X) (m level : ℕ)
       (item_complete : (x : X) (f more : List Terminal) → I x f → strength_at more < level → begins_str more ≡ false
-          → (o : O) × (rest : List Terminal) × (e : Expr) × (d : ℕ) × (next (f ++ more) ≡ Some (o, rest)) × (item o rest ≡ Some (e, d, more)) × (make o e ≡ x) × (d ≤ m))
+      → (o : O) × (rest : List Terminal) × (e : Expr) × (d : ℕ) × (next (f ++ more) ≡ Some (o, rest)) × (item o rest ≡ Some (e, d, more)) × (make o e ≡ x) × (d ≤ m))
       (item_begins : (x : X) (f more : List Terminal) → I x f → (strength_at (f ++ more) < level) × (begins_str (f ++ more) ≡ false)) where
     abbrev Follows : List Terminal → Type 0
     Follows more = (strength_at more < level) × (begins_str more ≡ false)

@@ -6,8 +6,8 @@ use Rattle.si_semantics.specs.Tree.{UnaryOperator, ComparisonOperator, BooleanOp
 use Rattle.si_semantics.specs.Tree as tree
 use Rattle.si_semantics.specs.Tokens.{Symbol}
 use Rattle.si_semantics.specs.Tokens as token
-use Rattle.si_semantics.specs.Grammar.{Terminal, Sign, Word, NEWLINE, Language, prefix_level, prefix_of, item_level, word_of, comparison_of, Many, Behind, Following, Separated, items_of, exprs_of, Link, links_of, chain_of, Compares, Produces, Spells}
-use Rattle.si_parse.specs.Reading.{then_read, rest_of, after_close, after_comma, after_semicolon, after_equal, after_newline, after_not, after_else, after_and, after_or, after_boolean, with_word, prefix_at, comparison_symbol, identity_from, comparison_at}
+use Rattle.si_semantics.specs.Grammar.{Terminal, Sign, Word, NEWLINE, INDENT, Language, prefix_level, prefix_of, item_level, word_of, comparison_of, Many, Behind, Following, Separated, items_of, exprs_of, Link, links_of, chain_of, Compares, Produces, Spells}
+use Rattle.si_parse.specs.Reading.{then_read, rest_of, after_close, after_comma, after_semicolon, after_newline, after_colon, after_indent, after_if, after_elif, after_while, after_not, after_else, after_and, after_or, after_boolean, with_word, prefix_at, comparison_symbol, identity_from, comparison_at}
 
 -- ---- lists of items
 
@@ -117,15 +117,35 @@ after_semicolon_some [] rest h = cc
 after_semicolon_some (Sign token.Semicolon ∷ ts) rest h = let e : ts ≡ rest = cc in ap (λ l. Sign token.Semicolon ∷ l) e
 after_semicolon_some (_ ∷ ts) rest h = cc
 
-pub after_equal_some : (ts rest : List Terminal) → after_equal ts ≡ Some rest → ts ≡ Sign token.Equal ∷ rest
-after_equal_some [] rest h = cc
-after_equal_some (Sign token.Equal ∷ ts) rest h = let e : ts ≡ rest = cc in ap (λ l. Sign token.Equal ∷ l) e
-after_equal_some (_ ∷ ts) rest h = cc
-
 pub after_newline_some : (ts rest : List Terminal) → after_newline ts ≡ Some rest → ts ≡ NEWLINE ∷ rest
 after_newline_some [] rest h = cc
 after_newline_some (NEWLINE ∷ ts) rest h = let e : ts ≡ rest = cc in ap (λ l. NEWLINE ∷ l) e
 after_newline_some (_ ∷ ts) rest h = cc
+
+pub after_colon_some : (ts rest : List Terminal) → after_colon ts ≡ Some rest → ts ≡ Sign token.Colon ∷ rest
+after_colon_some [] rest h = cc
+after_colon_some (Sign token.Colon ∷ ts) rest h = let e : ts ≡ rest = cc in ap (λ l. Sign token.Colon ∷ l) e
+after_colon_some (_ ∷ ts) rest h = cc
+
+pub after_indent_some : (ts rest : List Terminal) → after_indent ts ≡ Some rest → ts ≡ INDENT ∷ rest
+after_indent_some [] rest h = cc
+after_indent_some (INDENT ∷ ts) rest h = let e : ts ≡ rest = cc in ap (λ l. INDENT ∷ l) e
+after_indent_some (_ ∷ ts) rest h = cc
+
+pub after_if_some : (ts rest : List Terminal) → after_if ts ≡ Some rest → ts ≡ Word token.IfWord ∷ rest
+after_if_some [] rest h = cc
+after_if_some (Word token.IfWord ∷ ts) rest h = let e : ts ≡ rest = cc in ap (λ l. Word token.IfWord ∷ l) e
+after_if_some (_ ∷ ts) rest h = cc
+
+pub after_elif_some : (ts rest : List Terminal) → after_elif ts ≡ Some rest → ts ≡ Word token.ElifWord ∷ rest
+after_elif_some [] rest h = cc
+after_elif_some (Word token.ElifWord ∷ ts) rest h = let e : ts ≡ rest = cc in ap (λ l. Word token.ElifWord ∷ l) e
+after_elif_some (_ ∷ ts) rest h = cc
+
+pub after_while_some : (ts rest : List Terminal) → after_while ts ≡ Some rest → ts ≡ Word token.WhileWord ∷ rest
+after_while_some [] rest h = cc
+after_while_some (Word token.WhileWord ∷ ts) rest h = let e : ts ≡ rest = cc in ap (λ l. Word token.WhileWord ∷ l) e
+after_while_some (_ ∷ ts) rest h = cc
 
 pub after_not_some : (ts rest : List Terminal) → after_not ts ≡ Some rest → ts ≡ Word token.NotWord ∷ rest
 after_not_some [] rest h = cc

@@ -1,6 +1,7 @@
 pub mod Places
 pub mod Steps
 pub mod Turns
+pub mod Forms
 pub mod Literals
 pub mod Strings
 pub mod Laws
@@ -10,5 +11,8 @@ pub mod Chains
 pub mod Starts
 pub mod Sound
 pub mod Complete
+pub mod Statements
+pub mod Blocks
+pub mod Depths
 pub mod Modules
 pub mod Refusals

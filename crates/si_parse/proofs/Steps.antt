@@ -1,9 +1,9 @@
 -- The equations of the functions that go by turns.
-use Rattle.std.proofs.Common.{◌≡◌, ℕ, zero, suc, ◌-◌, ◌<◌, List, [], ◌∷◌, Option, Some, None, Bool, map, refl, ap, arith}
+use Rattle.std.proofs.Common.{◌≡◌, ℕ, zero, suc, ◌-◌, ◌<◌, List, Option, Some, None, Bool, refl, ap, arith}
 use Rattle.std.specs.Prelude.{nat_lt, if◌then◌else◌}
-use Rattle.si_semantics.specs.Tree.{Expr}
+use Rattle.si_semantics.specs.Tree.{Expr, Stmt}
 use Rattle.si_semantics.specs.Grammar.{Terminal}
-use Rattle.si_parse.specs.Reading.{Parser, Step, then_read, strength_at, continuation_at, closing, behind_item, separated_by, chain_from, chain_by, Parsed, many_by, extended_by, continued_by, expression_by, expression_at}
+use Rattle.si_parse.specs.Reading.{Parser, Step, then_read, strength_at, continuation_at, closing, behind_item, separated_by, chain_from, chain_by, Parsed, many_by, extended_by, continued_by, expression_by, expression_at, after_if, after_while, simple_line, block_from, block_at}
 
 pub expression_at_zero : (b l : ℕ) (ts : List Terminal) → b ≡ 0 → expression_at b l ts ≡ None
 unfolding expression_at
@@ -66,7 +66,12 @@ module _ {B : Type 0} (item : B → List Terminal → Option (B × List Terminal
   many_by_step (suc k) b ts h =
       let same : k ≡ suc k - 1 = omega arith in ap (λ j. if ends ts then Some (b, ts) else then_read (item b ts) (λ r. many_by item ends j r.0 r.1)) same
 
--- operators with operands, seen in two steps or in one
-pub links_seen : {O P X Y : Type 0} (f : O → P) (g : X → Y) (xs : List (O × X)) → map {B = P × Y} (λ (l : O × Y). (f l.0, l.1)) (map {B = O × Y} (λ (l : O × X). (l.0, g l.1)) xs) ≡ map {B = P × Y} (λ (l : O × X). (f l.0, g l.1)) xs
-links_seen f g [] = refl
-links_seen f g (x ∷ xs) = ap (λ l. (f x.0, g x.1) ∷ l) (links_seen f g xs)
+pub block_at_zero : (n : ℕ) (body : List Stmt) (ts : List Terminal) → n ≡ 0 → block_at n body ts ≡ simple_line body ts
+unfolding block_at
+block_at_zero zero body ts h = refl
+block_at_zero (suc n) body ts h = absurd (omega arith)
+
+pub block_at_step : (n : ℕ) (body : List Stmt) (ts : List Terminal) → 0 < n → block_at n body ts ≡ block_from (block_at (n - 1)) body ts (after_if ts) (after_while ts)
+unfolding block_at
+block_at_step zero body ts h = absurd (omega arith)
+block_at_step (suc n) body ts h = let same : n ≡ suc n - 1 = omega arith in ap (λ k. block_from (block_at k) body ts (after_if ts) (after_while ts)) same

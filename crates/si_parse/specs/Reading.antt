@@ -99,15 +99,35 @@ after_semicolon [] = None
 after_semicolon (Sign token.Semicolon ∷ ts) = Some ts
 after_semicolon (_ ∷ ts) = None
 
-abbrev pub after_equal : Step
-after_equal [] = None
-after_equal (Sign token.Equal ∷ ts) = Some ts
-after_equal (_ ∷ ts) = None
-
 abbrev pub after_newline : Step
 after_newline [] = None
 after_newline (NEWLINE ∷ ts) = Some ts
 after_newline (_ ∷ ts) = None
+
+abbrev pub after_colon : Step
+after_colon [] = None
+after_colon (Sign token.Colon ∷ ts) = Some ts
+after_colon (_ ∷ ts) = None
+
+abbrev pub after_indent : Step
+after_indent [] = None
+after_indent (INDENT ∷ ts) = Some ts
+after_indent (_ ∷ ts) = None
+
+abbrev pub after_if : Step
+after_if [] = None
+after_if (Word token.IfWord ∷ ts) = Some ts
+after_if (_ ∷ ts) = None
+
+abbrev pub after_elif : Step
+after_elif [] = None
+after_elif (Word token.ElifWord ∷ ts) = Some ts
+after_elif (_ ∷ ts) = None
+
+abbrev pub after_while : Step
+after_while [] = None
+after_while (Word token.WhileWord ∷ ts) = Some ts
+after_while (_ ∷ ts) = None
 
 abbrev pub after_not : Step
 after_not [] = None
@@ -339,21 +359,136 @@ expression_at (suc n) l ts = expression_by (expression_at n) (suc n) l ts
 
 -- ---- statements
 
+-- the assignment that a sign is: a plain one, or an augmented one with its operator
+abbrev pub assignment_symbol : Symbol → Option (Option BinaryOperator)
+assignment_symbol token.Equal = Some None
+assignment_symbol token.BarEqual = Some (Some BitOr)
+assignment_symbol token.CaretEqual = Some (Some BitXor)
+assignment_symbol token.AmpersandEqual = Some (Some BitAnd)
+assignment_symbol token.LeftShiftEqual = Some (Some ShiftLeft)
+assignment_symbol token.RightShiftEqual = Some (Some ShiftRight)
+assignment_symbol token.PlusEqual = Some (Some Add)
+assignment_symbol token.MinusEqual = Some (Some Subtract)
+assignment_symbol token.StarEqual = Some (Some Multiply)
+assignment_symbol token.DoubleSlashEqual = Some (Some FloorDivide)
+assignment_symbol token.PercentEqual = Some (Some Modulo)
+assignment_symbol token.DoubleStarEqual = Some (Some Power)
+assignment_symbol _ = None
+
+abbrev pub assignment_at : List Terminal → Option (Option BinaryOperator × List Terminal)
+assignment_at [] = None
+assignment_at (Sign s ∷ ts) = option_map (λ op. (op, ts)) (assignment_symbol s)
+assignment_at (_ ∷ ts) = None
+
+abbrev pub assigned : Text → Option BinaryOperator → Expr → Stmt
+assigned x None e = Assign x e
+assigned x (Some op) e = Augment x op e
+
 -- what an expression begins: an assignment to it, or itself
-abbrev pub statement_from : Parser → List Terminal → Expr → Option (List Terminal) → Option (Stmt × List Terminal)
+abbrev pub statement_from : Parser → List Terminal → Expr → Option (Option BinaryOperator × List Terminal) → Option (Stmt × List Terminal)
 statement_from sub ts e None = Some (Evaluate e, ts)
-statement_from sub ts (Name x) (Some rest) = then_read (sub 1 rest) (λ r. Some (Assign x r.0, r.2))
-statement_from sub ts _ (Some rest) = None
+statement_from sub ts (Name x) (Some a) = then_read (sub 1 a.1) (λ r. Some (assigned x a.0 r.0, r.2))
+statement_from sub ts _ (Some a) = None
+
+abbrev pub spelled_by : Parser → List Terminal → Option (Stmt × List Terminal)
+spelled_by sub ts = then_read (sub 1 ts) (λ r. statement_from sub r.2 r.0 (assignment_at r.2))
+
+-- the statement that is one word
+abbrev pub word_statement : List Terminal → Option Stmt
+word_statement [] = None
+word_statement (Word token.PassWord ∷ ts) = Some Pass
+word_statement (Word token.BreakWord ∷ ts) = Some Break
+word_statement (Word token.ContinueWord ∷ ts) = Some Continue
+word_statement (_ ∷ ts) = None
+
+abbrev pub small_from : Parser → List Terminal → Option Stmt → Option (Stmt × List Terminal)
+small_from sub ts (Some s) = Some (s, rest_of ts)
+small_from sub ts None = spelled_by sub ts
 
 abbrev pub statement_by : Parser → List Terminal → Option (Stmt × List Terminal)
-statement_by sub ts = then_read (sub 1 ts) (λ r. statement_from sub r.2 r.0 (after_equal r.2))
+statement_by sub ts = small_from sub ts (word_statement ts)
 
 abbrev pub with_statement : List Stmt → Stmt × List Terminal → List Stmt
 with_statement body r = body ++ r.0 ∷ []
 
--- a line's statements, behind those before
-abbrev pub line_by : Parser → List Stmt → List Terminal → Option (List Stmt × List Terminal)
+-- statements behind those before, and the terminals after them
+abbrev pub LineParser : Type 0
+LineParser = List Stmt → List Terminal → Option (List Stmt × List Terminal)
+
+-- a line's statements
+abbrev pub line_by : Parser → LineParser
 line_by sub body ts = separated_by with_statement (λ r. r.1) (statement_by sub) after_semicolon after_newline (length ts) body ts
+
+abbrev pub simple_line : LineParser
+simple_line = line_by (expression_at max_depth)
+
+-- ---- compound statements
+
+abbrev pub is_dedent : List Terminal → Bool
+is_dedent [] = false
+is_dedent (DEDENT ∷ ts) = true
+is_dedent (_ ∷ ts) = false
+
+abbrev pub indented_by : LineParser → List Terminal → Option (List Stmt × List Terminal)
+indented_by line ts = if is_dedent ts then None else then_read (many_by line is_dedent (length ts) [] ts) (λ r. Some (r.0, rest_of r.1))
+
+abbrev pub suite_from : LineParser → List Terminal → Option (List Terminal) → Option (List Stmt × List Terminal)
+suite_from line ts None = simple_line [] ts
+suite_from line ts (Some rest) = then_read (after_indent rest) (indented_by line)
+
+abbrev pub suite_by : LineParser → List Terminal → Option (List Stmt × List Terminal)
+suite_by line ts = then_read (after_colon ts) (λ rest. suite_from line rest (after_newline rest))
+
+-- a test and the suite behind it
+abbrev pub branch_by : LineParser → List Terminal → Option (Branch × List Terminal)
+branch_by line ts = then_read (expression_at max_depth 1 ts) (λ t. then_read (suite_by line t.2) (λ b. Some ((t.0, stmts_of b.0), b.1)))
+
+abbrev pub with_branch : List Branch → Branch × List Terminal → Option (List Branch × List Terminal)
+with_branch bs r = Some (bs ++ r.0 ∷ [], r.1)
+
+abbrev pub elif_by : LineParser → List Branch → List Terminal → Option (List Branch × List Terminal)
+elif_by line bs ts = then_read (after_elif ts) (λ rest. then_read (branch_by line rest) (with_branch bs))
+
+abbrev pub is_none : Option (List Terminal) → Bool
+is_none None = true
+is_none (Some ts) = false
+
+abbrev pub no_elif : List Terminal → Bool
+no_elif ts = is_none (after_elif ts)
+
+abbrev pub elifs_by : LineParser → List Terminal → Option (List Branch × List Terminal)
+elifs_by line ts = many_by (elif_by line) no_elif (length ts) [] ts
+
+abbrev pub otherwise_from : LineParser → List Terminal → Option (List Terminal) → Option (List Stmt × List Terminal)
+otherwise_from line ts None = Some ([], ts)
+otherwise_from line ts (Some rest) = suite_by line rest
+
+abbrev pub otherwise_by : LineParser → List Terminal → Option (List Stmt × List Terminal)
+otherwise_by line ts = otherwise_from line ts (after_else ts)
+
+abbrev pub joined_if : Branch → List Branch → List Stmt × List Terminal → Option (Stmt × List Terminal)
+joined_if b elifs o = Some (If b.0 b.1 (elifs_of elifs (stmts_of o.0)), o.1)
+
+-- from behind the `if`
+abbrev pub if_by : LineParser → List Terminal → Option (Stmt × List Terminal)
+if_by line ts = then_read (branch_by line ts) (λ b. then_read (elifs_by line b.1) (λ es. then_read (otherwise_by line es.1) (joined_if b.0 es.0)))
+
+-- from behind the `while`
+abbrev pub while_by : LineParser → List Terminal → Option (Stmt × List Terminal)
+while_by line ts = then_read (branch_by line ts) (λ b. Some (While b.0.0 b.0.1 NoStmts, b.1))
+
+abbrev pub with_compound : List Stmt → Stmt × List Terminal → Option (List Stmt × List Terminal)
+with_compound body r = Some (body ++ r.0 ∷ [], r.1)
+
+abbrev pub block_from : LineParser → List Stmt → List Terminal → Option (List Terminal) → Option (List Terminal) → Option (List Stmt × List Terminal)
+block_from line body ts (Some rest) w = then_read (if_by line rest) (with_compound body)
+block_from line body ts None (Some rest) = then_read (while_by line rest) (with_compound body)
+block_from line body ts None None = simple_line body ts
+
+-- A line, or a compound statement, in which compound statements are nested this deep at most.
+unfoldable pub block_at : ℕ → LineParser
+block_at zero body ts = simple_line body ts
+block_at (suc n) body ts = block_from (block_at n) body ts (after_if ts) (after_while ts)
 
 -- whether the terminals are the last one
 abbrev pub is_end : List Terminal → Bool
@@ -362,4 +497,4 @@ is_end (ENDMARKER ∷ []) = true
 is_end _ = false
 
 abbrev pub module_by : List Terminal → Option (List Stmt × List Terminal)
-module_by ts = many_by (line_by (expression_at max_depth)) is_end (length ts) [] ts
+module_by ts = many_by (block_at max_nesting) is_end (length ts) [] ts

@@ -2,7 +2,7 @@
 use Rattle.std.specs.Prelude.{List, map, string_bytes}
 use Rattle.si_semantics.specs.Value.{Nothing, Truth, Int, Str}
 use Rattle.si_semantics.specs.Tree as tree
-use Rattle.si_semantics.specs.Grammar.{exprs_of, chain_of, stmts_of, elifs_of}
+use Rattle.si_semantics.specs.Grammar.{exprs_of, chain_of, stmts_of, Branch, elifs_of}
 use Rattle.si_parse.specs.declared.syntax.BinaryOperator.{BinaryOperator}
 use Rattle.si_parse.specs.declared.syntax.BinaryOperator.TheVariants as binary
 use Rattle.si_parse.specs.declared.syntax.UnaryOperator.{UnaryOperator}
@@ -87,3 +87,7 @@ stmt_of = fold-Stmt tree.Stmt stmt_step
 
 abbrev pub body_of : List Stmt → tree.Stmts
 body_of body = stmts_of (map stmt_of body)
+
+-- a test and its suite
+abbrev pub branch_of : Expr → List Stmt → Branch
+branch_of test body = (expr_of test, body_of body)

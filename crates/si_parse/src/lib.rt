@@ -8,6 +8,7 @@
 // statements, and `parser` a whole text.
 #![tactic(auto)]
 
+pub mod block;
 pub mod expression;
 pub mod fault;
 pub mod literal;

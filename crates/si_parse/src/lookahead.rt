@@ -4,7 +4,7 @@ ghost use Rattle.std.specs.Prelude.{◌≡◌, ℕ, ◌+◌, ◌<◌, ◌≤◌,
 ghost use Rattle.si_semantics.specs.Grammar.{terminal_of};
 ghost use Rattle.si_token.specs.Views.{token_of};
 ghost use Rattle.si_parse.specs.Trees.{boolean_of};
-ghost use Rattle.si_parse.specs.Reading.{after_close, after_comma, after_equal, after_newline, after_semicolon, after_not, after_else, after_and, after_or, after_boolean, closing, is_end};
+ghost use Rattle.si_parse.specs.Reading.{after_close, after_comma, after_newline, after_colon, after_indent, after_if, after_elif, after_while, after_semicolon, after_not, after_else, after_and, after_or, after_boolean, closing, is_end};
 ghost use Rattle.si_parse.specs.Gives.{from};
 
 use crate::syntax::BooleanOperator;
@@ -63,17 +63,6 @@ pub(crate) fn after_semicolon(tokens: &[Token], at: usize) -> Option<usize>
     }
 }
 
-// The place behind a `=`, where one stands at the place.
-pub(crate) fn after_equal(tokens: &[Token], at: usize) -> Option<usize>
-    ensures { option_map (from tokens.now) result ≡ after_equal (from tokens.now at) }
-{
-    let token = token_at(tokens, at)?;
-    match token.kind {
-        TokenKind::Symbol(Symbol::Equal) => Some(at + 1),
-        _ => None,
-    }
-}
-
 // The place behind the end of a line, where it stands at the place.
 pub(crate) fn after_newline(tokens: &[Token], at: usize) -> Option<usize>
     ensures { option_map (from tokens.now) result ≡ after_newline (from tokens.now at) }
@@ -81,6 +70,61 @@ pub(crate) fn after_newline(tokens: &[Token], at: usize) -> Option<usize>
     let token = token_at(tokens, at)?;
     match token.kind {
         TokenKind::Newline => Some(at + 1),
+        _ => None,
+    }
+}
+
+// The place behind a colon, where one stands at the place.
+pub(crate) fn after_colon(tokens: &[Token], at: usize) -> Option<usize>
+    ensures { option_map (from tokens.now) result ≡ after_colon (from tokens.now at) }
+{
+    let token = token_at(tokens, at)?;
+    match token.kind {
+        TokenKind::Symbol(Symbol::Colon) => Some(at + 1),
+        _ => None,
+    }
+}
+
+// The place behind an indent, where one stands at the place.
+pub(crate) fn after_indent(tokens: &[Token], at: usize) -> Option<usize>
+    ensures { option_map (from tokens.now) result ≡ after_indent (from tokens.now at) }
+{
+    let token = token_at(tokens, at)?;
+    match token.kind {
+        TokenKind::Indent => Some(at + 1),
+        _ => None,
+    }
+}
+
+// The place behind an `if`, where one stands at the place.
+pub(crate) fn after_if(tokens: &[Token], at: usize) -> Option<usize>
+    ensures { option_map (from tokens.now) result ≡ after_if (from tokens.now at) }
+{
+    let token = token_at(tokens, at)?;
+    match token.kind {
+        TokenKind::Keyword(Keyword::If) => Some(at + 1),
+        _ => None,
+    }
+}
+
+// The place behind an `elif`, where one stands at the place.
+pub(crate) fn after_elif(tokens: &[Token], at: usize) -> Option<usize>
+    ensures { option_map (from tokens.now) result ≡ after_elif (from tokens.now at) }
+{
+    let token = token_at(tokens, at)?;
+    match token.kind {
+        TokenKind::Keyword(Keyword::Elif) => Some(at + 1),
+        _ => None,
+    }
+}
+
+// The place behind a `while`, where one stands at the place.
+pub(crate) fn after_while(tokens: &[Token], at: usize) -> Option<usize>
+    ensures { option_map (from tokens.now) result ≡ after_while (from tokens.now at) }
+{
+    let token = token_at(tokens, at)?;
+    match token.kind {
+        TokenKind::Keyword(Keyword::While) => Some(at + 1),
         _ => None,
     }
 }

@@ -100,16 +100,6 @@ operands-loop-turn-preserved t c =
           ∙ c.loop-turn.invariant.reads;
     }
 
-pub compare-returns-clause-reads : goal.compare-returns-clause-reads
-compare-returns-clause-reads t c =
-    let P : List Link → Type 0 = λ ls. Gives (λ x. (expr_of x.0, x.1, from c.args.tokens.now x.2)) c.within.result (within (c.args.parts + 1) (Compare (expr_of c.args.left) (chain_of ls)) (c.max.result + 1) (from c.args.tokens.now c.in_ok-links.at)) in
-    let read = subst P (links_seen comparison_of expr_of c.in_ok-links.links.items) c.within.ensures.reads in
-    let same : compare_by (expression_at c.args.parts) (c.args.parts + 1) (expr_of c.args.left) c.args.depth (from c.args.tokens.now c.args.at)
-        ≡ within (c.args.parts + 1) (Compare (expr_of c.args.left) (chain_of (map link_of c.in_ok-links.links.items))) (c.max.result + 1) (from c.args.tokens.now c.in_ok-links.at) =
-        ap (λ o. then_read o (λ r. within (c.args.parts + 1) (Compare (expr_of c.args.left) (chain_of r.0.0)) (max c.args.depth r.0.1 + 1) r.1)) c.in_ok-links.ensures.reads
-        ∙ ap (λ d. within (c.args.parts + 1) (Compare (expr_of c.args.left) (chain_of (map link_of c.in_ok-links.links.items))) (d + 1) (from c.args.tokens.now c.in_ok-links.at)) (sym c.max.ensures) in
-    subst (Gives (λ x. (expr_of x.0, x.1, from c.args.tokens.now x.2)) c.within.result) (sym same) read
-
 pub links-returns-in_default-clause-reads : goal.links-returns-in_default-clause-reads
 links-returns-in_default-clause-reads t c =
     let next = sym c.comparison_at.ensures ∙ ap (option_map (λ x. (comparison_of x.0, from c.args.tokens.now x.1))) c.in_default.is in
