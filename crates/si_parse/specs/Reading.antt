@@ -114,6 +114,11 @@ after_indent [] = None
 after_indent (INDENT ∷ ts) = Some ts
 after_indent (_ ∷ ts) = None
 
+abbrev pub after_dedent : Step
+after_dedent [] = None
+after_dedent (DEDENT ∷ ts) = Some ts
+after_dedent (_ ∷ ts) = None
+
 abbrev pub after_if : Step
 after_if [] = None
 after_if (Word token.IfWord ∷ ts) = Some ts
@@ -424,10 +429,12 @@ simple_line = line_by (expression_at max_depth)
 
 -- ---- compound statements
 
+abbrev pub is_none : Option (List Terminal) → Bool
+is_none None = true
+is_none (Some ts) = false
+
 abbrev pub is_dedent : List Terminal → Bool
-is_dedent [] = false
-is_dedent (DEDENT ∷ ts) = true
-is_dedent (_ ∷ ts) = false
+is_dedent ts = not (is_none (after_dedent ts))
 
 abbrev pub indented_by : LineParser → List Terminal → Option (List Stmt × List Terminal)
 indented_by line ts = if is_dedent ts then None else then_read (many_by line is_dedent (length ts) [] ts) (λ r. Some (r.0, rest_of r.1))
@@ -448,10 +455,6 @@ with_branch bs r = Some (bs ++ r.0 ∷ [], r.1)
 
 abbrev pub elif_by : LineParser → List Branch → List Terminal → Option (List Branch × List Terminal)
 elif_by line bs ts = then_read (after_elif ts) (λ rest. then_read (branch_by line rest) (with_branch bs))
-
-abbrev pub is_none : Option (List Terminal) → Bool
-is_none None = true
-is_none (Some ts) = false
 
 abbrev pub no_elif : List Terminal → Bool
 no_elif ts = is_none (after_elif ts)

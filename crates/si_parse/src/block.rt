@@ -2,20 +2,20 @@
 
 ghost use Rattle.std.specs.Prelude.{◌≡◌, ℕ, ◌+◌, ◌-◌, ◌*◌, ◌<◌, [], length, map, option_map};
 ghost use Rattle.si_parse.specs.Trees.{expr_of, stmt_of, branch_of};
-ghost use Rattle.si_parse.specs.Reading.{is_dedent, indented_by, suite_by, branch_by, elifs_by, otherwise_by, if_by, while_by, block_at};
+ghost use Rattle.si_parse.specs.Reading.{indented_by, suite_by, branch_by, elifs_by, otherwise_by, if_by, while_by, block_at};
 ghost use Rattle.si_parse.specs.Gives.{Gives, from};
 
 use crate::expression::expression;
 use crate::fault::ParseFault;
 use crate::lookahead::{
-    after_colon, after_elif, after_else, after_if, after_indent, after_newline, after_while,
-    line_at, token_at,
+    after_colon, after_dedent, after_elif, after_else, after_if, after_indent, after_newline,
+    after_while, line_at,
 };
 use crate::precedence::ANY;
 use crate::statement::line;
 use crate::syntax::{Expr, Stmt};
 use si_plain::limits::MAX_EXPRESSION_DEPTH;
-use si_token::{Token, TokenKind};
+use si_token::Token;
 use std::alloc::Global;
 
 // The most compound statements that are nested.
@@ -158,16 +158,6 @@ fn suite(alloc: Global, parts: u32, tokens: &[Token], at: usize) -> Suite
     }
 }
 
-// Whether a dedent stands at the place.
-fn is_dedent(tokens: &[Token], at: usize) -> bool
-    ensures { result ≡ is_dedent (from tokens.now at) }
-{
-    match token_at(tokens, at) {
-        Some(token) => matches!(token.kind, TokenKind::Dedent),
-        None => false,
-    }
-}
-
 // The lines from behind an indent up to the dedent, of which there is one at least.
 #[cycle(blocks)]
 #[tactic(auto, using(crate::proofs::Steps::many_by_zero, crate::proofs::Steps::many_by_step))]
@@ -175,14 +165,14 @@ fn indented(alloc: Global, parts: u32, tokens: &[Token], start: usize) -> Suite
     requires { parts < 999 }
     ensures { Gives (λ x. (map stmt_of x.0.items, from tokens.now x.1)) result (indented_by (block_at parts) (from tokens.now start)) }
 {
-    if is_dedent(tokens, start) {
+    if after_dedent(tokens, start).is_some() {
         return Err(ParseFault::Syntax(line_at(tokens, start)));
     }
     let mut body = Vec::new(alloc);
     let mut at = start;
     for _turn in start..tokens.len() {
-        if is_dedent(tokens, at) {
-            return Ok((body, at + 1));
+        if let Some(end) = after_dedent(tokens, at) {
+            return Ok((body, end));
         }
         let (longer, behind) = block(alloc, parts, body, tokens, at)?;
         body = longer;

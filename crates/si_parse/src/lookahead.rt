@@ -4,7 +4,7 @@ ghost use Rattle.std.specs.Prelude.{◌≡◌, ℕ, ◌+◌, ◌<◌, ◌≤◌,
 ghost use Rattle.si_semantics.specs.Grammar.{terminal_of};
 ghost use Rattle.si_token.specs.Views.{token_of};
 ghost use Rattle.si_parse.specs.Trees.{boolean_of};
-ghost use Rattle.si_parse.specs.Reading.{after_close, after_comma, after_newline, after_colon, after_indent, after_if, after_elif, after_while, after_semicolon, after_not, after_else, after_and, after_or, after_boolean, closing, is_end};
+ghost use Rattle.si_parse.specs.Reading.{after_close, after_comma, after_newline, after_colon, after_indent, after_dedent, after_if, after_elif, after_while, after_semicolon, after_not, after_else, after_and, after_or, after_boolean, closing, is_end};
 ghost use Rattle.si_parse.specs.Gives.{from};
 
 use crate::syntax::BooleanOperator;
@@ -92,6 +92,17 @@ pub(crate) fn after_indent(tokens: &[Token], at: usize) -> Option<usize>
     let token = token_at(tokens, at)?;
     match token.kind {
         TokenKind::Indent => Some(at + 1),
+        _ => None,
+    }
+}
+
+// The place behind a dedent, where one stands at the place.
+pub(crate) fn after_dedent(tokens: &[Token], at: usize) -> Option<usize>
+    ensures { option_map (from tokens.now) result ≡ after_dedent (from tokens.now at) }
+{
+    let token = token_at(tokens, at)?;
+    match token.kind {
+        TokenKind::Dedent => Some(at + 1),
         _ => None,
     }
 }
