@@ -43,21 +43,21 @@ module _ (L : Lines) (line : LineParser) (sound : LineSound L line) where
   SuiteRead ts r = (f : List Terminal) × (ts ≡ f ++ r.1) × Suite L (stmts_of r.0) f
 
   some_front : (f ts rest : List Terminal) → is_dedent ts ≡ false → ts ≡ f ++ rest → is_dedent rest ≡ true → 0 < length f
-  some_front [] ts rest no split is = let bad : false ≡ true = sym no ∙ ap is_dedent split ∙ is in cc
-  some_front (t ∷ f) ts rest no split is = omega arith
+  some_front [] ts rest inside split is = let bad : false ≡ true = sym inside ∙ ap is_dedent split ∙ is in cc
+  some_front (t ∷ f) ts rest inside split is = omega arith
 
   abbrev IndentedRead : List Terminal → List Stmt × List Terminal → Type 0
   IndentedRead ts r = (f : List Terminal) × (ts ≡ f ++ DEDENT ∷ r.1) × (0 < length f) × Block L (stmts_of r.0) f
 
   indented_lines : (ts : List Terminal) (r : List Stmt × List Terminal) → is_dedent ts ≡ false → then_read (many_by line is_dedent (length ts) [] ts) (λ r. Some (r.0, rest_of r.1)) ≡ Some r → IndentedRead ts r
-  indented_lines ts r no h =
+  indented_lines ts r inside h =
       let s = then_read_some (many_by line is_dedent (length ts) [] ts) (λ r. Some (r.0, rest_of r.1)) r h in
       let m = many_sound with_line line is_dedent L sound (length ts) [] ts s.0 s.1 in
       let P : List Stmt × List Terminal → Type 0 = IndentedRead ts in
       subst P (some_inj (s.0.0, rest_of s.0.1) r s.2) (
         m.1,
         m.3 ∙ ap (λ t. m.1 ++ t) (dedent_only s.0.1 m.5),
-        some_front m.1 ts s.0.1 no m.3 m.5,
+        some_front m.1 ts s.0.1 inside m.3 m.5,
         (m.0, ap stmts_of (m.2 ∙ added_lines [] m.0), m.4),
       )
 
