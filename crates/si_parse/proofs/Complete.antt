@@ -1,17 +1,20 @@
 -- What is in the grammar is read.
-use Rattle.std.proofs.Common.{◌≡◌, ℕ, zero, suc, ◌+◌, ◌-◌, ◌<◌, ◌≤◌, List, [], ◌∷◌, ◌++◌, inl, inr, length, Some, None, true, false, refl, sym, ap, ◌∙◌, subst, max, arith, add-one, append_assoc, length-append}
-use Rattle.std.specs.Prelude.{nat_lt, nat_le, if◌then◌else◌}
+use Rattle.std.proofs.Common.{◌≡◌, ℕ, zero, suc, ◌+◌, ◌-◌, ◌<◌, ◌≤◌, List, [], ◌∷◌, ◌++◌, inl, inr, length, Bool, Option, Some, None, true, false, refl, sym, ap, ◌∙◌, subst, max, arith, add-one, append_assoc, length-append}
+use Rattle.std.specs.Prelude.{nat_lt, nat_le, not, ◌&&◌, if◌then◌else◌}
 use Rattle.std.proofs.lemmas.Bool.Decides.{nat_tests}
 use Rattle.std.proofs.lemmas.List.{append-nil}
 use Rattle.si_semantics.specs.Value.{Nothing, Truth, Int, Str, Provided}
-use Rattle.si_semantics.specs.Tree.{BinaryOperator, UnaryOperator, Expr, Constant, Name, Unary, Binary, Call, Boolean, Compare, Conditional}
+use Rattle.si_semantics.specs.Tree.{BinaryOperator, UnaryOperator, ComparisonOperator, BooleanOperator, Expr, Constant, Name, Unary, Binary, Call, Boolean, Compare, Conditional}
 use Rattle.si_semantics.specs.Tree as tree
-use Rattle.si_semantics.specs.Tokens.{Symbol}
+use Rattle.si_semantics.specs.Tokens.{Symbol, Keyword}
 use Rattle.si_semantics.specs.Tokens as token
-use Rattle.si_semantics.specs.Grammar.{Terminal, NAME, NUMBER, STRING, Sign, level_of, left_level, right_level, symbol_of, sign_of, sign_level, Separated, items_of, exprs_of, Strings, Spells}
-use Rattle.si_parse.specs.Reading.{arguments, continuation_at, strength_of, strength_at, begins_str, Step, then_read, rest_of, after_close, after_comma, Found, Parsed, Parser, with_argument, arguments_from, arguments_by, within, extended_by, continued_by, closed, strings_by, unary_by, bracketed_by, operand_by, expression_at}
-use Rattle.si_parse.proofs.Laws.{strength_gap, right_weaker, right_bound, level_under, role_of_symbol, sign_bound, exprs_of_items}
+use Rattle.si_semantics.specs.Grammar.{Terminal, NAME, NUMBER, STRING, Sign, Word, level_of, left_level, right_level, symbol_of, prefix_level, prefix_of, boolean_level, item_level, word_of, comparison_of, is_identity, Many, Behind, Separated, exprs_of, items_of, Link, links_of, chain_of, Compares, Strings, Spells}
+use Rattle.si_parse.specs.Reading.{arguments, comparison, boolean, condition, continuation_at, strength_of, strength_at, begins_str, then_read, rest_of, after_close, after_comma, after_else, after_boolean, with_word, comparison_at, identity_from, after_not, Found, Parsed, Parser, with_argument, arguments_from, arguments_by, within, call_by, operands_by, boolean_by, is_singleton, compared_to, compared_by, links_by, compare_by, other_by, conditional_by, extended_by, continued_by, closed, strings_by, unary_by, bracketed_by, operand_from, operand_by, expression_at}
+use Rattle.si_parse.proofs.Laws.{exprs_of_items, chain_of_links}
+use Rattle.si_parse.proofs.Levels.{right_weaker, right_bound, level_under, role_of_symbol, prefix_gap, prefix_bound, prefix_begins, conditional_gap, boolean_strength, item_bound, role_of_word, after_word, role_of_comparison, boolean_none, comparison_none}
 use Rattle.si_parse.proofs.Lists.{added, Pairwise, separated_complete}
+use Rattle.si_parse.proofs.Chains.{many_long, chain_complete}
+use Rattle.si_parse.proofs.Starts.{expression_begins, some_terminals, close_not, Singleton, singleton}
 use Rattle.si_parse.proofs.Steps.{continued_by_step}
 
 le_to : (a b : ℕ) → a ≤ b → nat_le a b ≡ true
@@ -26,47 +29,8 @@ ge_to a b h = grind (arith, nat_tests)
 within_ok : (n : ℕ) (e : Expr) (d : ℕ) (ts : List Terminal) → d ≤ n → within n e d ts ≡ Some (e, d, ts)
 within_ok n e d ts h = ap (λ b. if b then Some (e, d, ts) else None) (le_to d n h)
 
--- ---- how an expression begins
-
-module _ (step : Step)
-    (on_name : (x : List ℕ) (ts : List Terminal) → step (NAME x ∷ ts) ≡ None)
-    (on_number : (x : List ℕ) (ts : List Terminal) → step (NUMBER x ∷ ts) ≡ None)
-    (on_string : (x : List ℕ) (ts : List Terminal) → step (STRING x ∷ ts) ≡ None)
-    (on_sign : (op : UnaryOperator) (ts : List Terminal) → step (Sign (sign_of op) ∷ ts) ≡ None)
-    (on_open : (ts : List Terminal) → step (Sign token.LeftParenthesis ∷ ts) ≡ None) where
-  begins_strings : (s : List ℕ) (f : List Terminal) → 0 < length f → Strings s f → (x : List Terminal) → step (f ++ x) ≡ None
-  begins_strings s [] some h x = absurd (omega arith)
-  begins_strings s (STRING literal ∷ ts) some h x = on_string literal (ts ++ x)
-  begins_strings s (_ ∷ ts) some h x = absurd h
-
-  pub begins : (m l : ℕ) (e : Expr) (f : List Terminal) → Spells m l e f → (x : List Terminal) → step (f ++ x) ≡ None
-  begins zero l e f h x = absurd h
-  begins (suc m) l e f (inr h) x = ap (λ t. step (t ++ x)) h.1 ∙ on_open ((h.0 ++ Sign token.RightParenthesis ∷ []) ++ x)
-  begins (suc m) l (Name i) f (inl h) x = ap (λ t. step (t ++ x)) h ∙ on_name i x
-  begins (suc m) l (Constant (Int n)) f (inl h) x = ap (λ t. step (t ++ x)) h.1 ∙ on_number h.0 x
-  begins (suc m) l (Constant (Str s)) f (inl h) x = begins_strings s f h.0 h.1 x
-  begins (suc m) l (Constant Nothing) f (inl h) x = absurd h
-  begins (suc m) l (Constant (Provided b)) f (inl h) x = absurd h
-  begins (suc m) l (Constant (Truth b)) f (inl h) x = absurd h
-  begins (suc m) l (Boolean o a more) f (inl h) x = absurd h
-  begins (suc m) l (Compare a cs) f (inl h) x = absurd h
-  begins (suc m) l (Conditional a b c) f (inl h) x = absurd h
-  begins (suc m) l (Unary op a) f (inl h) x = ap (λ t. step (t ++ x)) h.1 ∙ on_sign op (h.0 ++ x)
-  begins (suc m) l (Binary op a b) f (inl h) x =
-      ap (λ t. step (t ++ x)) h.2 ∙ ap step (append_assoc h.0 (Sign (symbol_of op) ∷ h.1) x) ∙ begins m (left_level op) a h.0 h.4 (Sign (symbol_of op) ∷ (h.1 ++ x))
-  begins (suc m) l (Call a args) f (inl h) x =
-      ap (λ t. step (t ++ x)) h.2
-      ∙ ap step (append_assoc h.0 (Sign token.LeftParenthesis ∷ (h.1 ++ Sign token.RightParenthesis ∷ [])) x)
-      ∙ begins m 18 a h.0 h.4 (Sign token.LeftParenthesis ∷ ((h.1 ++ Sign token.RightParenthesis ∷ []) ++ x))
-
-close_sign : (op : UnaryOperator) (ts : List Terminal) → after_close (Sign (sign_of op) ∷ ts) ≡ None
-close_sign tree.Plus ts = refl
-close_sign tree.Minus ts = refl
-close_sign tree.Invert ts = refl
-close_sign tree.Not ts = refl
-
 not_closed : (m l : ℕ) (e : Expr) (f : List Terminal) → Spells m l e f → (x : List Terminal) → after_close (f ++ x) ≡ None
-not_closed m l e f h x = begins after_close (λ x ts. refl) (λ x ts. refl) (λ x ts. refl) close_sign (λ ts. refl) m l e f h x
+not_closed m l e f h x = close_not (f ++ x) (expression_begins m l e f h x)
 
 -- ---- str literals
 
@@ -83,10 +47,40 @@ strings_complete text s (STRING literal ∷ ts) rest h b =
     ∙ ap (λ t. Some (t, rest)) (append_assoc text h.0 h.1 ∙ ap (λ s. text ++ s) (sym h.2))
 strings_complete text s (_ ∷ ts) rest h b = absurd h
 
-string_operand : (sub : Parser) (s : List ℕ) (f rest : List Terminal) → 0 < length f → Strings s f → begins_str rest ≡ false → operand_by sub (f ++ rest) ≡ Some (Constant (Str s), 1, rest)
-string_operand sub s [] rest some h b = absurd (omega arith)
-string_operand sub s (STRING literal ∷ ts) rest some h b = ap (λ o. then_read o (λ r. Some (Constant (Str r.0), 1, r.1))) (strings_complete [] s (STRING literal ∷ ts) rest h b)
-string_operand sub s (_ ∷ ts) rest some h b = absurd h
+string_operand : (sub : Parser) (l : ℕ) (s : List ℕ) (f rest : List Terminal) → 0 < length f → Strings s f → begins_str rest ≡ false → operand_by sub l (f ++ rest) ≡ Some (Constant (Str s), 1, rest)
+string_operand sub l s [] rest some h b = absurd (omega arith)
+string_operand sub l s (STRING literal ∷ ts) rest some h b = ap (λ o. then_read o (λ r. Some (Constant (Str r.0), 1, r.1))) (strings_complete [] s (STRING literal ∷ ts) rest h b)
+string_operand sub l s (_ ∷ ts) rest some h b = absurd h
+
+-- ---- comparisons
+
+no_str : (op : ComparisonOperator) (ts : List Terminal) → begins_str (comparison_of op ++ ts) ≡ false
+no_str tree.Less ts = refl
+no_str tree.Greater ts = refl
+no_str tree.LessEqual ts = refl
+no_str tree.GreaterEqual ts = refl
+no_str tree.Equal ts = refl
+no_str tree.NotEqual ts = refl
+no_str tree.Is ts = refl
+no_str tree.IsNot ts = refl
+
+comparison_long : (op : ComparisonOperator) → 1 ≤ length (comparison_of op)
+comparison_long tree.Less = omega arith
+comparison_long tree.Greater = omega arith
+comparison_long tree.LessEqual = omega arith
+comparison_long tree.GreaterEqual = omega arith
+comparison_long tree.Equal = omega arith
+comparison_long tree.NotEqual = omega arith
+comparison_long tree.Is = omega arith
+comparison_long tree.IsNot = omega arith
+
+compared_if : (i s : Bool) (r : Found) → s ≡ true → (if i && not s then None else Some r) ≡ Some r
+compared_if true true r h = refl
+compared_if true false r h = cc
+compared_if false s r h = refl
+
+compared_singleton : (op : ComparisonOperator) (r : Found) → is_singleton r.0 r.1 ≡ true → compared_to op r ≡ Some r
+compared_singleton op r h = compared_if (is_identity op) (is_singleton r.0 r.1) r h
 
 -- ---- expressions
 
@@ -127,10 +121,96 @@ module _ (n : ℕ) (sub : Parser) (complete : IsComplete n sub) where
         let c = collected [] (x ∷ xs) 0 s.0 (omega arith) s.1 in
         (c.0, c.1, ap (arguments_from sub ts) open_yet ∙ s.2 ∙ ap (λ b. Some (b, rest)) c.2)
 
-  module _ (l : ℕ) (low : l ≤ 16) (some : 0 < l) where
+  -- ---- operands of chains
+
+  abbrev Item : ℕ → BooleanOperator → Expr → List Terminal → Type 0
+  Item m op = Behind (Word (word_of op)) (Spells m (item_level op))
+
+  item_begin : (m : ℕ) (op : BooleanOperator) (x : Expr) (f more : List Terminal) → Item m op x f → (continuation_at (f ++ more) ≡ boolean op) × (begins_str (f ++ more) ≡ false)
+  item_begin m op x f more h = (ap (λ t. continuation_at (t ++ more)) h.1 ∙ role_of_word op, ap (λ t. begins_str (t ++ more)) h.1)
+
+  item_begins : (m : ℕ) (op : BooleanOperator) (x : Expr) (f more : List Terminal) → Item m op x f → (strength_at (f ++ more) < item_level op) × (begins_str (f ++ more) ≡ false)
+  item_begins m op x f more h =
+      let b = item_begin m op x f more h in let same = ap strength_of b.0 in let strong = boolean_strength op in (omega (arith, strong.0), b.1)
+
+  items_begin : (m : ℕ) (op : BooleanOperator) (xs : List Expr) (g rest : List Terminal) → 0 < length xs → Many (Item m op) xs g → (continuation_at (g ++ rest) ≡ boolean op) × (begins_str (g ++ rest) ≡ false)
+  items_begin m op [] g rest some h = absurd (omega arith)
+  items_begin m op (x ∷ xs) g rest some h =
+      let split : g ++ rest ≡ h.0 ++ (h.1 ++ rest) = ap (λ t. t ++ rest) h.2 ∙ append_assoc h.0 h.1 rest in
+      subst (λ t. (continuation_at t ≡ boolean op) × (begins_str t ≡ false)) (sym split) (item_begin m op x h.0 (h.1 ++ rest) h.3)
+
+  item_long : (m : ℕ) (op : BooleanOperator) (x : Expr) (f : List Terminal) → Item m op x f → 2 ≤ length f
+  item_long m op x f h = omega (arith, ap length h.1, some_terminals m (item_level op) x h.0 h.2)
+
+  item_complete : (m : ℕ) → m ≤ n → (op : BooleanOperator) (x : Expr) (f more : List Terminal) → Item m op x f → strength_at more < item_level op → begins_str more ≡ false
+      → (o : BooleanOperator) × (rest : List Terminal) × (e : Expr) × (d : ℕ) × (with_word op (after_boolean op (f ++ more)) ≡ Some (o, rest)) × (sub (item_level o) rest ≡ Some (e, d, more)) × (e ≡ x) × (d ≤ m)
+  item_complete m le op x f more h weak plain =
+      let c = complete m (item_level op) x h.0 more le (item_bound op) h.2 weak plain in
+      (op, h.0 ++ more, x, c.0, ap (λ t. with_word op (after_boolean op (t ++ more))) h.1 ∙ ap (with_word op) (after_word op (h.0 ++ more)), c.3, refl, c.1)
+
+  link_begin : (m : ℕ) (x : Link) (f more : List Terminal) → Compares (Spells m) x f → (continuation_at (f ++ more) ≡ comparison) × (begins_str (f ++ more) ≡ false)
+  link_begin m x f more h =
+      let split : f ++ more ≡ comparison_of x.0 ++ (h.0 ++ more) = ap (λ t. t ++ more) h.1 ∙ append_assoc (comparison_of x.0) h.0 more in
+      subst (λ t. (continuation_at t ≡ comparison) × (begins_str t ≡ false)) (sym split) (role_of_comparison x.0 (h.0 ++ more), no_str x.0 (h.0 ++ more))
+
+  link_begins : (m : ℕ) (x : Link) (f more : List Terminal) → Compares (Spells m) x f → (strength_at (f ++ more) < 10) × (begins_str (f ++ more) ≡ false)
+  link_begins m x f more h = let b = link_begin m x f more h in let same : strength_at (f ++ more) ≡ 9 = ap strength_of b.0 in (omega arith, b.1)
+
+  links_begin : (m : ℕ) (xs : List Link) (g rest : List Terminal) → 0 < length xs → Many (Compares (Spells m)) xs g → (continuation_at (g ++ rest) ≡ comparison) × (begins_str (g ++ rest) ≡ false)
+  links_begin m [] g rest some h = absurd (omega arith)
+  links_begin m (x ∷ xs) g rest some h =
+      let split : g ++ rest ≡ h.0 ++ (h.1 ++ rest) = ap (λ t. t ++ rest) h.2 ∙ append_assoc h.0 h.1 rest in
+      subst (λ t. (continuation_at t ≡ comparison) × (begins_str t ≡ false)) (sym split) (link_begin m x h.0 (h.1 ++ rest) h.3)
+
+  link_long : (m : ℕ) (x : Link) (f : List Terminal) → Compares (Spells m) x f → 2 ≤ length f
+  link_long m x f h = omega (arith, ap length h.1, length-append (comparison_of x.0) h.0, comparison_long x.0, some_terminals m 10 x.1 h.0 h.2)
+
+  -- the operand is read, and so is the operator before it
+  abbrev Operand : ℕ → ComparisonOperator → Expr → List Terminal → List Terminal → Type 0
+  Operand m op e g more = (d : ℕ) × (d ≤ m) × (comparison_at (comparison_of op ++ (g ++ more)) ≡ Some (op, g ++ more)) × (compared_by sub op (g ++ more) ≡ Some (e, d, more))
+
+  ordered : (m : ℕ) → m ≤ n → (op : ComparisonOperator) (e : Expr) (g more : List Terminal) → is_identity op ≡ false → comparison_at (comparison_of op ++ (g ++ more)) ≡ Some (op, g ++ more) → Spells m 10 e g → strength_at more < 10 → begins_str more ≡ false
+      → Operand m op e g more
+  ordered m le op e g more free is h weak plain =
+      let c = complete m 10 e g more le (omega arith) h weak plain in
+      (c.0, c.1, is, ap (λ r. then_read r (compared_to op)) c.3 ∙ ap (λ b. if b && not (is_singleton e c.0) then None else Some (e, c.0, more)) free)
+
+  positive : (m l : ℕ) (e : Expr) (g : List Terminal) → Spells m l e g → 0 < m
+  positive zero l e g h = absurd h
+  positive (suc m) l e g h = omega arith
+
+  identical : (m : ℕ) → m ≤ n → (op : ComparisonOperator) (e : Expr) (g more : List Terminal) (w : Keyword) → g ≡ Word w ∷ [] → (after_not (g ++ more) ≡ None → comparison_at (comparison_of op ++ (g ++ more)) ≡ Some (op, g ++ more))
+      → Spells m 10 e g → strength_at more < 10 → begins_str more ≡ false → Operand m op e g more
+  identical m le op e g more w one is h weak plain =
+      let s = singleton m e w (subst (Spells m 10 e) one h) in
+      let spelled : Spells 1 10 e g = subst (Spells 1 10 e) (sym one) s.spelled in
+      let some = positive m 10 e g h in
+      let c = complete 1 10 e g more (omega arith) (omega arith) spelled weak plain in
+      let exact : 1 ≡ c.0 = omega (arith, c.1, c.2) in
+      let known : is_singleton e c.0 ≡ true = ap (is_singleton e) (sym exact) ∙ s.is in
+      (c.0, omega (arith, c.1), is (ap (λ t. after_not (t ++ more)) one ∙ s.affirms more), ap (λ r. then_read r (compared_to op)) c.3 ∙ compared_singleton op (e, c.0, more) known)
+
+  operand_complete : (m : ℕ) → m ≤ n → (op : ComparisonOperator) (e : Expr) (g more : List Terminal) → Spells m 10 e g → (is_identity op ≡ true → (w : Keyword) × (g ≡ Word w ∷ [])) → strength_at more < 10 → begins_str more ≡ false → Operand m op e g more
+  operand_complete m le tree.Less e g more h one weak plain = ordered m le tree.Less e g more refl refl h weak plain
+  operand_complete m le tree.Greater e g more h one weak plain = ordered m le tree.Greater e g more refl refl h weak plain
+  operand_complete m le tree.LessEqual e g more h one weak plain = ordered m le tree.LessEqual e g more refl refl h weak plain
+  operand_complete m le tree.GreaterEqual e g more h one weak plain = ordered m le tree.GreaterEqual e g more refl refl h weak plain
+  operand_complete m le tree.Equal e g more h one weak plain = ordered m le tree.Equal e g more refl refl h weak plain
+  operand_complete m le tree.NotEqual e g more h one weak plain = ordered m le tree.NotEqual e g more refl refl h weak plain
+  operand_complete m le tree.Is e g more h one weak plain = let w = one refl in identical m le tree.Is e g more w.0 w.1 (λ a. ap (λ o. Some (identity_from (g ++ more) o)) a) h weak plain
+  operand_complete m le tree.IsNot e g more h one weak plain = let w = one refl in identical m le tree.IsNot e g more w.0 w.1 (λ a. refl) h weak plain
+
+  link_complete : (m : ℕ) → m ≤ n → (x : Link) (f more : List Terminal) → Compares (Spells m) x f → strength_at more < 10 → begins_str more ≡ false
+      → (o : ComparisonOperator) × (rest : List Terminal) × (e : Expr) × (d : ℕ) × (comparison_at (f ++ more) ≡ Some (o, rest)) × (compared_by sub o rest ≡ Some (e, d, more)) × ((o, e) ≡ x) × (d ≤ m)
+  link_complete m le x f more h weak plain =
+      let c = operand_complete m le x.0 x.1 h.0 more h.2 h.3 weak plain in
+      let split : f ++ more ≡ comparison_of x.0 ++ (h.0 ++ more) = ap (λ t. t ++ more) h.1 ∙ append_assoc (comparison_of x.0) h.0 more in
+      (x.0, h.0 ++ more, x.1, c.0, ap comparison_at split ∙ c.2, c.3, refl, c.1)
+
+  module _ (l : ℕ) (low : l ≤ 16) where
     -- Reading begins with the tree, and goes on behind it.
     abbrev Run : ℕ → List Terminal → Parsed
-    Run k ts = then_read (operand_by sub ts) (λ r. continued_by sub (n + 1) l k r.0 r.1 r.2)
+    Run k ts = then_read (operand_by sub l ts) (λ r. continued_by sub (n + 1) l k r.0 r.1 r.2)
 
     abbrev Reaches : ℕ → Expr → List Terminal → List Terminal → Type 0
     Reaches m e front rest = (d : ℕ) × (j : ℕ) × (d ≤ m) × (j < d) × ((k : ℕ) → Run (j + k) (front ++ rest) ≡ continued_by sub (n + 1) l k e d rest)
@@ -138,18 +218,18 @@ module _ (n : ℕ) (sub : Parser) (complete : IsComplete n sub) where
     abbrev Hypothesis : ℕ → Type 0
     Hypothesis m = (level : ℕ) (e : Expr) (front rest : List Terminal) → Spells m level e front → strength_at rest ≤ level → begins_str rest ≡ false → l ≤ level → Reaches m e front rest
 
-    once : (k : ℕ) (e : Expr) (d : ℕ) (ts : List Terminal) → l ≤ strength_at ts → (e' : Expr) (d' : ℕ) (ts' : List Terminal) → extended_by sub (n + 1) e d (rest_of ts) (continuation_at ts) ≡ Some (e', d', ts')
+    once : (k : ℕ) (e : Expr) (d : ℕ) (ts : List Terminal) → l ≤ strength_at ts → (e' : Expr) (d' : ℕ) (ts' : List Terminal) → extended_by sub (n + 1) e d ts (continuation_at ts) ≡ Some (e', d', ts')
         → continued_by sub (n + 1) l (k + 1) e d ts ≡ continued_by sub (n + 1) l k e' d' ts'
     once k e d ts strong e' d' ts' h =
         let same : k + 1 - 1 ≡ k = omega arith in
         continued_by_step sub (n + 1) l (k + 1) e d ts (omega arith)
-        ∙ ap (λ b. if b then Some (e, d, ts) else then_read (extended_by sub (n + 1) e d (rest_of ts) (continuation_at ts)) (λ r. continued_by sub (n + 1) l (k + 1 - 1) r.0 r.1 r.2)) (ge_to (strength_at ts) l strong)
+        ∙ ap (λ b. if b then Some (e, d, ts) else then_read (extended_by sub (n + 1) e d ts (continuation_at ts)) (λ r. continued_by sub (n + 1) l (k + 1 - 1) r.0 r.1 r.2)) (ge_to (strength_at ts) l strong)
         ∙ ap (λ o. then_read o (λ r. continued_by sub (n + 1) l (k + 1 - 1) r.0 r.1 r.2)) h
         ∙ ap (λ i. continued_by sub (n + 1) l i e' d' ts') same
 
     -- one operator or call behind what was reached
     extends : (m : ℕ) (a e : Expr) (f tail rest : List Terminal) (d : ℕ) → (r : Reaches m a f (tail ++ rest)) → l ≤ strength_at (tail ++ rest) → d ≤ m + 1 → r.0 < d
-        → extended_by sub (n + 1) a r.0 (rest_of (tail ++ rest)) (continuation_at (tail ++ rest)) ≡ Some (e, d, rest)
+        → extended_by sub (n + 1) a r.0 (tail ++ rest) (continuation_at (tail ++ rest)) ≡ Some (e, d, rest)
         → Reaches (suc m) e (f ++ tail) rest
     extends m a e f tail rest d r strong deep deeper h = (
       d,
@@ -162,7 +242,7 @@ module _ (n : ℕ) (sub : Parser) (complete : IsComplete n sub) where
     )
 
     -- an operand is reached in no turn
-    starts : (m : ℕ) (e : Expr) (front rest : List Terminal) (d : ℕ) → 0 < d → d ≤ m → operand_by sub (front ++ rest) ≡ Some (e, d, rest) → Reaches m e front rest
+    starts : (m : ℕ) (e : Expr) (front rest : List Terminal) (d : ℕ) → 0 < d → d ≤ m → operand_by sub l (front ++ rest) ≡ Some (e, d, rest) → Reaches m e front rest
     starts m e front rest d positive deep h = (
       d,
       0,
@@ -177,7 +257,7 @@ module _ (n : ℕ) (sub : Parser) (complete : IsComplete n sub) where
         → Reaches (suc m) (Binary op a b) (f ++ Sign (symbol_of op) ∷ g) rest
     binary_reached m le ih level op a b f g rest under ha hb weak plain at =
         let tail = Sign (symbol_of op) ∷ g in
-        let role = role_of_symbol op (omega arith) in
+        let role = role_of_symbol op in
         let strength : strength_at (tail ++ rest) ≡ left_level op = ap strength_of role in
         let higher = level_under op in
         let left = ih (left_level op) a f (tail ++ rest) ha (omega arith) refl (omega arith) in
@@ -186,7 +266,7 @@ module _ (n : ℕ) (sub : Parser) (complete : IsComplete n sub) where
         let shallow : d ≤ n + 1 = omega (arith, left.2, right.1) in
         extends m a (Binary op a b) f tail rest d left (omega arith) (omega (arith, left.2, right.1)) (omega arith)
         (
-        ap (extended_by sub (n + 1) a left.0 (g ++ rest)) role
+        ap (extended_by sub (n + 1) a left.0 (tail ++ rest)) role
         ∙ ap (λ r. then_read r (λ r. within (n + 1) (Binary op a r.0) (max left.0 r.1 + 1) r.2)) right.3
         ∙ within_ok (n + 1) (Binary op a b) d rest shallow
         )
@@ -202,25 +282,22 @@ module _ (n : ℕ) (sub : Parser) (complete : IsComplete n sub) where
         let same : (g ++ Sign token.RightParenthesis ∷ []) ++ rest ≡ g ++ Sign token.RightParenthesis ∷ rest = append_assoc g (Sign token.RightParenthesis ∷ []) rest in
         extends m a (Call a args) f tail rest d left (omega arith) (omega (arith, left.2, right.1)) (omega arith)
         (
-        ap (λ t. extended_by sub (n + 1) a left.0 t arguments) same
+        ap (λ t. call_by sub (n + 1) a left.0 t) same
         ∙ ap (λ r. then_read r (λ r. within (n + 1) (Call a (exprs_of r.0.0)) (max left.0 r.0.1 + 1) r.1)) right.2
         ∙ ap (λ t. within (n + 1) (Call a t) d rest) (exprs_of_items args)
         ∙ within_ok (n + 1) (Call a args) d rest shallow
         )
 
-    operand_of_sign : (op : UnaryOperator) (ts : List Terminal) → 0 < sign_level op → operand_by sub (Sign (sign_of op) ∷ ts) ≡ unary_by sub op ts
-    operand_of_sign tree.Plus ts h = refl
-    operand_of_sign tree.Minus ts h = refl
-    operand_of_sign tree.Invert ts h = absurd (omega arith)
-    operand_of_sign tree.Not ts h = absurd (omega arith)
-
-    unary_reached : (m : ℕ) → m ≤ n → (level : ℕ) (op : UnaryOperator) (a : Expr) (f rest : List Terminal) → level ≤ sign_level op → Spells m 16 a f → strength_at rest ≤ level → begins_str rest ≡ false → l ≤ level
-        → Reaches (suc m) (Unary op a) (Sign (sign_of op) ∷ f) rest
+    unary_reached : (m : ℕ) → m ≤ n → (level : ℕ) (op : UnaryOperator) (a : Expr) (f rest : List Terminal) → level ≤ prefix_level op → Spells m (prefix_level op) a f → strength_at rest ≤ level → begins_str rest ≡ false → l ≤ level
+        → Reaches (suc m) (Unary op a) (prefix_of op ∷ f) rest
     unary_reached m le level op a f rest under ha weak plain at =
-        let bound = sign_bound op in
-        let inner = complete m 16 a f rest le (omega arith) ha (strength_gap rest (omega arith)) plain in
-        starts (suc m) (Unary op a) (Sign (sign_of op) ∷ f) rest (inner.0 + 1) (omega arith) (omega (arith, inner.1))
-        (operand_of_sign op (f ++ rest) (omega arith) ∙ ap (λ r. then_read r (λ r. Some (Unary op r.0, r.1 + 1, r.2))) inner.3)
+        let inner = complete m (prefix_level op) a f rest le (prefix_bound op) ha (prefix_gap op rest (omega arith)) plain in
+        starts (suc m) (Unary op a) (prefix_of op ∷ f) rest (inner.0 + 1) (omega arith) (omega (arith, inner.1))
+        (
+        ap (operand_from sub l (prefix_of op ∷ (f ++ rest))) (prefix_begins op (f ++ rest))
+        ∙ ap (λ b. if b then then_read (sub (prefix_level op) (f ++ rest)) (λ r. Some (Unary op r.0, r.1 + 1, r.2)) else None) (le_to l (prefix_level op) (omega arith))
+        ∙ ap (λ r. then_read r (λ r. Some (Unary op r.0, r.1 + 1, r.2))) inner.3
+        )
 
     bracket_reached : (m : ℕ) → m ≤ n → (e : Expr) (f rest : List Terminal) → Spells m 1 e f → Reaches (suc m) e (Sign token.LeftParenthesis ∷ (f ++ Sign token.RightParenthesis ∷ [])) rest
     bracket_reached m le e f rest he =
@@ -230,6 +307,64 @@ module _ (n : ℕ) (sub : Parser) (complete : IsComplete n sub) where
         (
         ap (bracketed_by sub) same
         ∙ ap (λ r. then_read r (λ r. closed r.0 r.1 (after_close r.2))) inner.3
+        )
+
+    compare_reached : (m : ℕ) → m ≤ n → Hypothesis m → (level : ℕ) (a : Expr) (cs : tree.Comparisons) (f g rest : List Terminal) → level ≤ 8 → Spells m 10 a f → 0 < length (links_of cs) → Many (Compares (Spells m)) (links_of cs) g
+        → strength_at rest ≤ level → begins_str rest ≡ false → l ≤ level → Reaches (suc m) (Compare a cs) (f ++ g) rest
+    compare_reached m le ih level a cs f g rest under ha some hs weak plain at =
+        let first = links_begin m (links_of cs) g rest some hs in
+        let strength : strength_at (g ++ rest) ≡ 9 = ap strength_of first.0 in
+        let left = ih 10 a f (g ++ rest) ha (omega arith) first.1 (omega arith) in
+        let long = many_long (Compares (Spells m)) (link_long m) (links_of cs) g hs in
+        let fuel : length (links_of cs) < length (g ++ rest) = omega (arith, length-append g rest) in
+        let chain = chain_complete (λ o e. (o, e)) comparison_at (compared_by sub) (Compares (Spells m)) m 10 (link_complete m le) (link_begins m) (length (g ++ rest)) ([], 0) (links_of cs) g rest fuel (omega arith) hs (omega arith, plain) (comparison_none rest (omega arith)) in
+        let d = max left.0 chain.0 + 1 in
+        let shallow : d ≤ n + 1 = omega (arith, left.2, chain.1) in
+        extends m a (Compare a cs) f g rest d left (omega arith) (omega (arith, left.2, chain.1)) (omega arith)
+        (
+        ap (extended_by sub (n + 1) a left.0 (g ++ rest)) first.0
+        ∙ ap (λ r. then_read r (λ r. within (n + 1) (Compare a (chain_of r.0.0)) (max left.0 r.0.1 + 1) r.1)) chain.2
+        ∙ ap (λ t. within (n + 1) (Compare a t) d rest) (chain_of_links cs)
+        ∙ within_ok (n + 1) (Compare a cs) d rest shallow
+        )
+
+    boolean_reached : (m : ℕ) → m ≤ n → Hypothesis m → (level : ℕ) (op : BooleanOperator) (a : Expr) (others : tree.Exprs) (f g rest : List Terminal) → level ≤ boolean_level op → Spells m (item_level op) a f
+        → 0 < length (items_of others) → Many (Item m op) (items_of others) g → strength_at rest ≤ level → begins_str rest ≡ false → l ≤ level → Reaches (suc m) (Boolean op a others) (f ++ g) rest
+    boolean_reached m le ih level op a others f g rest under ha some hs weak plain at =
+        let first = items_begin m op (items_of others) g rest some hs in
+        let bounds = boolean_strength op in
+        let strength : strength_at (g ++ rest) ≡ strength_of (boolean op) = ap strength_of first.0 in
+        let left = ih (item_level op) a f (g ++ rest) ha (omega (arith, bounds.0)) first.1 (omega (arith, bounds.0, bounds.1)) in
+        let long = many_long (Item m op) (item_long m op) (items_of others) g hs in
+        let fuel : length (items_of others) < length (g ++ rest) = omega (arith, length-append g rest) in
+        let chain = chain_complete (λ o e. e) (λ ts. with_word op (after_boolean op ts)) (λ o. sub (item_level o)) (Item m op) m (item_level op) (item_complete m le op) (item_begins m op) (length (g ++ rest)) ([], 0) (items_of others) g rest
+        fuel (omega arith) hs (omega (arith, bounds.0, bounds.1), plain) (ap (with_word op) (boolean_none op rest (omega arith))) in
+        let d = max left.0 chain.0 + 1 in
+        let shallow : d ≤ n + 1 = omega (arith, left.2, chain.1) in
+        extends m a (Boolean op a others) f g rest d left (omega (arith, bounds.1)) (omega (arith, left.2, chain.1)) (omega arith)
+        (
+        ap (extended_by sub (n + 1) a left.0 (g ++ rest)) first.0
+        ∙ ap (λ r. then_read r (λ r. within (n + 1) (Boolean op a (exprs_of r.0.0)) (max left.0 r.0.1 + 1) r.1)) chain.2
+        ∙ ap (λ t. within (n + 1) (Boolean op a t) d rest) (exprs_of_items others)
+        ∙ within_ok (n + 1) (Boolean op a others) d rest shallow
+        )
+
+    conditional_reached : (m : ℕ) → m ≤ n → Hypothesis m → (level : ℕ) (test value other : Expr) (f g h rest : List Terminal) → level ≤ 1 → Spells m 3 value f → Spells m 3 test g → Spells m 1 other h
+        → strength_at rest ≤ level → begins_str rest ≡ false → l ≤ level → Reaches (suc m) (Conditional test value other) (f ++ Word token.IfWord ∷ (g ++ Word token.ElseWord ∷ h)) rest
+    conditional_reached m le ih level test value other f g h rest under hv ht ho weak plain at =
+        let tail = Word token.IfWord ∷ (g ++ Word token.ElseWord ∷ h) in
+        let left = ih 3 value f (tail ++ rest) hv (omega arith) refl (omega arith) in
+        let mid = complete m 3 test g (Word token.ElseWord ∷ (h ++ rest)) le (omega arith) ht (omega arith) refl in
+        let right = complete m 1 other h rest le (omega arith) ho (conditional_gap rest (omega arith)) plain in
+        let d = max left.0 (max mid.0 right.0) + 1 in
+        let shallow : d ≤ n + 1 = omega (arith, left.2, mid.1, right.1) in
+        let same : (g ++ Word token.ElseWord ∷ h) ++ rest ≡ g ++ Word token.ElseWord ∷ (h ++ rest) = append_assoc g (Word token.ElseWord ∷ h) rest in
+        extends m value (Conditional test value other) f tail rest d left (omega arith) (omega (arith, left.2, mid.1, right.1)) (omega arith)
+        (
+        ap (conditional_by sub (n + 1) value left.0) same
+        ∙ ap (λ t. then_read t (λ t. then_read (after_else t.2) (other_by sub (n + 1) value left.0 t))) mid.3
+        ∙ ap (λ o. then_read o (λ o. within (n + 1) (Conditional test value o.0) (max left.0 (max mid.0 o.1) + 1) o.2)) right.3
+        ∙ within_ok (n + 1) (Conditional test value other) d rest shallow
         )
 
     moved : (m : ℕ) (e : Expr) (f g rest : List Terminal) → g ≡ f → Reaches m e f rest → Reaches m e g rest
@@ -243,37 +378,45 @@ module _ (n : ℕ) (sub : Parser) (complete : IsComplete n sub) where
         moved (suc m) (Constant (Int i)) (NUMBER h.0 ∷ []) front rest h.1
         (starts (suc m) (Constant (Int i)) (NUMBER h.0 ∷ []) rest 1 (omega arith) (omega arith) (ap (λ o. then_read o (λ n. Some (Constant (Int n), 1, rest))) h.2))
     reached (suc m) le level (Constant (Str s)) front rest (inl h) weak plain at =
-        starts (suc m) (Constant (Str s)) front rest 1 (omega arith) (omega arith) (string_operand sub s front rest h.0 h.1 plain)
-    reached (suc m) le level (Constant Nothing) front rest (inl h) weak plain at = absurd h
+        starts (suc m) (Constant (Str s)) front rest 1 (omega arith) (omega arith) (string_operand sub l s front rest h.0 h.1 plain)
+    reached (suc m) le level (Constant Nothing) front rest (inl h) weak plain at =
+        moved (suc m) (Constant Nothing) (Word token.NoneWord ∷ []) front rest h (starts (suc m) (Constant Nothing) (Word token.NoneWord ∷ []) rest 1 (omega arith) (omega arith) refl)
+    reached (suc m) le level (Constant (Truth true)) front rest (inl h) weak plain at =
+        moved (suc m) (Constant (Truth true)) (Word token.TrueWord ∷ []) front rest h (starts (suc m) (Constant (Truth true)) (Word token.TrueWord ∷ []) rest 1 (omega arith) (omega arith) refl)
+    reached (suc m) le level (Constant (Truth false)) front rest (inl h) weak plain at =
+        moved (suc m) (Constant (Truth false)) (Word token.FalseWord ∷ []) front rest h (starts (suc m) (Constant (Truth false)) (Word token.FalseWord ∷ []) rest 1 (omega arith) (omega arith) refl)
     reached (suc m) le level (Constant (Provided b)) front rest (inl h) weak plain at = absurd h
-    reached (suc m) le level (Constant (Truth b)) front rest (inl h) weak plain at = absurd h
-    reached (suc m) le level (Boolean o a more) front rest (inl h) weak plain at = absurd h
-    reached (suc m) le level (Compare a cs) front rest (inl h) weak plain at = absurd h
-    reached (suc m) le level (Conditional a b c) front rest (inl h) weak plain at = absurd h
     reached (suc m) le level (Unary op a) front rest (inl h) weak plain at =
-        moved (suc m) (Unary op a) (Sign (sign_of op) ∷ h.0) front rest h.1 (unary_reached m (omega arith) level op a h.0 rest h.2 h.3 weak plain at)
+        moved (suc m) (Unary op a) (prefix_of op ∷ h.0) front rest h.1 (unary_reached m (omega arith) level op a h.0 rest h.2 h.3 weak plain at)
     reached (suc m) le level (Binary op a b) front rest (inl h) weak plain at =
         moved (suc m) (Binary op a b) (h.0 ++ Sign (symbol_of op) ∷ h.1) front rest h.2 (binary_reached m (omega arith) (reached m (omega arith)) level op a b h.0 h.1 rest h.3 h.4 h.5 weak plain at)
     reached (suc m) le level (Call a args) front rest (inl h) weak plain at =
         moved (suc m) (Call a args) (h.0 ++ Sign token.LeftParenthesis ∷ (h.1 ++ Sign token.RightParenthesis ∷ [])) front rest h.2 (call_reached m (omega arith) (reached m (omega arith)) a args h.0 h.1 rest h.4 h.5)
+    reached (suc m) le level (Compare a cs) front rest (inl h) weak plain at =
+        moved (suc m) (Compare a cs) (h.0 ++ h.1) front rest h.2 (compare_reached m (omega arith) (reached m (omega arith)) level a cs h.0 h.1 rest h.3 h.4 h.5 h.6 weak plain at)
+    reached (suc m) le level (Boolean op a others) front rest (inl h) weak plain at =
+        moved (suc m) (Boolean op a others) (h.0 ++ h.1) front rest h.2 (boolean_reached m (omega arith) (reached m (omega arith)) level op a others h.0 h.1 rest h.3 h.4 h.5 h.6 weak plain at)
+    reached (suc m) le level (Conditional test value other) front rest (inl h) weak plain at =
+        moved (suc m) (Conditional test value other) (h.0 ++ Word token.IfWord ∷ (h.1 ++ Word token.ElseWord ∷ h.2)) front rest h.3
+        (conditional_reached m (omega arith) (reached m (omega arith)) level test value other h.0 h.1 h.2 rest h.4 h.5 h.6 h.7 weak plain at)
     reached (suc m) le level e front rest (inr h) weak plain at =
         moved (suc m) e (Sign token.LeftParenthesis ∷ (h.0 ++ Sign token.RightParenthesis ∷ [])) front rest h.1 (bracket_reached m (omega arith) e h.0 rest h.2)
 
   stops : (l k : ℕ) (e : Expr) (d : ℕ) (ts : List Terminal) → 0 < k → strength_at ts < l → continued_by sub (n + 1) l k e d ts ≡ Some (e, d, ts)
   stops l k e d ts h s =
       continued_by_step sub (n + 1) l k e d ts h
-      ∙ ap (λ b. if b then Some (e, d, ts) else then_read (extended_by sub (n + 1) e d (rest_of ts) (continuation_at ts)) (λ r. continued_by sub (n + 1) l (k - 1) r.0 r.1 r.2)) (lt_to (strength_at ts) l s)
+      ∙ ap (λ b. if b then Some (e, d, ts) else then_read (extended_by sub (n + 1) e d ts (continuation_at ts)) (λ r. continued_by sub (n + 1) l (k - 1) r.0 r.1 r.2)) (lt_to (strength_at ts) l s)
 
-  expression_read : IsComplete (n + 1) (λ l ts. then_read (operand_by sub ts) (λ r. continued_by sub (n + 1) l (n + 1) r.0 r.1 r.2))
+  expression_read : IsComplete (n + 1) (λ l ts. then_read (operand_by sub l ts) (λ r. continued_by sub (n + 1) l (n + 1) r.0 r.1 r.2))
   expression_read m l e front rest le low h weak plain =
-      let r = reached l low (omega arith) m le l e front rest h (omega arith) plain (omega arith) in
+      let r = reached l low m le l e front rest h (omega arith) plain (omega arith) in
       let k = n + 1 - r.1 in
       let turns : n + 1 ≡ r.1 + k = omega (arith, r.2, r.3) in
       let left : 0 < k = omega (arith, r.2, r.3) in (
         r.0,
         r.2,
         omega (arith, r.3),
-        ap (λ i. then_read (operand_by sub (front ++ rest)) (λ r. continued_by sub (n + 1) l i r.0 r.1 r.2)) turns ∙ r.4 k ∙ stops l k e r.0 rest left weak,
+        ap (λ i. then_read (operand_by sub l (front ++ rest)) (λ r. continued_by sub (n + 1) l i r.0 r.1 r.2)) turns ∙ r.4 k ∙ stops l k e r.0 rest left weak,
       )
 
 -- each expression of the grammar is read, where no longer one can begin
@@ -284,4 +427,4 @@ expression_complete zero m l e front rest le low h weak plain =
 expression_complete (suc n) m l e front rest le low h weak plain =
     let same : n + 1 ≡ suc n = add-one n in
     let r = expression_read n (expression_at n) (expression_complete n) m l e front rest (omega arith) low h weak plain in
-    (r.0, r.1, r.2, subst (λ k. then_read (operand_by (expression_at n) (front ++ rest)) (λ r. continued_by (expression_at n) k l k r.0 r.1 r.2) ≡ Some (e, r.0, rest)) same r.3)
+    (r.0, r.1, r.2, subst (λ k. then_read (operand_by (expression_at n) l (front ++ rest)) (λ r. continued_by (expression_at n) k l k r.0 r.1 r.2) ≡ Some (e, r.0, rest)) same r.3)

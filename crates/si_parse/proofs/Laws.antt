@@ -1,11 +1,13 @@
 -- Laws of the grammar: a limit may be raised, and a looser level asked.
-use Rattle.std.proofs.Common.{◌≡◌, ℕ, zero, suc, ◌+◌, ◌<◌, ◌≤◌, List, [], ◌∷◌, ◌++◌, inl, inr, Option, Some, None, refl, sym, ap, subst, arith, add-one}
+use Rattle.std.proofs.Common.{◌≡◌, ℕ, zero, suc, ◌+◌, ◌<◌, ◌≤◌, List, [], ◌∷◌, ◌++◌, inl, inr, Option, Some, None, refl, sym, ap, ◌∙◌, subst, arith, add-one}
+use Rattle.std.specs.Prelude.{option_map}
 use Rattle.si_semantics.specs.Value.{Nothing, Truth, Int, Str, Provided}
-use Rattle.si_semantics.specs.Tree.{BinaryOperator, Add, Subtract, Multiply, FloorDivide, Modulo, Power, BitOr, BitXor, BitAnd, ShiftLeft, ShiftRight, UnaryOperator, Plus, Minus, Invert, Not, Expr, Constant, Name, Unary, Binary, Call, Boolean, Compare, Conditional, Exprs, NoExprs, MoreExprs}
+use Rattle.si_semantics.specs.Tree.{UnaryOperator, ComparisonOperator, BooleanOperator, Expr, Constant, Name, Unary, Binary, Call, Boolean, Compare, Conditional, Exprs, NoExprs, MoreExprs, Comparisons, NoComparisons, MoreComparisons}
+use Rattle.si_semantics.specs.Tree as tree
 use Rattle.si_semantics.specs.Tokens.{Symbol}
 use Rattle.si_semantics.specs.Tokens as token
-use Rattle.si_semantics.specs.Grammar.{Terminal, Sign, NEWLINE, Language, level_of, left_level, right_level, symbol_of, sign_level, Following, Separated, items_of, exprs_of, Produces, Spells}
-use Rattle.si_parse.specs.Reading.{Continuation, operator, arguments, nothing, role_of, continuation_at, strength_of, strength_at, then_read, after_close, after_comma, after_semicolon, after_equal, after_newline}
+use Rattle.si_semantics.specs.Grammar.{Terminal, Sign, Word, NEWLINE, INDENT, Language, prefix_level, prefix_of, item_level, word_of, comparison_of, Many, Behind, Following, Separated, items_of, exprs_of, Link, links_of, chain_of, Compares, Produces, Spells}
+use Rattle.si_parse.specs.Reading.{then_read, rest_of, after_close, after_comma, after_semicolon, after_newline, after_colon, after_indent, after_if, after_elif, after_while, after_not, after_else, after_and, after_or, after_boolean, with_word, prefix_at, comparison_symbol, identity_from, comparison_at}
 
 -- ---- lists of items
 
@@ -21,38 +23,57 @@ module _ {A : Type 0} (I J : Items A) (s : Symbol) (w : (x : A) (ts : List Termi
   separated_mono [] ts h = h
   separated_mono (x ∷ xs) ts h = (h.0, h.1, h.2, w x h.0 h.3, following_mono xs h.1 h.4)
 
+module _ {A : Type 0} (I J : Items A) (w : (x : A) (ts : List Terminal) → I x ts → J x ts) where
+  pub many_mono : (xs : List A) (ts : List Terminal) → Many I xs ts → Many J xs ts
+  many_mono [] ts h = h
+  many_mono (x ∷ xs) ts h = (h.0, h.1, h.2, w x h.0 h.3, many_mono xs h.1 h.4)
+
 -- ---- expressions
 
 abbrev Within : Language → Language → Type 0
 Within E F = (l : ℕ) (e : Expr) (ts : List Terminal) → E l e ts → F l e ts
+
+pub compares_mono : (E F : Language) → Within E F → (x : Link) (ts : List Terminal) → Compares E x ts → Compares F x ts
+compares_mono E F w x ts h = (h.0, h.1, w 10 x.1 h.0 h.2, h.3)
+
+pub behind_mono : (E F : Language) (t : Terminal) (l : ℕ) → Within E F → (e : Expr) (ts : List Terminal) → Behind t (E l) e ts → Behind t (F l) e ts
+behind_mono E F t l w e ts h = (h.0, h.1, w l e h.0 h.2)
 
 produces_mono : (E F : Language) → Within E F → (l : ℕ) (e : Expr) (ts : List Terminal) → Produces E l e ts → Produces F l e ts
 produces_mono E F w l (Name x) ts h = h
 produces_mono E F w l (Constant (Int n)) ts h = h
 produces_mono E F w l (Constant (Str s)) ts h = h
 produces_mono E F w l (Constant Nothing) ts h = h
-produces_mono E F w l (Constant (Provided b)) ts h = h
 produces_mono E F w l (Constant (Truth b)) ts h = h
-produces_mono E F w l (Unary op a) ts h = (h.0, h.1, h.2, w 16 a h.0 h.3)
+produces_mono E F w l (Constant (Provided b)) ts h = h
+produces_mono E F w l (Unary op a) ts h = (h.0, h.1, h.2, w (prefix_level op) a h.0 h.3)
 produces_mono E F w l (Binary op a b) ts h = (h.0, h.1, h.2, h.3, w _ a h.0 h.4, w _ b h.1 h.5)
 produces_mono E F w l (Call a args) ts h = (h.0, h.1, h.2, h.3, w _ a h.0 h.4, separated_mono (E 1) (F 1) token.Comma (w 1) (items_of args) h.1 h.5)
-produces_mono E F w l (Boolean o a more) ts h = h
-produces_mono E F w l (Compare a cs) ts h = h
-produces_mono E F w l (Conditional a b c) ts h = h
+produces_mono E F w l (Compare a cs) ts h = (h.0, h.1, h.2, h.3, w 10 a h.0 h.4, h.5, many_mono (Compares E) (Compares F) (compares_mono E F w) (links_of cs) h.1 h.6)
+produces_mono E F w l (Boolean op a others) ts h = (
+  h.0,
+  h.1,
+  h.2,
+  h.3,
+  w (item_level op) a h.0 h.4,
+  h.5,
+  many_mono (Behind (Word (word_of op)) (E (item_level op))) (Behind (Word (word_of op)) (F (item_level op))) (behind_mono E F (Word (word_of op)) (item_level op) w) (items_of others) h.1 h.6,
+)
+produces_mono E F w l (Conditional test value other) ts h = (h.0, h.1, h.2, h.3, h.4, w 3 value h.0 h.5, w 3 test h.1 h.6, w 1 other h.2 h.7)
 
 produces_looser : (E : Language) (k l : ℕ) (e : Expr) (ts : List Terminal) → k ≤ l → Produces E l e ts → Produces E k e ts
 produces_looser E k l (Name x) ts le h = h
 produces_looser E k l (Constant (Int n)) ts le h = h
 produces_looser E k l (Constant (Str s)) ts le h = h
 produces_looser E k l (Constant Nothing) ts le h = h
-produces_looser E k l (Constant (Provided b)) ts le h = h
 produces_looser E k l (Constant (Truth b)) ts le h = h
+produces_looser E k l (Constant (Provided b)) ts le h = h
 produces_looser E k l (Unary op a) ts le h = (h.0, h.1, omega (arith, h.2), h.3)
 produces_looser E k l (Binary op a b) ts le h = (h.0, h.1, h.2, omega (arith, h.3), h.4, h.5)
 produces_looser E k l (Call a args) ts le h = (h.0, h.1, h.2, omega (arith, h.3), h.4, h.5)
-produces_looser E k l (Boolean o a more) ts le h = h
-produces_looser E k l (Compare a cs) ts le h = h
-produces_looser E k l (Conditional a b c) ts le h = h
+produces_looser E k l (Compare a cs) ts le h = (h.0, h.1, h.2, omega (arith, h.3), h.4, h.5, h.6)
+produces_looser E k l (Boolean op a others) ts le h = (h.0, h.1, h.2, omega (arith, h.3), h.4, h.5, h.6)
+produces_looser E k l (Conditional test value other) ts le h = (h.0, h.1, h.2, h.3, omega (arith, h.4), h.5, h.6, h.7)
 
 pub spells_looser : (n k l : ℕ) (e : Expr) (ts : List Terminal) → k ≤ l → Spells n l e ts → Spells n k e ts
 spells_looser zero k l e ts le h = h
@@ -71,133 +92,6 @@ node d l e ts h = subst (λ k. Spells k l e ts) (sym (add-one d)) (inl h)
 
 pub bracketed : (d l : ℕ) (e : Expr) (ts : List Terminal) → Spells d 1 e ts → Spells (d + 1) l e (Sign token.LeftParenthesis ∷ (ts ++ Sign token.RightParenthesis ∷ []))
 bracketed d l e ts h = subst (λ k. Spells k l e (Sign token.LeftParenthesis ∷ (ts ++ Sign token.RightParenthesis ∷ []))) (sym (add-one d)) (inr (ts, refl, h))
-
--- ---- levels
-
-strength_bound : (c : Continuation) → strength_of c ≤ 18
-strength_bound (operator Add) = omega arith
-strength_bound (operator Subtract) = omega arith
-strength_bound (operator Multiply) = omega arith
-strength_bound (operator FloorDivide) = omega arith
-strength_bound (operator Modulo) = omega arith
-strength_bound (operator Power) = omega arith
-strength_bound (operator BitOr) = omega arith
-strength_bound (operator BitXor) = omega arith
-strength_bound (operator BitAnd) = omega arith
-strength_bound (operator ShiftLeft) = omega arith
-strength_bound (operator ShiftRight) = omega arith
-strength_bound arguments = omega arith
-strength_bound nothing = omega arith
-
-pub strength_at_most : (ts : List Terminal) → strength_at ts ≤ 18
-strength_at_most ts = strength_bound (continuation_at ts)
-
--- no terminal has the strength of a unary operator or of a power
-gap : (c : Continuation) → strength_of c ≤ 17 → strength_of c < 16
-gap (operator Add) h = omega arith
-gap (operator Subtract) h = omega arith
-gap (operator Multiply) h = omega arith
-gap (operator FloorDivide) h = omega arith
-gap (operator Modulo) h = omega arith
-gap (operator Power) h = absurd (omega arith)
-gap (operator BitOr) h = omega arith
-gap (operator BitXor) h = omega arith
-gap (operator BitAnd) h = omega arith
-gap (operator ShiftLeft) h = omega arith
-gap (operator ShiftRight) h = omega arith
-gap arguments h = absurd (omega arith)
-gap nothing h = omega arith
-
-pub strength_gap : (ts : List Terminal) → strength_at ts ≤ 17 → strength_at ts < 16
-strength_gap ts h = gap (continuation_at ts) h
-
--- what may follow an operator's tree may follow its right operand
-pub right_weaker : (op : BinaryOperator) (ts : List Terminal) → strength_at ts ≤ level_of op → strength_at ts < right_level op
-right_weaker Add ts h = omega arith
-right_weaker Subtract ts h = omega arith
-right_weaker Multiply ts h = omega arith
-right_weaker FloorDivide ts h = omega arith
-right_weaker Modulo ts h = omega arith
-right_weaker Power ts h = strength_gap ts h
-right_weaker BitOr ts h = omega arith
-right_weaker BitXor ts h = omega arith
-right_weaker BitAnd ts h = omega arith
-right_weaker ShiftLeft ts h = omega arith
-right_weaker ShiftRight ts h = omega arith
-
--- and the other way round
-pub right_stops : (op : BinaryOperator) (k : ℕ) → k < right_level op → k ≤ level_of op
-right_stops Add k h = omega arith
-right_stops Subtract k h = omega arith
-right_stops Multiply k h = omega arith
-right_stops FloorDivide k h = omega arith
-right_stops Modulo k h = omega arith
-right_stops Power k h = omega arith
-right_stops BitOr k h = omega arith
-right_stops BitXor k h = omega arith
-right_stops BitAnd k h = omega arith
-right_stops ShiftLeft k h = omega arith
-right_stops ShiftRight k h = omega arith
-
-pub right_bound : (op : BinaryOperator) → right_level op ≤ 16
-right_bound Add = omega arith
-right_bound Subtract = omega arith
-right_bound Multiply = omega arith
-right_bound FloorDivide = omega arith
-right_bound Modulo = omega arith
-right_bound Power = omega arith
-right_bound BitOr = omega arith
-right_bound BitXor = omega arith
-right_bound BitAnd = omega arith
-right_bound ShiftLeft = omega arith
-right_bound ShiftRight = omega arith
-
-pub level_under : (op : BinaryOperator) → level_of op ≤ left_level op
-level_under Add = omega arith
-level_under Subtract = omega arith
-level_under Multiply = omega arith
-level_under FloorDivide = omega arith
-level_under Modulo = omega arith
-level_under Power = omega arith
-level_under BitOr = omega arith
-level_under BitXor = omega arith
-level_under BitAnd = omega arith
-level_under ShiftLeft = omega arith
-level_under ShiftRight = omega arith
-
--- an operator that continues an expression of a level is of that level
-pub level_reached : (op : BinaryOperator) (l : ℕ) → l ≤ 16 → l ≤ left_level op → l ≤ level_of op
-level_reached Add l le h = h
-level_reached Subtract l le h = h
-level_reached Multiply l le h = h
-level_reached FloorDivide l le h = h
-level_reached Modulo l le h = h
-level_reached Power l le h = omega arith
-level_reached BitOr l le h = h
-level_reached BitXor l le h = h
-level_reached BitAnd l le h = h
-level_reached ShiftLeft l le h = h
-level_reached ShiftRight l le h = h
-
-pub sign_bound : (op : UnaryOperator) → sign_level op ≤ 16
-sign_bound Plus = omega arith
-sign_bound Minus = omega arith
-sign_bound Invert = omega arith
-sign_bound Not = omega arith
-
--- an operator that is read at all
-pub role_of_symbol : (op : BinaryOperator) → 0 < level_of op → role_of (symbol_of op) ≡ operator op
-role_of_symbol Add h = refl
-role_of_symbol Subtract h = refl
-role_of_symbol Multiply h = refl
-role_of_symbol FloorDivide h = refl
-role_of_symbol Modulo h = refl
-role_of_symbol Power h = refl
-role_of_symbol BitOr h = absurd (omega arith)
-role_of_symbol BitXor h = absurd (omega arith)
-role_of_symbol BitAnd h = absurd (omega arith)
-role_of_symbol ShiftLeft h = absurd (omega arith)
-role_of_symbol ShiftRight h = absurd (omega arith)
 
 -- ---- what was read
 
@@ -223,15 +117,113 @@ after_semicolon_some [] rest h = cc
 after_semicolon_some (Sign token.Semicolon ∷ ts) rest h = let e : ts ≡ rest = cc in ap (λ l. Sign token.Semicolon ∷ l) e
 after_semicolon_some (_ ∷ ts) rest h = cc
 
-pub after_equal_some : (ts rest : List Terminal) → after_equal ts ≡ Some rest → ts ≡ Sign token.Equal ∷ rest
-after_equal_some [] rest h = cc
-after_equal_some (Sign token.Equal ∷ ts) rest h = let e : ts ≡ rest = cc in ap (λ l. Sign token.Equal ∷ l) e
-after_equal_some (_ ∷ ts) rest h = cc
-
 pub after_newline_some : (ts rest : List Terminal) → after_newline ts ≡ Some rest → ts ≡ NEWLINE ∷ rest
 after_newline_some [] rest h = cc
 after_newline_some (NEWLINE ∷ ts) rest h = let e : ts ≡ rest = cc in ap (λ l. NEWLINE ∷ l) e
 after_newline_some (_ ∷ ts) rest h = cc
+
+pub after_colon_some : (ts rest : List Terminal) → after_colon ts ≡ Some rest → ts ≡ Sign token.Colon ∷ rest
+after_colon_some [] rest h = cc
+after_colon_some (Sign token.Colon ∷ ts) rest h = let e : ts ≡ rest = cc in ap (λ l. Sign token.Colon ∷ l) e
+after_colon_some (_ ∷ ts) rest h = cc
+
+pub after_indent_some : (ts rest : List Terminal) → after_indent ts ≡ Some rest → ts ≡ INDENT ∷ rest
+after_indent_some [] rest h = cc
+after_indent_some (INDENT ∷ ts) rest h = let e : ts ≡ rest = cc in ap (λ l. INDENT ∷ l) e
+after_indent_some (_ ∷ ts) rest h = cc
+
+pub after_if_some : (ts rest : List Terminal) → after_if ts ≡ Some rest → ts ≡ Word token.IfWord ∷ rest
+after_if_some [] rest h = cc
+after_if_some (Word token.IfWord ∷ ts) rest h = let e : ts ≡ rest = cc in ap (λ l. Word token.IfWord ∷ l) e
+after_if_some (_ ∷ ts) rest h = cc
+
+pub after_elif_some : (ts rest : List Terminal) → after_elif ts ≡ Some rest → ts ≡ Word token.ElifWord ∷ rest
+after_elif_some [] rest h = cc
+after_elif_some (Word token.ElifWord ∷ ts) rest h = let e : ts ≡ rest = cc in ap (λ l. Word token.ElifWord ∷ l) e
+after_elif_some (_ ∷ ts) rest h = cc
+
+pub after_while_some : (ts rest : List Terminal) → after_while ts ≡ Some rest → ts ≡ Word token.WhileWord ∷ rest
+after_while_some [] rest h = cc
+after_while_some (Word token.WhileWord ∷ ts) rest h = let e : ts ≡ rest = cc in ap (λ l. Word token.WhileWord ∷ l) e
+after_while_some (_ ∷ ts) rest h = cc
+
+pub after_not_some : (ts rest : List Terminal) → after_not ts ≡ Some rest → ts ≡ Word token.NotWord ∷ rest
+after_not_some [] rest h = cc
+after_not_some (Word token.NotWord ∷ ts) rest h = let e : ts ≡ rest = cc in ap (λ l. Word token.NotWord ∷ l) e
+after_not_some (_ ∷ ts) rest h = cc
+
+pub after_else_some : (ts rest : List Terminal) → after_else ts ≡ Some rest → ts ≡ Word token.ElseWord ∷ rest
+after_else_some [] rest h = cc
+after_else_some (Word token.ElseWord ∷ ts) rest h = let e : ts ≡ rest = cc in ap (λ l. Word token.ElseWord ∷ l) e
+after_else_some (_ ∷ ts) rest h = cc
+
+pub after_and_some : (ts rest : List Terminal) → after_and ts ≡ Some rest → ts ≡ Word token.AndWord ∷ rest
+after_and_some [] rest h = cc
+after_and_some (Word token.AndWord ∷ ts) rest h = let e : ts ≡ rest = cc in ap (λ l. Word token.AndWord ∷ l) e
+after_and_some (_ ∷ ts) rest h = cc
+
+pub after_or_some : (ts rest : List Terminal) → after_or ts ≡ Some rest → ts ≡ Word token.OrWord ∷ rest
+after_or_some [] rest h = cc
+after_or_some (Word token.OrWord ∷ ts) rest h = let e : ts ≡ rest = cc in ap (λ l. Word token.OrWord ∷ l) e
+after_or_some (_ ∷ ts) rest h = cc
+
+pub after_boolean_some : (op : BooleanOperator) (ts rest : List Terminal) → after_boolean op ts ≡ Some rest → ts ≡ Word (word_of op) ∷ rest
+after_boolean_some tree.And ts rest h = after_and_some ts rest h
+after_boolean_some tree.Or ts rest h = after_or_some ts rest h
+
+with_word_from : (op : BooleanOperator) (ts : List Terminal) (r : Option (List Terminal)) → after_boolean op ts ≡ r → (o : BooleanOperator) (rest : List Terminal) → with_word op r ≡ Some (o, rest) → (op ≡ o) × (ts ≡ Word (word_of op) ∷ rest)
+with_word_from op ts None is o rest h = cc
+with_word_from op ts (Some more) is o rest h =
+    let e = some_inj (op, more) (o, rest) h in (ap (λ p. p.0) e, after_boolean_some op ts more is ∙ ap (λ p. Word (word_of op) ∷ p.1) e)
+
+pub with_word_some : (op o : BooleanOperator) (ts rest : List Terminal) → with_word op (after_boolean op ts) ≡ Some (o, rest) → (op ≡ o) × (ts ≡ Word (word_of op) ∷ rest)
+with_word_some op o ts rest h = with_word_from op ts (after_boolean op ts) refl o rest h
+
+pub with_word_none : (op : BooleanOperator) (r : Option (List Terminal)) → with_word op r ≡ None → r ≡ None
+with_word_none op None h = refl
+with_word_none op (Some ts) h = cc
+
+pub prefix_at_some : (ts : List Terminal) (op : UnaryOperator) → prefix_at ts ≡ Some op → ts ≡ prefix_of op ∷ rest_of ts
+prefix_at_some [] op h = cc
+prefix_at_some (Sign token.Plus ∷ ts) op h = let e : tree.Plus ≡ op = cc in ap (λ o. prefix_of o ∷ ts) e
+prefix_at_some (Sign token.Minus ∷ ts) op h = let e : tree.Minus ≡ op = cc in ap (λ o. prefix_of o ∷ ts) e
+prefix_at_some (Sign token.Tilde ∷ ts) op h = let e : tree.Invert ≡ op = cc in ap (λ o. prefix_of o ∷ ts) e
+prefix_at_some (Word token.NotWord ∷ ts) op h = let e : tree.Not ≡ op = cc in ap (λ o. prefix_of o ∷ ts) e
+prefix_at_some (_ ∷ ts) op h = cc
+
+abbrev spelled : ComparisonOperator × List Terminal → List Terminal
+spelled p = comparison_of p.0 ++ p.1
+
+identity_is : (ts : List Terminal) (r : Option (List Terminal)) → after_not ts ≡ r → (o : ComparisonOperator) (rest : List Terminal) → identity_from ts r ≡ (o, rest) → Word token.IsWord ∷ ts ≡ comparison_of o ++ rest
+identity_is ts None is o rest h = ap spelled h
+identity_is ts (Some more) is o rest h = ap (λ l. Word token.IsWord ∷ l) (after_not_some ts more is) ∙ ap spelled h
+
+symbol_is : (s : Symbol) (o : ComparisonOperator) → comparison_symbol s ≡ Some o → (ts : List Terminal) → Sign s ∷ ts ≡ comparison_of o ++ ts
+symbol_is token.Less o h ts = let e : tree.Less ≡ o = cc in ap (λ x. comparison_of x ++ ts) e
+symbol_is token.Greater o h ts = let e : tree.Greater ≡ o = cc in ap (λ x. comparison_of x ++ ts) e
+symbol_is token.LessEqual o h ts = let e : tree.LessEqual ≡ o = cc in ap (λ x. comparison_of x ++ ts) e
+symbol_is token.GreaterEqual o h ts = let e : tree.GreaterEqual ≡ o = cc in ap (λ x. comparison_of x ++ ts) e
+symbol_is token.EqualEqual o h ts = let e : tree.Equal ≡ o = cc in ap (λ x. comparison_of x ++ ts) e
+symbol_is token.NotEqual o h ts = let e : tree.NotEqual ≡ o = cc in ap (λ x. comparison_of x ++ ts) e
+symbol_is _ o h ts = cc
+
+symbol_from : (s : Symbol) (ts : List Terminal) (r : Option ComparisonOperator) → comparison_symbol s ≡ r → (o : ComparisonOperator) (rest : List Terminal) → option_map {U = ComparisonOperator × List Terminal} (λ op. (op, ts)) r ≡ Some (o, rest) → Sign s ∷ ts ≡ comparison_of o ++ rest
+symbol_from s ts None is o rest h = cc
+symbol_from s ts (Some op) is o rest h = symbol_is s op is ts ∙ ap spelled (some_inj (op, ts) (o, rest) h)
+
+pub comparison_at_some : (ts : List Terminal) (o : ComparisonOperator) (rest : List Terminal) → comparison_at ts ≡ Some (o, rest) → ts ≡ comparison_of o ++ rest
+comparison_at_some [] o rest h = cc
+comparison_at_some (Sign s ∷ ts) o rest h = symbol_from s ts (comparison_symbol s) refl o rest h
+comparison_at_some (Word token.IsWord ∷ ts) o rest h = identity_is ts (after_not ts) refl o rest (some_inj (identity_from ts (after_not ts)) (o, rest) h)
+comparison_at_some (_ ∷ ts) o rest h = cc
+
+pub links_of_chain : (links : List Link) → links_of (chain_of links) ≡ links
+links_of_chain [] = refl
+links_of_chain (x ∷ links) = ap (λ l. x ∷ l) (links_of_chain links)
+
+pub chain_of_links : (cs : Comparisons) → chain_of (links_of cs) ≡ cs
+chain_of_links NoComparisons = refl
+chain_of_links (MoreComparisons op e cs) = ap (MoreComparisons op e) (chain_of_links cs)
 
 pub items_of_exprs : (es : List Expr) → items_of (exprs_of es) ≡ es
 items_of_exprs [] = refl

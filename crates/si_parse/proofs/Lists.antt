@@ -175,19 +175,26 @@ module _ {A B : Type 0} (add : B → A → B) (item : B → List Terminal → Op
       (x.0 ∷ y.0, x.1 ++ y.1, y.2 ∙ ap (λ c. added add c y.0) x.2, x.3 ∙ ap (λ t. x.1 ++ t) y.3 ∙ sym (append_assoc x.1 y.1 r.1), (x.1, y.1, refl, x.4, y.4), y.5))
       (chosen (ends ts) (Some (b, ts)) (then_read (item b ts) (λ r. many_by item ends k r.0 r.1)) (Some r) h)
 
-  pub many_complete : ((b : B) (x : A) (f more : List Terminal) → I x f → (item b (f ++ more) ≡ Some (add b x, more)) × (ends (f ++ more) ≡ false) × (0 < length f))
-      → (k : ℕ) (b : B) (xs : List A) (f more : List Terminal) → length f < k → Many I xs f → ends more ≡ true → many_by item ends k b (f ++ more) ≡ Some (added add b xs, more)
-  unfolding many_by
-  many_complete complete zero b xs f more fuel h e = absurd (omega arith)
-  many_complete complete (suc k) b [] f more fuel h e =
-      let P : List Terminal → Type 0 = λ f. many_by item ends (suc k) b (f ++ more) ≡ Some (b, more) in
-      subst P (sym h) (ap (λ t. if t then Some (b, more) else then_read (item b more) (λ r. many_by item ends k r.0 r.1)) e)
-  many_complete complete (suc k) b (x ∷ xs) f more fuel h e =
-      let P : List Terminal → Type 0 = λ t. many_by item ends (suc k) b t ≡ Some (added add (add b x) xs, more) in
-      let c = complete b x h.0 (h.1 ++ more) h.3 in
-      let long : length f ≡ length h.0 + length h.1 = ap length h.2 ∙ length-append h.0 h.1 in
-      let same : f ++ more ≡ h.0 ++ (h.1 ++ more) = ap (λ t. t ++ more) h.2 ∙ append_assoc h.0 h.1 more in
-      subst P (sym same) (
-      ap (λ t. if t then Some (b, h.0 ++ (h.1 ++ more)) else then_read (item b (h.0 ++ (h.1 ++ more))) (λ r. many_by item ends k r.0 r.1)) c.1
-      ∙ ap (λ r. then_read r (λ r. many_by item ends k r.0 r.1)) c.0
-      ∙ many_complete complete k (add b x) xs h.1 more (omega (arith, c.2)) h.4 e)
+  module _ (Good : List Terminal → Type 0) where
+    pub many_good : ((x : A) (f more : List Terminal) → I x f → Good more → Good (f ++ more)) → (xs : List A) (f more : List Terminal) → Many I xs f → Good more → Good (f ++ more)
+    many_good good [] f more h g = subst (λ f. Good (f ++ more)) (sym h) g
+    many_good good (x ∷ xs) f more h g =
+        subst Good (sym (ap (λ t. t ++ more) h.2 ∙ append_assoc h.0 h.1 more)) (good x h.0 (h.1 ++ more) h.3 (many_good good xs h.1 more h.4 g))
+
+    pub many_complete : ((x : A) (f more : List Terminal) → I x f → Good more → Good (f ++ more))
+        → ((b : B) (x : A) (f more : List Terminal) → I x f → Good more → (item b (f ++ more) ≡ Some (add b x, more)) × (ends (f ++ more) ≡ false) × (0 < length f))
+        → (k : ℕ) (b : B) (xs : List A) (f more : List Terminal) → length f < k → Many I xs f → Good more → ends more ≡ true → many_by item ends k b (f ++ more) ≡ Some (added add b xs, more)
+    unfolding many_by
+    many_complete good complete zero b xs f more fuel h g e = absurd (omega arith)
+    many_complete good complete (suc k) b [] f more fuel h g e =
+        let P : List Terminal → Type 0 = λ f. many_by item ends (suc k) b (f ++ more) ≡ Some (b, more) in
+        subst P (sym h) (ap (λ t. if t then Some (b, more) else then_read (item b more) (λ r. many_by item ends k r.0 r.1)) e)
+    many_complete good complete (suc k) b (x ∷ xs) f more fuel h g e =
+        let P : List Terminal → Type 0 = λ t. many_by item ends (suc k) b t ≡ Some (added add (add b x) xs, more) in
+        let c = complete b x h.0 (h.1 ++ more) h.3 (many_good good xs h.1 more h.4 g) in
+        let long : length f ≡ length h.0 + length h.1 = ap length h.2 ∙ length-append h.0 h.1 in
+        let same : f ++ more ≡ h.0 ++ (h.1 ++ more) = ap (λ t. t ++ more) h.2 ∙ append_assoc h.0 h.1 more in
+        subst P (sym same) (
+        ap (λ t. if t then Some (b, h.0 ++ (h.1 ++ more)) else then_read (item b (h.0 ++ (h.1 ++ more))) (λ r. many_by item ends k r.0 r.1)) c.1
+        ∙ ap (λ r. then_read r (λ r. many_by item ends k r.0 r.1)) c.0
+        ∙ many_complete good complete k (add b x) xs h.1 more (omega (arith, c.2)) h.4 g e)

@@ -1,18 +1,20 @@
 -- What is read is in the grammar.
-use Rattle.std.proofs.Common.{◌≡◌, ℕ, zero, suc, ◌+◌, ◌<◌, ◌≤◌, List, [], ◌∷◌, ◌++◌, length, Option, Some, None, true, false, refl, sym, ap, ◌∙◌, subst, ⊎_elim, max, map, arith, add-one, append_assoc}
-use Rattle.std.specs.Prelude.{nat_lt, nat_le}
+use Rattle.std.proofs.Common.{◌≡◌, ℕ, zero, suc, ◌+◌, ◌<◌, ◌≤◌, List, [], ◌∷◌, ◌++◌, length, Option, Some, None, Bool, true, false, refl, sym, ap, ◌∙◌, subst, ⊎_elim, max, map, arith, add-one, append_assoc}
+use Rattle.std.specs.Prelude.{nat_lt, nat_le, nat_eq, ◌&&◌, not}
 use Rattle.std.proofs.lemmas.Bool.Decides.{nat_tests}
 use Rattle.std.proofs.lemmas.Option.{cond_some}
 use Rattle.std.proofs.lemmas.List.{append-nil}
-use Rattle.si_semantics.specs.Value.{Int, Str}
-use Rattle.si_semantics.specs.Tree.{BinaryOperator, Add, Subtract, Multiply, FloorDivide, Modulo, Power, UnaryOperator, Expr, Constant, Name, Unary, Binary, Call}
+use Rattle.si_semantics.specs.Value.{Nothing, Truth, Int, Str, Provided}
+use Rattle.si_semantics.specs.Tree.{BinaryOperator, Add, Subtract, Multiply, FloorDivide, Modulo, Power, BitOr, BitXor, BitAnd, ShiftLeft, ShiftRight, UnaryOperator, ComparisonOperator, BooleanOperator, Expr, Constant, Name, Unary, Binary, Call, Boolean, Compare, Conditional}
 use Rattle.si_semantics.specs.Tree as tree
-use Rattle.si_semantics.specs.Tokens.{Symbol}
+use Rattle.si_semantics.specs.Tokens.{Symbol, Keyword}
 use Rattle.si_semantics.specs.Tokens as token
-use Rattle.si_semantics.specs.Grammar.{Terminal, NAME, NUMBER, STRING, Sign, value_of_int, value_of_str, level_of, left_level, right_level, symbol_of, sign_of, sign_level, Following, Separated, exprs_of, Strings, Spells}
-use Rattle.si_parse.specs.Reading.{continuation_at, strength_at, then_read, rest_of, after_close, after_comma, Found, Parser, Collected, with_argument, arguments_from, arguments_by, within, extended_by, continued_by, closed, strings_by, unary_by, bracketed_by, operand_by, expression_at}
-use Rattle.si_parse.proofs.Laws.{spells_looser, spells_deeper, node, bracketed, strength_at_most, right_stops, right_bound, level_reached, then_read_some, some_inj, after_close_some, after_comma_some, items_of_exprs, separated_mono}
+use Rattle.si_semantics.specs.Grammar.{Terminal, NAME, NUMBER, STRING, Sign, Word, value_of_int, value_of_str, level_of, left_level, right_level, symbol_of, prefix_level, prefix_of, boolean_level, item_level, word_of, comparison_of, is_identity, Many, Behind, Following, Separated, exprs_of, items_of, Link, links_of, chain_of, Compares, Strings, Spells}
+use Rattle.si_parse.specs.Reading.{boolean, continuation_at, strength_of, strength_at, then_read, rest_of, after_close, after_comma, after_else, after_boolean, with_word, comparison_at, Found, Parser, Collected, with_argument, arguments_from, arguments_by, within, binary_by, call_by, operands_by, boolean_by, is_singleton, compared_to, compared_by, links_by, compare_by, other_by, conditional_by, extended_by, identity_from, after_not, continued_by, closed, strings_by, prefix_at, unary_by, bracketed_by, atom_by, operand_from, operand_by, expression_at}
+use Rattle.si_parse.proofs.Laws.{spells_looser, spells_deeper, node, bracketed, then_read_some, some_inj, after_close_some, after_comma_some, after_else_some, with_word_some, with_word_none, prefix_at_some, comparison_at_some, links_of_chain, items_of_exprs, separated_mono, many_mono, compares_mono, behind_mono}
+use Rattle.si_parse.proofs.Levels.{strength_at_most, right_stops, right_bound, level_reached, Apart, high, at_condition, at_disjunction, at_comparison, right_apart, level_apart, prefix_apart, prefix_bound, boolean_apart, item_apart, item_bound, condition_up, condition_down, comparison_up, comparison_down, boolean_up, boolean_down, boolean_strength, after_word, boolean_ends, comparison_ends}
 use Rattle.si_parse.proofs.Lists.{chosen, added, separated_sound}
+use Rattle.si_parse.proofs.Chains.{some_items, chain_sound}
 
 -- what a parser of expressions reads from the terminals
 pub record Reads (l : ℕ) (ts : List Terminal) (r : Found) : Type 0 where
@@ -29,9 +31,10 @@ pub record Stands (l : ℕ) (ts : List Terminal) (r : Found) : Type 0 where
   pub spelled : Spells r.1 level r.0 front
   pub continues : strength_at r.2 ≤ level
   pub enough : l ≤ level
+  pub apart : Apart level
 
 abbrev pub IsSound : ℕ → Parser → Type 0
-IsSound n sub = (l : ℕ) → l ≤ 16 → (ts : List Terminal) (r : Found) → sub l ts ≡ Some r → Reads l ts r × (r.1 ≤ n)
+IsSound n sub = (l : ℕ) → l ≤ 16 → Apart l → (ts : List Terminal) (r : Found) → sub l ts ≡ Some r → Reads l ts r × (r.1 ≤ n)
 
 le_from : (a b : ℕ) → nat_le a b ≡ true → a ≤ b
 le_from a b h = grind (arith, nat_tests)
@@ -81,7 +84,7 @@ module _ (n : ℕ) (sub : Parser) (sound : IsSound n sub) where
   Argument r f = Spells r.1 1 r.0 f × (r.1 ≤ n)
 
   argument_sound : (ts : List Terminal) (r : Found) → sub 1 ts ≡ Some r → (f : List Terminal) × (ts ≡ f ++ r.2) × Argument r f
-  argument_sound ts r h = let a = sound 1 (omega arith) ts r h in (a.0.front, a.0.split, (a.0.spelled, a.1))
+  argument_sound ts r h = let a = sound 1 (omega arith) at_condition ts r h in (a.0.front, a.0.split, (a.0.spelled, a.1))
 
   following_trees : (d top : ℕ) (xs : List Found) (g : List Terminal) → deepest d xs ≤ top → Following Argument token.Comma xs g → Following (Spells top 1) token.Comma (map first xs) g
   following_trees d top [] g le h = h
@@ -117,98 +120,121 @@ module _ (n : ℕ) (sub : Parser) (sound : IsSound n sub) where
 
   -- ---- an operand
 
-  abbrev Begins : List Terminal → Found → Type 0
-  Begins ts r = Stands 16 ts r × (r.1 ≤ n + 1)
+  module _ (l : ℕ) (low : l ≤ 16) where
+    abbrev Begins : List Terminal → Found → Type 0
+    Begins ts r = Stands l ts r × (r.1 ≤ n + 1)
 
-  atom : (f ts : List Terminal) (e : Expr) → Spells (0 + 1) 18 e f → Begins (f ++ ts) (e, 1, ts)
-  atom f ts e h = (record { front = f; split = refl; level = 18; spelled = h; continues = strength_at_most ts; enough = omega arith }, omega arith)
+    atom : (f ts : List Terminal) (e : Expr) → Spells (0 + 1) 18 e f → Begins (f ++ ts) (e, 1, ts)
+    atom f ts e h = (record { front = f; split = refl; level = 18; spelled = h; continues = strength_at_most ts; enough = omega arith; apart = high 18 (omega arith) }, omega arith)
 
-  closed_reads : (e : Expr) (d : ℕ) (inner ts : List Terminal) (o : Option (List Terminal)) → after_close ts ≡ o → (r : Found) → Spells d 1 e inner → d ≤ n → closed e d o ≡ Some r → Begins (Sign token.LeftParenthesis ∷ (inner ++ ts)) r
-  closed_reads e d inner ts None is r spelled le h = cc
-  closed_reads e d inner ts (Some rest) is r spelled le h =
-      let same = some_inj (e, d + 1, rest) r h in
-      let P : Found → Type 0 = Begins (Sign token.LeftParenthesis ∷ (inner ++ ts)) in
-      subst P same (
-        record {
-          front = Sign token.LeftParenthesis ∷ (inner ++ Sign token.RightParenthesis ∷ []);
-          split = ap (λ l. Sign token.LeftParenthesis ∷ (inner ++ l)) (after_close_some ts rest is) ∙ ap (λ l. Sign token.LeftParenthesis ∷ l) (sym (append_assoc inner (Sign token.RightParenthesis ∷ []) rest));
-          level = 18;
-          spelled = bracketed d 18 e inner spelled;
-          continues = strength_at_most rest;
-          enough = omega arith;
-        },
-        omega arith,
-      )
+    closed_reads : (e : Expr) (d : ℕ) (inner ts : List Terminal) (o : Option (List Terminal)) → after_close ts ≡ o → (r : Found) → Spells d 1 e inner → d ≤ n → closed e d o ≡ Some r → Begins (Sign token.LeftParenthesis ∷ (inner ++ ts)) r
+    closed_reads e d inner ts None is r spelled le h = cc
+    closed_reads e d inner ts (Some rest) is r spelled le h =
+        let same = some_inj (e, d + 1, rest) r h in
+        let P : Found → Type 0 = Begins (Sign token.LeftParenthesis ∷ (inner ++ ts)) in
+        subst P same (
+          record {
+            front = Sign token.LeftParenthesis ∷ (inner ++ Sign token.RightParenthesis ∷ []);
+            split = ap (λ l. Sign token.LeftParenthesis ∷ (inner ++ l)) (after_close_some ts rest is) ∙ ap (λ l. Sign token.LeftParenthesis ∷ l) (sym (append_assoc inner (Sign token.RightParenthesis ∷ []) rest));
+            level = 18;
+            spelled = bracketed d 18 e inner spelled;
+            continues = strength_at_most rest;
+            enough = omega arith;
+            apart = high 18 (omega arith);
+          },
+          omega arith,
+        )
 
-  bracketed_reads : (ts : List Terminal) (r : Found) → bracketed_by sub ts ≡ Some r → Begins (Sign token.LeftParenthesis ∷ ts) r
-  bracketed_reads ts r h =
-      let s = then_read_some (sub 1 ts) (λ r. closed r.0 r.1 (after_close r.2)) r h in
-      let a = sound 1 (omega arith) ts s.0 s.1 in
-      let P : List Terminal → Type 0 = λ l. Begins (Sign token.LeftParenthesis ∷ l) r in
-      subst P (sym a.0.split) (closed_reads s.0.0 s.0.1 a.0.front s.0.2 (after_close s.0.2) refl r a.0.spelled a.1 s.2)
+    bracketed_reads : (ts : List Terminal) (r : Found) → bracketed_by sub ts ≡ Some r → Begins (Sign token.LeftParenthesis ∷ ts) r
+    bracketed_reads ts r h =
+        let s = then_read_some (sub 1 ts) (λ r. closed r.0 r.1 (after_close r.2)) r h in
+        let a = sound 1 (omega arith) at_condition ts s.0 s.1 in
+        let P : List Terminal → Type 0 = λ l. Begins (Sign token.LeftParenthesis ∷ l) r in
+        subst P (sym a.0.split) (closed_reads s.0.0 s.0.1 a.0.front s.0.2 (after_close s.0.2) refl r a.0.spelled a.1 s.2)
 
-  unary_reads : (op : UnaryOperator) → sign_level op ≡ 16 → (ts : List Terminal) (r : Found) → unary_by sub op ts ≡ Some r → Begins (Sign (sign_of op) ∷ ts) r
-  unary_reads op is ts r h =
-      let s = then_read_some (sub 16 ts) (λ r. Some (Unary op r.0, r.1 + 1, r.2)) r h in
-      let a = sound 16 (omega arith) ts s.0 s.1 in
-      let same = some_inj (Unary op s.0.0, s.0.1 + 1, s.0.2) r s.2 in
-      let P : Found → Type 0 = Begins (Sign (sign_of op) ∷ ts) in
-      subst P same (
-        record {
-          front = Sign (sign_of op) ∷ a.0.front;
-          split = ap (λ l. Sign (sign_of op) ∷ l) a.0.split;
-          level = 16;
-          spelled = node s.0.1 16 (Unary op s.0.0) (Sign (sign_of op) ∷ a.0.front) (a.0.front, refl, omega arith, a.0.spelled);
-          continues = omega (arith, a.0.stops);
-          enough = omega arith;
-        },
-        omega (arith, a.1),
-      )
+    unary_read : (op : UnaryOperator) (ts : List Terminal) (r : Found) → l ≤ prefix_level op → then_read (sub (prefix_level op) ts) (λ r. Some (Unary op r.0, r.1 + 1, r.2)) ≡ Some r → Begins (prefix_of op ∷ ts) r
+    unary_read op ts r under h =
+        let s = then_read_some (sub (prefix_level op) ts) (λ r. Some (Unary op r.0, r.1 + 1, r.2)) r h in
+        let a = sound (prefix_level op) (prefix_bound op) (prefix_apart op) ts s.0 s.1 in
+        let same = some_inj (Unary op s.0.0, s.0.1 + 1, s.0.2) r s.2 in
+        let P : Found → Type 0 = Begins (prefix_of op ∷ ts) in
+        subst P same (
+          record {
+            front = prefix_of op ∷ a.0.front;
+            split = ap (λ l. prefix_of op ∷ l) a.0.split;
+            level = prefix_level op;
+            spelled = node s.0.1 (prefix_level op) (Unary op s.0.0) (prefix_of op ∷ a.0.front) (a.0.front, refl, omega arith, a.0.spelled);
+            continues = omega (arith, a.0.stops);
+            enough = under;
+            apart = prefix_apart op;
+          },
+          omega (arith, a.1),
+        )
 
-  name_reads : (x : List ℕ) (ts : List Terminal) (r : Found) → operand_by sub (NAME x ∷ ts) ≡ Some r → Begins (NAME x ∷ ts) r
-  name_reads x ts r h =
-      let P : Found → Type 0 = Begins (NAME x ∷ ts) in subst P (some_inj (Name x, 1, ts) r h) (atom (NAME x ∷ []) ts (Name x) (node 0 18 (Name x) (NAME x ∷ []) refl))
+    unary_reads : (op : UnaryOperator) (ts : List Terminal) (r : Found) → unary_by sub l op ts ≡ Some r → Begins (prefix_of op ∷ ts) r
+    unary_reads op ts r h =
+        ⊎_elim (λ y. unary_read op ts r (le_from l (prefix_level op) y.0) y.1) (λ no. let bad : None ≡ Some r = no.1 in cc)
+        (chosen (nat_le l (prefix_level op)) (then_read (sub (prefix_level op) ts) (λ r. Some (Unary op r.0, r.1 + 1, r.2))) None (Some r) h)
 
-  number_reads : (digits : List ℕ) (ts : List Terminal) (r : Found) → operand_by sub (NUMBER digits ∷ ts) ≡ Some r → Begins (NUMBER digits ∷ ts) r
-  number_reads digits ts r h =
-      let s = then_read_some (value_of_int digits) (λ n. Some (Constant (Int n), 1, ts)) r h in
-      let P : Found → Type 0 = Begins (NUMBER digits ∷ ts) in
-      subst P (some_inj (Constant (Int s.0), 1, ts) r s.2) (atom (NUMBER digits ∷ []) ts (Constant (Int s.0)) (node 0 18 (Constant (Int s.0)) (NUMBER digits ∷ []) (digits, refl, s.1)))
+    name_reads : (x : List ℕ) (ts : List Terminal) (r : Found) → atom_by sub (NAME x ∷ ts) ≡ Some r → Begins (NAME x ∷ ts) r
+    name_reads x ts r h =
+        let P : Found → Type 0 = Begins (NAME x ∷ ts) in subst P (some_inj (Name x, 1, ts) r h) (atom (NAME x ∷ []) ts (Name x) (node 0 18 (Name x) (NAME x ∷ []) refl))
 
-  string_reads : (literal : List ℕ) (ts : List Terminal) (r : Found) → operand_by sub (STRING literal ∷ ts) ≡ Some r → Begins (STRING literal ∷ ts) r
-  string_reads literal ts r h =
-      let s = then_read_some (strings_by [] (STRING literal ∷ ts)) (λ r. Some (Constant (Str r.0), 1, r.1)) r h in
-      let v = then_read_some (value_of_str literal) (λ s. strings_by s ts) s.0 s.1 in
-      let y = strings_read v.0 ts s.0 v.2 in
-      let P : Found → Type 0 = Begins (STRING literal ∷ ts) in
-      let Q : List ℕ → Type 0 = λ t. Strings t (STRING literal ∷ y.0) in
-      let whole : Strings s.0.0 (STRING literal ∷ y.0) = subst Q (sym y.2) (v.0, y.1, refl, v.1, y.4) in
-      let B : List Terminal → Type 0 = λ l. Begins (STRING literal ∷ l) (Constant (Str s.0.0), 1, s.0.1) in
-      subst P (some_inj (Constant (Str s.0.0), 1, s.0.1) r s.2) (
-      subst B (sym y.3) (
-      atom (STRING literal ∷ y.0) s.0.1 (Constant (Str s.0.0)) (node 0 18 (Constant (Str s.0.0)) (STRING literal ∷ y.0) (omega arith, whole))))
+    number_reads : (digits : List ℕ) (ts : List Terminal) (r : Found) → atom_by sub (NUMBER digits ∷ ts) ≡ Some r → Begins (NUMBER digits ∷ ts) r
+    number_reads digits ts r h =
+        let s = then_read_some (value_of_int digits) (λ n. Some (Constant (Int n), 1, ts)) r h in
+        let P : Found → Type 0 = Begins (NUMBER digits ∷ ts) in
+        subst P (some_inj (Constant (Int s.0), 1, ts) r s.2) (atom (NUMBER digits ∷ []) ts (Constant (Int s.0)) (node 0 18 (Constant (Int s.0)) (NUMBER digits ∷ []) (digits, refl, s.1)))
 
-  operand_reads : (ts : List Terminal) (r : Found) → operand_by sub ts ≡ Some r → Begins ts r
-  operand_reads [] r h = cc
-  operand_reads (NAME x ∷ ts) r h = name_reads x ts r h
-  operand_reads (NUMBER digits ∷ ts) r h = number_reads digits ts r h
-  operand_reads (STRING literal ∷ ts) r h = string_reads literal ts r h
-  operand_reads (Sign token.Plus ∷ ts) r h = unary_reads tree.Plus refl ts r h
-  operand_reads (Sign token.Minus ∷ ts) r h = unary_reads tree.Minus refl ts r h
-  operand_reads (Sign token.LeftParenthesis ∷ ts) r h = bracketed_reads ts r h
-  operand_reads (_ ∷ ts) r h = cc
+    string_reads : (literal : List ℕ) (ts : List Terminal) (r : Found) → atom_by sub (STRING literal ∷ ts) ≡ Some r → Begins (STRING literal ∷ ts) r
+    string_reads literal ts r h =
+        let s = then_read_some (strings_by [] (STRING literal ∷ ts)) (λ r. Some (Constant (Str r.0), 1, r.1)) r h in
+        let v = then_read_some (value_of_str literal) (λ s. strings_by s ts) s.0 s.1 in
+        let y = strings_read v.0 ts s.0 v.2 in
+        let P : Found → Type 0 = Begins (STRING literal ∷ ts) in
+        let Q : List ℕ → Type 0 = λ t. Strings t (STRING literal ∷ y.0) in
+        let whole : Strings s.0.0 (STRING literal ∷ y.0) = subst Q (sym y.2) (v.0, y.1, refl, v.1, y.4) in
+        let B : List Terminal → Type 0 = λ l. Begins (STRING literal ∷ l) (Constant (Str s.0.0), 1, s.0.1) in
+        subst P (some_inj (Constant (Str s.0.0), 1, s.0.1) r s.2) (
+        subst B (sym y.3) (
+        atom (STRING literal ∷ y.0) s.0.1 (Constant (Str s.0.0)) (node 0 18 (Constant (Str s.0.0)) (STRING literal ∷ y.0) (omega arith, whole))))
+
+    atom_reads : (ts : List Terminal) (r : Found) → atom_by sub ts ≡ Some r → Begins ts r
+    atom_reads [] r h = cc
+    atom_reads (NAME x ∷ ts) r h = name_reads x ts r h
+    atom_reads (NUMBER digits ∷ ts) r h = number_reads digits ts r h
+    atom_reads (STRING literal ∷ ts) r h = string_reads literal ts r h
+    atom_reads (Word token.NoneWord ∷ ts) r h =
+        let P : Found → Type 0 = Begins (Word token.NoneWord ∷ ts) in
+        subst P (some_inj (Constant Nothing, 1, ts) r h) (atom (Word token.NoneWord ∷ []) ts (Constant Nothing) (node 0 18 (Constant Nothing) (Word token.NoneWord ∷ []) refl))
+    atom_reads (Word token.TrueWord ∷ ts) r h =
+        let P : Found → Type 0 = Begins (Word token.TrueWord ∷ ts) in
+        subst P (some_inj (Constant (Truth true), 1, ts) r h) (atom (Word token.TrueWord ∷ []) ts (Constant (Truth true)) (node 0 18 (Constant (Truth true)) (Word token.TrueWord ∷ []) refl))
+    atom_reads (Word token.FalseWord ∷ ts) r h =
+        let P : Found → Type 0 = Begins (Word token.FalseWord ∷ ts) in
+        subst P (some_inj (Constant (Truth false), 1, ts) r h) (atom (Word token.FalseWord ∷ []) ts (Constant (Truth false)) (node 0 18 (Constant (Truth false)) (Word token.FalseWord ∷ []) refl))
+    atom_reads (Sign token.LeftParenthesis ∷ ts) r h = bracketed_reads ts r h
+    atom_reads (_ ∷ ts) r h = cc
+
+    operand_from_reads : (ts : List Terminal) (o : Option UnaryOperator) → prefix_at ts ≡ o → (r : Found) → operand_from sub l ts o ≡ Some r → Begins ts r
+    operand_from_reads ts (Some op) is r h =
+        let P : List Terminal → Type 0 = λ t. Begins t r in subst P (sym (prefix_at_some ts op is)) (unary_reads op (rest_of ts) r h)
+    operand_from_reads ts None is r h = atom_reads ts r h
+
+    operand_reads : (ts : List Terminal) (r : Found) → operand_by sub l ts ≡ Some r → Begins ts r
+    operand_reads ts r h = operand_from_reads ts (prefix_at ts) refl r h
 
   -- ---- what continues it
 
   -- the operand is longer by one operator or call
   abbrev Longer : List Terminal → List Terminal → ℕ → Found → Type 0
-  Longer front ts l r = (g : List Terminal) × (ts ≡ g ++ r.2) × (level : ℕ) × Spells r.1 level r.0 (front ++ g) × (strength_at r.2 ≤ level) × (l ≤ level) × (r.1 ≤ n + 1)
+  Longer front ts l r = (g : List Terminal) × (ts ≡ g ++ r.2) × (level : ℕ) × Spells r.1 level r.0 (front ++ g) × (strength_at r.2 ≤ level) × (l ≤ level) × (r.1 ≤ n + 1) × Apart level
 
   operator_reads : (front : List Terminal) (e : Expr) (d m : ℕ) (op : BinaryOperator) (ts : List Terminal) (l : ℕ) (r : Found) → Spells d m e front → left_level op ≤ m → l ≤ left_level op → l ≤ 16
-      → then_read (sub (right_level op) ts) (λ r. within (n + 1) (Binary op e r.0) (max d r.1 + 1) r.2) ≡ Some r → Longer front (Sign (symbol_of op) ∷ ts) l r
+      → binary_by sub (n + 1) e d op ts ≡ Some r → Longer front (Sign (symbol_of op) ∷ ts) l r
   operator_reads front e d m op ts l r spelled low high le h =
       let s = then_read_some (sub (right_level op) ts) (λ r. within (n + 1) (Binary op e r.0) (max d r.1 + 1) r.2) r h in
-      let a = sound (right_level op) (right_bound op) ts s.0 s.1 in
+      let a = sound (right_level op) (right_bound op) (right_apart op) ts s.0 s.1 in
       let w = within_some (n + 1) (Binary op e s.0.0) (max d s.0.1 + 1) s.0.2 r s.2 in
       let P : Found → Type 0 = Longer front (Sign (symbol_of op) ∷ ts) l in
       let right = spells_deeper s.0.1 (max d s.0.1) (omega arith) (right_level op) s.0.0 a.0.front a.0.spelled in
@@ -221,11 +247,12 @@ module _ (n : ℕ) (sub : Parser) (sound : IsSound n sub) where
         right_stops op (strength_at s.0.2) a.0.stops,
         level_reached op l le high,
         w.0,
+        level_apart op,
       )
 
   call_reads : (front : List Terminal) (e : Expr) (d m : ℕ) (ts : List Terminal) (l : ℕ) (r : Found) → Spells d m e front → 18 ≤ m → l ≤ 16
-      → then_read (arguments_by sub ts) (λ r. within (n + 1) (Call e (exprs_of r.0.0)) (max d r.0.1 + 1) r.1) ≡ Some r → Longer front (Sign token.LeftParenthesis ∷ ts) l r
-  call_reads front e d m ts l r spelled low high h =
+      → call_by sub (n + 1) e d ts ≡ Some r → Longer front (Sign token.LeftParenthesis ∷ ts) l r
+  call_reads front e d m ts l r spelled low le h =
       let s = then_read_some (arguments_by sub ts) (λ r. within (n + 1) (Call e (exprs_of r.0.0)) (max d r.0.1 + 1) r.1) r h in
       let a = arguments_read ts (after_close ts) refl s.0 s.1 in
       let w = within_some (n + 1) (Call e (exprs_of s.0.0.0)) (max d s.0.0.1 + 1) s.0.1 r s.2 in
@@ -242,52 +269,205 @@ module _ (n : ℕ) (sub : Parser) (sound : IsSound n sub) where
         strength_at_most s.0.1,
         omega arith,
         w.0,
+        high 18 (omega arith),
       )
 
-  extended_reads : (front : List Terminal) (e : Expr) (d m : ℕ) (ts : List Terminal) (l : ℕ) (r : Found) → Spells d m e front → strength_at ts ≤ m → l ≤ strength_at ts → l ≤ 16
-      → extended_by sub (n + 1) e d (rest_of ts) (continuation_at ts) ≡ Some r → Longer front ts l r
-  extended_reads front e d m [] l r spelled low high le h = cc
-  extended_reads front e d m (Sign token.Plus ∷ ts) l r spelled low high le h = operator_reads front e d m Add ts l r spelled low high le h
-  extended_reads front e d m (Sign token.Minus ∷ ts) l r spelled low high le h = operator_reads front e d m Subtract ts l r spelled low high le h
-  extended_reads front e d m (Sign token.Star ∷ ts) l r spelled low high le h = operator_reads front e d m Multiply ts l r spelled low high le h
-  extended_reads front e d m (Sign token.DoubleSlash ∷ ts) l r spelled low high le h = operator_reads front e d m FloorDivide ts l r spelled low high le h
-  extended_reads front e d m (Sign token.Percent ∷ ts) l r spelled low high le h = operator_reads front e d m Modulo ts l r spelled low high le h
-  extended_reads front e d m (Sign token.DoubleStar ∷ ts) l r spelled low high le h = operator_reads front e d m Power ts l r spelled low high le h
-  extended_reads front e d m (Sign token.LeftParenthesis ∷ ts) l r spelled low high le h = call_reads front e d m ts l r spelled low le h
-  extended_reads front e d m (_ ∷ ts) l r spelled low high le h = cc
+  -- ---- chains
+
+  known : (i s : Bool) → (i && not s) ≡ false → i ≡ true → s ≡ true
+  known true true h i = refl
+  known true false h i = cc
+  known false s h i = cc
+
+  alone : (d : ℕ) (e : Expr) (w : Keyword) (f : List Terminal) → nat_eq d 1 ≡ true → (Spells 1 10 e f → f ≡ Word w ∷ []) → Spells d 10 e f → (v : Keyword) × (f ≡ Word v ∷ [])
+  alone d e w f one only h = let same : d ≡ 1 = grind (arith, nat_tests) in (w, only (subst (λ k. Spells k 10 e f) same h))
+
+  singleton_word : (e : Expr) (d : ℕ) (f : List Terminal) → is_singleton e d ≡ true → Spells d 10 e f → (w : Keyword) × (f ≡ Word w ∷ [])
+  singleton_word (Constant Nothing) d f is h = alone d (Constant Nothing) token.NoneWord f is (λ g. ⊎_elim (λ x. x) (λ b. absurd b.2) g) h
+  singleton_word (Constant (Truth true)) d f is h = alone d (Constant (Truth true)) token.TrueWord f is (λ g. ⊎_elim (λ x. x) (λ b. absurd b.2) g) h
+  singleton_word (Constant (Truth false)) d f is h = alone d (Constant (Truth false)) token.FalseWord f is (λ g. ⊎_elim (λ x. x) (λ b. absurd b.2) g) h
+  singleton_word _ d f is h = cc
+
+  abbrev LinkRead : List Terminal → ComparisonOperator → Found → Type 0
+  LinkRead ts o r = (f : List Terminal) × (ts ≡ f ++ r.2) × Compares (Spells r.1) (o, r.0) f × (r.1 ≤ n) × (strength_at r.2 < 10)
+
+  link_read : (ts : List Terminal) (o : ComparisonOperator) (rest : List Terminal) (r : Found) → comparison_at ts ≡ Some (o, rest) → compared_by sub o rest ≡ Some r → LinkRead ts o r
+  link_read ts o rest r is h =
+      let x = then_read_some (sub 10 rest) (compared_to o) r h in
+      let a = sound 10 (omega arith) (high 10 (omega arith)) rest x.0 x.1 in
+      let P : Found → Type 0 = LinkRead ts o in
+      ⊎_elim
+      (λ no. let bad : None ≡ Some r = no.1 in cc)
+      (λ yes. subst P (some_inj x.0 r yes.1) (
+        comparison_of o ++ a.0.front,
+        comparison_at_some ts o rest is ∙ ap (λ t. comparison_of o ++ t) a.0.split ∙ sym (append_assoc (comparison_of o) a.0.front x.0.2),
+        (a.0.front, refl, a.0.spelled, λ same. singleton_word x.0.0 x.0.1 a.0.front (known (is_identity o) (is_singleton x.0.0 x.0.1) yes.0 same) a.0.spelled),
+        a.1,
+        a.0.stops,
+      ))
+      (chosen (is_identity o && not (is_singleton x.0.0 x.0.1)) None (Some x.0) (Some r) x.2)
+
+  compare_reads : (front : List Terminal) (e : Expr) (d m : ℕ) (ts : List Terminal) (l : ℕ) (r : Found) → Spells d m e front → 10 ≤ m → l ≤ 8 → (o : ComparisonOperator × List Terminal) → comparison_at ts ≡ Some o → strength_at ts < 10
+      → compare_by sub (n + 1) e d ts ≡ Some r → Longer front ts l r
+  compare_reads front e d m ts l r spelled low high o is weak h =
+      let s = then_read_some (links_by sub ts) (λ r. within (n + 1) (Compare e (chain_of r.0.0)) (max d r.0.1 + 1) r.1) r h in
+      let c = chain_sound (λ o e. (o, e)) comparison_at (compared_by sub) (λ d. Compares (Spells d)) n 10 (λ c d le x f h. compares_mono (Spells c) (Spells d) (spells_deeper c d le) x f h) link_read (length ts) ([], 0) ts s.0 (omega arith) weak s.1 in
+      let w = within_some (n + 1) (Compare e (chain_of s.0.0.0)) (max d s.0.0.1 + 1) s.0.1 r s.2 in
+      let P : Found → Type 0 = Longer front ts l in
+      let top = max d s.0.0.1 in
+      let links = many_mono (Compares (Spells s.0.0.1)) (Compares (Spells top)) (compares_mono (Spells s.0.0.1) (Spells top) (spells_deeper s.0.0.1 top (omega arith))) c.0 c.1 c.6 in
+      let same : c.0 ≡ links_of (chain_of s.0.0.0) = sym (links_of_chain s.0.0.0 ∙ c.2) in
+      let some = some_items comparison_at (Compares (Spells s.0.0.1)) c.0 c.1 ts s.0.1 o is c.3 c.6 c.8 in
+      let both = subst (λ xs. (0 < length xs) × Many (Compares (Spells top)) xs c.1) same (some, links) in
+      let left = spells_deeper d top (omega arith) 10 e front (spells_looser d 10 m e front low spelled) in
+      subst P w.1 (
+        c.1,
+        c.3,
+        8,
+        node top 8 (Compare e (chain_of s.0.0.0)) (front ++ c.1) (front, c.1, refl, omega arith, left, both.0, both.1),
+        comparison_ends s.0.1 c.8 c.7,
+        high,
+        w.0,
+        at_comparison,
+      )
+
+  module _ (op : BooleanOperator) where
+    abbrev Item : ℕ → Expr → List Terminal → Type 0
+    Item d = Behind (Word (word_of op)) (Spells d (item_level op))
+
+    item_read : (ts : List Terminal) (o : BooleanOperator) (rest : List Terminal) (r : Found) → with_word op (after_boolean op ts) ≡ Some (o, rest) → sub (item_level o) rest ≡ Some r
+        → (f : List Terminal) × (ts ≡ f ++ r.2) × Item r.1 r.0 f × (r.1 ≤ n) × (strength_at r.2 < item_level op)
+    item_read ts o rest r is h =
+        let w = with_word_some op o ts rest is in
+        let a = sound (item_level op) (item_bound op) (item_apart op) rest r (subst (λ x. sub (item_level x) rest ≡ Some r) (sym w.0) h) in
+        (Word (word_of op) ∷ a.0.front, w.1 ∙ ap (λ t. Word (word_of op) ∷ t) a.0.split, (a.0.front, refl, a.0.spelled), a.1, a.0.stops)
+
+    boolean_reads : (front : List Terminal) (e : Expr) (d m : ℕ) (ts : List Terminal) (l : ℕ) (r : Found) → Spells d m e front → item_level op ≤ m → l ≤ boolean_level op → (o : BooleanOperator × List Terminal) → with_word op (after_boolean op ts) ≡ Some o
+        → strength_at ts < item_level op → boolean_by sub (n + 1) e d op ts ≡ Some r → Longer front ts l r
+    boolean_reads front e d m ts l r spelled low high o is weak h =
+        let s = then_read_some (operands_by sub op ts) (λ r. within (n + 1) (Boolean op e (exprs_of r.0.0)) (max d r.0.1 + 1) r.1) r h in
+        let c = chain_sound (λ o e. e) (λ ts. with_word op (after_boolean op ts)) (λ o. sub (item_level o)) Item n (item_level op)
+        (λ c d le x f h. behind_mono (Spells c) (Spells d) (Word (word_of op)) (item_level op) (spells_deeper c d le) x f h) item_read (length ts) ([], 0) ts s.0 (omega arith) weak s.1 in
+        let w = within_some (n + 1) (Boolean op e (exprs_of s.0.0.0)) (max d s.0.0.1 + 1) s.0.1 r s.2 in
+        let P : Found → Type 0 = Longer front ts l in
+        let top = max d s.0.0.1 in
+        let others = many_mono (Item s.0.0.1) (Item top) (behind_mono (Spells s.0.0.1) (Spells top) (Word (word_of op)) (item_level op) (spells_deeper s.0.0.1 top (omega arith))) c.0 c.1 c.6 in
+        let same : c.0 ≡ items_of (exprs_of s.0.0.0) = sym (items_of_exprs s.0.0.0 ∙ c.2) in
+        let some = some_items (λ ts. with_word op (after_boolean op ts)) (Item s.0.0.1) c.0 c.1 ts s.0.1 o is c.3 c.6 c.8 in
+        let both = subst (λ xs. (0 < length xs) × Many (Item top) xs c.1) same (some, others) in
+        let left = spells_deeper d top (omega arith) (item_level op) e front (spells_looser d (item_level op) m e front low spelled) in
+        subst P w.1 (
+          c.1,
+          c.3,
+          boolean_level op,
+          node top (boolean_level op) (Boolean op e (exprs_of s.0.0.0)) (front ++ c.1) (front, c.1, refl, omega arith, left, both.0, both.1),
+          boolean_ends op s.0.1 (with_word_none op (after_boolean op s.0.1) c.8) c.7,
+          high,
+          w.0,
+          boolean_apart op,
+        )
+
+    word_reads : (front : List Terminal) (e : Expr) (d m : ℕ) (ts : List Terminal) (l : ℕ) (r : Found) → Spells d m e front → strength_of (boolean op) ≤ m → l ≤ strength_of (boolean op) → Apart m → Apart l
+        → strength_at (Word (word_of op) ∷ ts) ≡ strength_of (boolean op) → boolean_by sub (n + 1) e d op (Word (word_of op) ∷ ts) ≡ Some r → Longer front (Word (word_of op) ∷ ts) l r
+    word_reads front e d m ts l r spelled low high am al is h =
+        let b = boolean_strength op in
+        boolean_reads front e d m (Word (word_of op) ∷ ts) l r spelled (boolean_up op m am low) (boolean_down op l al high) (op, ts) (ap (with_word op) (after_word op ts)) (omega (arith, b.0)) h
+
+  -- ---- a conditional expression
+
+  conditional_reads : (front : List Terminal) (e : Expr) (d m : ℕ) (ts : List Terminal) (l : ℕ) (r : Found) → Spells d m e front → 3 ≤ m → l ≤ 1 → conditional_by sub (n + 1) e d ts ≡ Some r → Longer front (Word token.IfWord ∷ ts) l r
+  conditional_reads front e d m ts l r spelled low high h =
+      let t = then_read_some (sub 3 ts) (λ t. then_read (after_else t.2) (other_by sub (n + 1) e d t)) r h in
+      let a = sound 3 (omega arith) at_disjunction ts t.0 t.1 in
+      let u = then_read_some (after_else t.0.2) (other_by sub (n + 1) e d t.0) r t.2 in
+      let v = then_read_some (sub 1 u.0) (λ o. within (n + 1) (Conditional t.0.0 e o.0) (max d (max t.0.1 o.1) + 1) o.2) r u.2 in
+      let b = sound 1 (omega arith) at_condition u.0 v.0 v.1 in
+      let w = within_some (n + 1) (Conditional t.0.0 e v.0.0) (max d (max t.0.1 v.0.1) + 1) v.0.2 r v.2 in
+      let P : Found → Type 0 = Longer front (Word token.IfWord ∷ ts) l in
+      let top = max d (max t.0.1 v.0.1) in
+      let value = spells_deeper d top (omega arith) 3 e front (spells_looser d 3 m e front low spelled) in
+      let test = spells_deeper t.0.1 top (omega arith) 3 t.0.0 a.0.front a.0.spelled in
+      let other = spells_deeper v.0.1 top (omega arith) 1 v.0.0 b.0.front b.0.spelled in
+      let tail = a.0.front ++ Word token.ElseWord ∷ b.0.front in
+      subst P w.1 (
+        Word token.IfWord ∷ tail,
+        ap (λ t. Word token.IfWord ∷ t) (a.0.split ∙ ap (λ t. a.0.front ++ t) (after_else_some t.0.2 u.0 u.1 ∙ ap (λ t. Word token.ElseWord ∷ t) b.0.split) ∙ sym (append_assoc a.0.front (Word token.ElseWord ∷ b.0.front) v.0.2)),
+        1,
+        node top 1 (Conditional t.0.0 e v.0.0) (front ++ Word token.IfWord ∷ tail) (front, a.0.front, b.0.front, refl, omega arith, value, test, other),
+        omega (arith, b.0.stops),
+        high,
+        w.0,
+        at_condition,
+      )
+
+  -- ---- all of them
+
+  extended_reads : (front : List Terminal) (e : Expr) (d m : ℕ) (ts : List Terminal) (l : ℕ) (r : Found) → Spells d m e front → strength_at ts ≤ m → l ≤ strength_at ts → l ≤ 16 → Apart m → Apart l
+      → extended_by sub (n + 1) e d ts (continuation_at ts) ≡ Some r → Longer front ts l r
+  extended_reads front e d m [] l r spelled low high le am al h = cc
+  extended_reads front e d m (Sign token.Bar ∷ ts) l r spelled low high le am al h = operator_reads front e d m BitOr ts l r spelled low high le h
+  extended_reads front e d m (Sign token.Caret ∷ ts) l r spelled low high le am al h = operator_reads front e d m BitXor ts l r spelled low high le h
+  extended_reads front e d m (Sign token.Ampersand ∷ ts) l r spelled low high le am al h = operator_reads front e d m BitAnd ts l r spelled low high le h
+  extended_reads front e d m (Sign token.LeftShift ∷ ts) l r spelled low high le am al h = operator_reads front e d m ShiftLeft ts l r spelled low high le h
+  extended_reads front e d m (Sign token.RightShift ∷ ts) l r spelled low high le am al h = operator_reads front e d m ShiftRight ts l r spelled low high le h
+  extended_reads front e d m (Sign token.Plus ∷ ts) l r spelled low high le am al h = operator_reads front e d m Add ts l r spelled low high le h
+  extended_reads front e d m (Sign token.Minus ∷ ts) l r spelled low high le am al h = operator_reads front e d m Subtract ts l r spelled low high le h
+  extended_reads front e d m (Sign token.Star ∷ ts) l r spelled low high le am al h = operator_reads front e d m Multiply ts l r spelled low high le h
+  extended_reads front e d m (Sign token.DoubleSlash ∷ ts) l r spelled low high le am al h = operator_reads front e d m FloorDivide ts l r spelled low high le h
+  extended_reads front e d m (Sign token.Percent ∷ ts) l r spelled low high le am al h = operator_reads front e d m Modulo ts l r spelled low high le h
+  extended_reads front e d m (Sign token.DoubleStar ∷ ts) l r spelled low high le am al h = operator_reads front e d m Power ts l r spelled low high le h
+  extended_reads front e d m (Sign token.LeftParenthesis ∷ ts) l r spelled low high le am al h = call_reads front e d m ts l r spelled low le h
+  extended_reads front e d m (Sign token.Less ∷ ts) l r spelled low high le am al h =
+      compare_reads front e d m (Sign token.Less ∷ ts) l r spelled (comparison_up m am low) (comparison_down l al high) (tree.Less, ts) refl (omega arith) h
+  extended_reads front e d m (Sign token.Greater ∷ ts) l r spelled low high le am al h =
+      compare_reads front e d m (Sign token.Greater ∷ ts) l r spelled (comparison_up m am low) (comparison_down l al high) (tree.Greater, ts) refl (omega arith) h
+  extended_reads front e d m (Sign token.LessEqual ∷ ts) l r spelled low high le am al h =
+      compare_reads front e d m (Sign token.LessEqual ∷ ts) l r spelled (comparison_up m am low) (comparison_down l al high) (tree.LessEqual, ts) refl (omega arith) h
+  extended_reads front e d m (Sign token.GreaterEqual ∷ ts) l r spelled low high le am al h =
+      compare_reads front e d m (Sign token.GreaterEqual ∷ ts) l r spelled (comparison_up m am low) (comparison_down l al high) (tree.GreaterEqual, ts) refl (omega arith) h
+  extended_reads front e d m (Sign token.EqualEqual ∷ ts) l r spelled low high le am al h =
+      compare_reads front e d m (Sign token.EqualEqual ∷ ts) l r spelled (comparison_up m am low) (comparison_down l al high) (tree.Equal, ts) refl (omega arith) h
+  extended_reads front e d m (Sign token.NotEqual ∷ ts) l r spelled low high le am al h =
+      compare_reads front e d m (Sign token.NotEqual ∷ ts) l r spelled (comparison_up m am low) (comparison_down l al high) (tree.NotEqual, ts) refl (omega arith) h
+  extended_reads front e d m (Word token.IsWord ∷ ts) l r spelled low high le am al h =
+      compare_reads front e d m (Word token.IsWord ∷ ts) l r spelled (comparison_up m am low) (comparison_down l al high) (identity_from ts (after_not ts)) refl (omega arith) h
+  extended_reads front e d m (Word token.AndWord ∷ ts) l r spelled low high le am al h = word_reads tree.And front e d m ts l r spelled low high am al refl h
+  extended_reads front e d m (Word token.OrWord ∷ ts) l r spelled low high le am al h = word_reads tree.Or front e d m ts l r spelled low high am al refl h
+  extended_reads front e d m (Word token.IfWord ∷ ts) l r spelled low high le am al h = conditional_reads front e d m ts l r spelled (condition_up m am low) (condition_down l al high) h
+  extended_reads front e d m (_ ∷ ts) l r spelled low high le am al h = cc
 
   -- the rest of an expression
   abbrev Ends : List Terminal → List Terminal → ℕ → Found → Type 0
   Ends front ts l r = (g : List Terminal) × (ts ≡ g ++ r.2) × Spells r.1 l r.0 (front ++ g) × (strength_at r.2 < l) × (r.1 ≤ n + 1)
 
-  continued_reads : (k : ℕ) (front : List Terminal) (e : Expr) (d m : ℕ) (ts : List Terminal) (l : ℕ) (r : Found) → Spells d m e front → strength_at ts ≤ m → l ≤ m → l ≤ 16 → d ≤ n + 1
+  continued_reads : (k : ℕ) (front : List Terminal) (e : Expr) (d m : ℕ) (ts : List Terminal) (l : ℕ) (r : Found) → Spells d m e front → strength_at ts ≤ m → l ≤ m → l ≤ 16 → d ≤ n + 1 → Apart m → Apart l
       → continued_by sub (n + 1) l k e d ts ≡ Some r → Ends front ts l r
   unfolding continued_by
-  continued_reads zero front e d m ts l r spelled low high le deep h = cc
-  continued_reads (suc k) front e d m ts l r spelled low high le deep h =
+  continued_reads zero front e d m ts l r spelled low high le deep am al h = cc
+  continued_reads (suc k) front e d m ts l r spelled low high le deep am al h =
       let P : Found → Type 0 = Ends front ts l in
       ⊎_elim
       (λ stop. subst P (some_inj (e, d, ts) r stop.1) ([], refl, subst (Spells d l e) (sym (append-nil front)) (spells_looser d l m e front high spelled), lt_from _ _ stop.0, deep))
       (λ go.
-      let s = then_read_some (extended_by sub (n + 1) e d (rest_of ts) (continuation_at ts)) (λ r. continued_by sub (n + 1) l k r.0 r.1 r.2) r go.1 in
-      let x = extended_reads front e d m ts l s.0 spelled low (ge_from _ _ go.0) le s.1 in
-      let y = continued_reads k (front ++ x.0) s.0.0 s.0.1 x.2 s.0.2 l r x.3 x.4 x.5 le x.6 s.2 in
+      let s = then_read_some (extended_by sub (n + 1) e d ts (continuation_at ts)) (λ r. continued_by sub (n + 1) l k r.0 r.1 r.2) r go.1 in
+      let x = extended_reads front e d m ts l s.0 spelled low (ge_from _ _ go.0) le am al s.1 in
+      let y = continued_reads k (front ++ x.0) s.0.0 s.0.1 x.2 s.0.2 l r x.3 x.4 x.5 le x.6 x.7 al s.2 in
       (x.0 ++ y.0, x.1 ∙ ap (λ t. x.0 ++ t) y.1 ∙ sym (append_assoc x.0 y.0 r.2), subst (Spells r.1 l r.0) (append_assoc front x.0 y.0) y.2, y.3, y.4))
-      (chosen (nat_lt (strength_at ts) l) (Some (e, d, ts)) (then_read (extended_by sub (n + 1) e d (rest_of ts) (continuation_at ts)) (λ r. continued_by sub (n + 1) l k r.0 r.1 r.2)) (Some r) h)
+      (chosen (nat_lt (strength_at ts) l) (Some (e, d, ts)) (then_read (extended_by sub (n + 1) e d ts (continuation_at ts)) (λ r. continued_by sub (n + 1) l k r.0 r.1 r.2)) (Some r) h)
 
-  expression_reads : (k l : ℕ) → l ≤ 16 → (ts : List Terminal) (r : Found) → then_read (operand_by sub ts) (λ r. continued_by sub (n + 1) l k r.0 r.1 r.2) ≡ Some r → Reads l ts r × (r.1 ≤ n + 1)
-  expression_reads k l le ts r h =
-      let s = then_read_some (operand_by sub ts) (λ r. continued_by sub (n + 1) l k r.0 r.1 r.2) r h in
-      let a = operand_reads ts s.0 s.1 in
-      let y = continued_reads k a.0.front s.0.0 s.0.1 a.0.level s.0.2 l r a.0.spelled a.0.continues (omega (arith, a.0.enough)) le a.1 s.2 in
+  expression_reads : (k l : ℕ) → l ≤ 16 → Apart l → (ts : List Terminal) (r : Found) → then_read (operand_by sub l ts) (λ r. continued_by sub (n + 1) l k r.0 r.1 r.2) ≡ Some r → Reads l ts r × (r.1 ≤ n + 1)
+  expression_reads k l le al ts r h =
+      let s = then_read_some (operand_by sub l ts) (λ r. continued_by sub (n + 1) l k r.0 r.1 r.2) r h in
+      let a = operand_reads l le ts s.0 s.1 in
+      let y = continued_reads k a.0.front s.0.0 s.0.1 a.0.level s.0.2 l r a.0.spelled a.0.continues a.0.enough le a.1 a.0.apart al s.2 in
       (record { front = a.0.front ++ y.0; split = a.0.split ∙ ap (λ t. a.0.front ++ t) y.1 ∙ sym (append_assoc a.0.front y.0 r.2); spelled = y.2; stops = y.3 }, y.4)
 
 -- each expression that is read is in the grammar, and no longer one begins there
 pub expression_sound : (n : ℕ) → IsSound n (expression_at n)
 unfolding expression_at
-expression_sound zero l le ts r h = cc
-expression_sound (suc n) l le ts r h =
+expression_sound zero l le al ts r h = cc
+expression_sound (suc n) l le al ts r h =
     let same : suc n ≡ n + 1 = sym (add-one n) in
-    let moved = subst (λ k. then_read (operand_by (expression_at n) ts) (λ r. continued_by (expression_at n) k l (suc n) r.0 r.1 r.2) ≡ Some r) same h in
-    let p = expression_reads n (expression_at n) (expression_sound n) (suc n) l le ts r moved in
+    let moved = subst (λ k. then_read (operand_by (expression_at n) l ts) (λ r. continued_by (expression_at n) k l (suc n) r.0 r.1 r.2) ≡ Some r) same h in
+    let p = expression_reads n (expression_at n) (expression_sound n) (suc n) l le al ts r moved in
     (p.0, omega (arith, p.1))

@@ -1,14 +1,14 @@
 -- What one turn of a loop does.
-use Rattle.std.proofs.Common.{◌≡◌, ℕ, ◌+◌, ◌-◌, ◌<◌, ◌≤◌, List, Option, Some, None, sym, ap, ◌∙◌, subst, arith}
-use Rattle.std.specs.Prelude.{nat_lt, Bool, true, false, if◌then◌else◌}
+use Rattle.std.proofs.Common.{◌≡◌, ℕ, ◌+◌, ◌-◌, ◌<◌, ◌≤◌, List, [], ◌∷◌, ◌++◌, max, length, Option, Some, None, sym, ap, ◌∙◌, subst, arith}
+use Rattle.std.specs.Prelude.{not, nat_lt, Bool, true, false, if◌then◌else◌}
 use Rattle.std.proofs.lemmas.Bool.Decides.{nat_tests}
-use Rattle.si_semantics.specs.Tree.{Expr}
-use Rattle.si_semantics.specs.Grammar.{Terminal}
+use Rattle.si_semantics.specs.Tree.{Expr, Stmt}
+use Rattle.si_semantics.specs.Grammar.{Terminal, DEDENT, Branch}
 use Rattle.si_parse.specs.declared.fault.ParseFault.{ParseFault}
 use Rattle.si_parse.specs.declared.fault.ParseFault.TheVariants.{Syntax, NoMemory}
-use Rattle.si_parse.specs.Reading.{Parser, Step, Continuation, strength_of, then_read, strength_at, rest_of, continuation_at, closing, behind_item, separated_by, many_by, extended_by, continued_by}
+use Rattle.si_parse.specs.Reading.{Parser, Step, Continuation, strength_of, then_read, strength_at, continuation_at, closing, behind_item, separated_by, chain_from, chain_by, Parsed, many_by, extended_by, continued_by, rest_of, is_none, is_dedent, after_if, after_while, after_elif, after_dedent, LineParser, with_branch, branch_by, elif_by, indented_by, if_by, while_by, with_compound, block_from, block_at}
 use Rattle.si_parse.specs.Gives.{Fails}
-use Rattle.si_parse.proofs.Steps.{continued_by_step, separated_by_step, many_by_step}
+use Rattle.si_parse.proofs.Steps.{continued_by_step, separated_by_step, chain_by_step, many_by_step, block_at_step}
 
 pub not_less : (a b : ℕ) → b ≤ a → nat_lt a b ≡ false
 not_less a b h = grind (arith, nat_tests)
@@ -21,25 +21,48 @@ module _ (sub : Parser) (n l k : ℕ) (e : Expr) (d : ℕ) (ts : List Terminal) 
   continued_stops positive weak =
       let weaker : strength_at ts < l = subst (λ c. strength_of c < l) role weak in
       continued_by_step sub n l k e d ts positive
-      ∙ ap (λ b. if b then Some (e, d, ts) else then_read (extended_by sub n e d (rest_of ts) (continuation_at ts)) (λ r. continued_by sub n l (k - 1) r.0 r.1 r.2)) (less (strength_at ts) l weaker)
+      ∙ ap (λ b. if b then Some (e, d, ts) else then_read (extended_by sub n e d ts (continuation_at ts)) (λ r. continued_by sub n l (k - 1) r.0 r.1 r.2)) (less (strength_at ts) l weaker)
 
-  module _ (j : ℕ) (after : List Terminal) (behind : after ≡ rest_of ts) (one : k ≡ j + 1) (strong : l ≤ strength_of next) where
-    continued_turn : continued_by sub n l k e d ts ≡ then_read (extended_by sub n e d after next) (λ r. continued_by sub n l j r.0 r.1 r.2)
+  module _ (j : ℕ) (one : k ≡ j + 1) (strong : l ≤ strength_of next) where
+    continued_turn : continued_by sub n l k e d ts ≡ then_read (extended_by sub n e d ts next) (λ r. continued_by sub n l j r.0 r.1 r.2)
     continued_turn =
         let same : k - 1 ≡ j = omega arith in
         let stronger : l ≤ strength_at ts = subst (λ c. l ≤ strength_of c) role strong in
         continued_by_step sub n l k e d ts (omega arith)
-        ∙ ap (λ b. if b then Some (e, d, ts) else then_read (extended_by sub n e d (rest_of ts) (continuation_at ts)) (λ r. continued_by sub n l (k - 1) r.0 r.1 r.2)) (not_less (strength_at ts) l stronger)
-        ∙ ap (λ i. then_read (extended_by sub n e d (rest_of ts) (continuation_at ts)) (λ r. continued_by sub n l i r.0 r.1 r.2)) same
-        ∙ ap (λ c. then_read (extended_by sub n e d (rest_of ts) c) (λ r. continued_by sub n l j r.0 r.1 r.2)) (sym role)
-        ∙ ap (λ t. then_read (extended_by sub n e d t next) (λ r. continued_by sub n l j r.0 r.1 r.2)) (sym behind)
+        ∙ ap (λ b. if b then Some (e, d, ts) else then_read (extended_by sub n e d ts (continuation_at ts)) (λ r. continued_by sub n l (k - 1) r.0 r.1 r.2)) (not_less (strength_at ts) l stronger)
+        ∙ ap (λ i. then_read (extended_by sub n e d ts (continuation_at ts)) (λ r. continued_by sub n l i r.0 r.1 r.2)) same
+        ∙ ap (λ c. then_read (extended_by sub n e d ts c) (λ r. continued_by sub n l j r.0 r.1 r.2)) (sym role)
 
-    pub continued_on : (e' : Expr) (d' : ℕ) (ts' : List Terminal) → extended_by sub n e d after next ≡ Some (e', d', ts') → continued_by sub n l k e d ts ≡ continued_by sub n l j e' d' ts'
+    pub continued_on : (e' : Expr) (d' : ℕ) (ts' : List Terminal) → extended_by sub n e d ts next ≡ Some (e', d', ts') → continued_by sub n l k e d ts ≡ continued_by sub n l j e' d' ts'
     continued_on e' d' ts' h = continued_turn ∙ ap (λ r. then_read r (λ r. continued_by sub n l j r.0 r.1 r.2)) h
 
-    pub continued_fails : (f : ParseFault) → Fails f (extended_by sub n e d after next) → Fails f (continued_by sub n l k e d ts)
+    pub continued_fails : (f : ParseFault) → Fails f (extended_by sub n e d ts next) → Fails f (continued_by sub n l k e d ts)
     continued_fails NoMemory h = tt
     continued_fails (Syntax line) h = continued_turn ∙ ap (λ r. then_read r (λ r. continued_by sub n l j r.0 r.1 r.2)) h
+
+module _ {O X : Type 0} (make : O → Expr → X) (operator : List Terminal → Option (O × List Terminal)) (item : O → List Terminal → Parsed) (k : ℕ) (b : List X × ℕ) (ts : List Terminal) where
+  pub chain_ends : 0 < k → operator ts ≡ None → chain_by make operator item k b ts ≡ Some (b, ts)
+  chain_ends positive h = chain_by_step make operator item k b ts positive ∙ ap (chain_from make item (chain_by make operator item (k - 1)) b ts) h
+
+  module _ (j : ℕ) (one : k ≡ j + 1) (o : O) (rest : List Terminal) (next : operator ts ≡ Some (o, rest)) where
+    chain_turn : chain_by make operator item k b ts ≡ then_read (item o rest) (λ r. chain_by make operator item j (b.0 ++ make o r.0 ∷ [], max b.1 r.1) r.2)
+    chain_turn =
+        let same : k - 1 ≡ j = omega arith in
+        chain_by_step make operator item k b ts (omega arith)
+        ∙ ap (chain_from make item (chain_by make operator item (k - 1)) b ts) next
+        ∙ ap (λ i. then_read (item o rest) (λ r. chain_by make operator item i (b.0 ++ make o r.0 ∷ [], max b.1 r.1) r.2)) same
+
+    pub chain_on : (e : Expr) (d : ℕ) (more : List Terminal) → item o rest ≡ Some (e, d, more) → chain_by make operator item k b ts ≡ chain_by make operator item j (b.0 ++ make o e ∷ [], max b.1 d) more
+    chain_on e d more h = chain_turn ∙ ap (λ r. then_read r (λ r. chain_by make operator item j (b.0 ++ make o r.0 ∷ [], max b.1 r.1) r.2)) h
+
+    pub chain_next : (e : Expr) (d : ℕ) (more : List Terminal) → item o rest ≡ Some (e, d, more) → (items : List X) (top : ℕ) → items ≡ b.0 ++ make o e ∷ [] → top ≡ max b.1 d
+        → chain_by make operator item j (items, top) more ≡ chain_by make operator item k b ts
+    chain_next e d more h items top p q =
+        ap (λ i. chain_by make operator item j (i, top) more) p ∙ ap (λ t. chain_by make operator item j (b.0 ++ make o e ∷ [], t) more) q ∙ sym (chain_on e d more h)
+
+    pub chain_fails : (f : ParseFault) → Fails f (item o rest) → Fails f (chain_by make operator item k b ts)
+    chain_fails NoMemory h = tt
+    chain_fails (Syntax line) h = chain_turn ∙ ap (λ r. then_read r (λ r. chain_by make operator item j (b.0 ++ make o r.0 ∷ [], max b.1 r.1) r.2)) h
 
 module _ {R B : Type 0} (add : B → R → B) (rest : R → List Terminal) (item : List Terminal → Option R) (separator close : Step) (k j : ℕ) (b : B) (ts : List Terminal) (one : k ≡ j + 1) where
   pub separated_turn : separated_by add rest item separator close k b ts
@@ -72,6 +95,36 @@ module _ {R B : Type 0} (add : B → R → B) (rest : R → List Terminal) (item
         separated_read
         ∙ ap (λ o. behind_item (separated_by add rest item separator close j) (add b r) o (separator (rest r))) h
         ∙ ap (λ o. behind_item (separated_by add rest item separator close j) (add b r) None o) i
+
+module _ {B : Type 0} (item : B → List Terminal → Option (B × List Terminal)) (ends : List Terminal → Bool) (k : ℕ) (b : B) (ts : List Terminal) where
+  pub many_ends : 0 < k → ends ts ≡ true → many_by item ends k b ts ≡ Some (b, ts)
+  many_ends positive h = many_by_step item ends k b ts positive ∙ ap (λ t. if t then Some (b, ts) else then_read (item b ts) (λ r. many_by item ends (k - 1) r.0 r.1)) h
+
+-- a compound statement behind its word
+pub block_if : (n : ℕ) (body : List Stmt) (ts rest : List Terminal) (s : Stmt) (more : List Terminal) → 0 < n → after_if ts ≡ Some rest → if_by (block_at (n - 1)) rest ≡ Some (s, more) → block_at n body ts ≡ Some (body ++ s ∷ [], more)
+block_if n body ts rest s more positive is h =
+    block_at_step n body ts positive ∙ ap (λ o. block_from (block_at (n - 1)) body ts o (after_while ts)) is ∙ ap (λ o. then_read o (with_compound body)) h
+
+pub block_while : (n : ℕ) (body : List Stmt) (ts rest : List Terminal) (s : Stmt) (more : List Terminal) → 0 < n → after_if ts ≡ None → after_while ts ≡ Some rest → while_by (block_at (n - 1)) rest ≡ Some (s, more) → block_at n body ts ≡ Some (body ++ s ∷ [], more)
+block_while n body ts rest s more positive not_if is h =
+    block_at_step n body ts positive
+    ∙ ap (λ o. block_from (block_at (n - 1)) body ts o (after_while ts)) not_if
+    ∙ ap (λ o. block_from (block_at (n - 1)) body ts None o) is
+    ∙ ap (λ o. then_read o (with_compound body)) h
+
+pub elif_read : (line : LineParser) (bs : List Branch) (ts rest : List Terminal) (b : Branch) (more : List Terminal) → after_elif ts ≡ Some rest → branch_by line rest ≡ Some (b, more) → elif_by line bs ts ≡ Some (bs ++ b ∷ [], more)
+elif_read line bs ts rest b more is h = ap (λ o. then_read o (λ rest. then_read (branch_by line rest) (with_branch bs))) is ∙ ap (λ o. then_read o (with_branch bs)) h
+
+dedent_rest : (ts rest : List Terminal) → after_dedent ts ≡ Some rest → rest_of ts ≡ rest
+dedent_rest [] rest h = cc
+dedent_rest (DEDENT ∷ ts) rest h = cc
+dedent_rest (_ ∷ ts) rest h = cc
+
+pub indented_read : (line : LineParser) (ts : List Terminal) (body : List Stmt) (last rest : List Terminal) → after_dedent ts ≡ None → many_by line is_dedent (length ts) [] ts ≡ Some (body, last) → after_dedent last ≡ Some rest → indented_by line ts ≡ Some (body, rest)
+indented_read line ts body last rest inside h over =
+    ap (λ o. if not (is_none o) then None else then_read (many_by line is_dedent (length ts) [] ts) (λ r. Some (r.0, rest_of r.1))) inside
+    ∙ ap (λ o. then_read o (λ r. Some (r.0, rest_of r.1))) h
+    ∙ ap (λ t. Some (body, t)) (dedent_rest last rest over)
 
 module _ {B : Type 0} (item : B → List Terminal → Option (B × List Terminal)) (ends : List Terminal → Bool) (k j : ℕ) (b : B) (ts : List Terminal) (one : k ≡ j + 1) (more : ends ts ≡ false) where
   many_turn : many_by item ends k b ts ≡ then_read (item b ts) (λ r. many_by item ends j r.0 r.1)

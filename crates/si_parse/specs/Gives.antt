@@ -6,11 +6,11 @@ use Rattle.si_token.specs.declared.scan.TokenFault.{TokenFault}
 use Rattle.si_token.specs.declared.scan.TokenFault.TheVariants as tokens
 use Rattle.si_parse.specs.declared.fault.ParseFault.{ParseFault}
 use Rattle.si_parse.specs.declared.fault.ParseFault.TheVariants.{Syntax, NoMemory}
-use Rattle.si_parse.specs.declared.expression.Continuation.{Continuation as Rust}
-use Rattle.si_parse.specs.declared.expression.Continuation.TheVariants as variant
+use Rattle.si_parse.specs.declared.precedence.Continuation.{Continuation as Rust}
+use Rattle.si_parse.specs.declared.precedence.Continuation.TheVariants as variant
 use Rattle.si_token.specs.Views.{token_of}
-use Rattle.si_parse.specs.Trees.{binary_of}
-use Rattle.si_parse.specs.Reading.{Continuation, operator, arguments, nothing}
+use Rattle.si_parse.specs.Trees.{binary_of, boolean_of}
+use Rattle.si_parse.specs.Reading.{Continuation, operator, arguments, comparison, boolean, condition, nothing}
 
 -- the terminals of tokens, from a place on
 abbrev pub from : List Token → ℕ → List Terminal
@@ -29,6 +29,9 @@ Gives view (Err e) read = Fails e read
 abbrev pub continuation_view : Rust → Continuation
 continuation_view (variant.Operator op) = operator (binary_of op)
 continuation_view variant.Arguments = arguments
+continuation_view variant.Comparison = comparison
+continuation_view (variant.Boolean op) = boolean (boolean_of op)
+continuation_view variant.Condition = condition
 continuation_view variant.Nothing = nothing
 
 -- the fault of a text that the grammar has no tree for

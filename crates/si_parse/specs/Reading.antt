@@ -1,11 +1,11 @@
 -- Reading as a function on lists of terminals, which the parser computes: what stands between grammar and code.
-use Rattle.std.specs.Prelude.{ℕ, zero, suc, ◌+◌, max, List, [], ◌∷◌, ◌++◌, length, Option, Some, None, nat_lt, nat_le, Bool, true, false, if◌then◌else◌}
-use Rattle.si_semantics.specs.Value.{Text, Int, Str}
-use Rattle.si_semantics.specs.Tree.{BinaryOperator, Add, Subtract, Multiply, FloorDivide, Modulo, Power, UnaryOperator, Expr, Constant, Name, Unary, Binary, Call, Stmt, Evaluate, Assign}
+use Rattle.std.specs.Prelude.{ℕ, zero, suc, ◌+◌, max, List, [], ◌∷◌, ◌++◌, length, Option, Some, None, option_map, nat_lt, nat_le, nat_eq, Bool, true, false, not, ◌&&◌, if◌then◌else◌}
+use Rattle.si_semantics.specs.Value.{Text, Nothing, Truth, Int, Str}
+use Rattle.si_semantics.specs.Tree.{BinaryOperator, Add, Subtract, Multiply, FloorDivide, Modulo, Power, BitOr, BitXor, BitAnd, ShiftLeft, ShiftRight, UnaryOperator, ComparisonOperator, BooleanOperator, Expr, Constant, Name, Unary, Binary, Call, Boolean, Compare, Conditional, Stmt, Evaluate, Assign, Augment, Pass, If, While, Break, Continue, Stmts, NoStmts}
 use Rattle.si_semantics.specs.Tree as tree
-use Rattle.si_semantics.specs.Tokens.{Symbol}
+use Rattle.si_semantics.specs.Tokens.{Symbol, Keyword}
 use Rattle.si_semantics.specs.Tokens as token
-use Rattle.si_semantics.specs.Grammar.{Terminal, NAME, NUMBER, STRING, Sign, NEWLINE, ENDMARKER, value_of_int, value_of_str, left_level, right_level, exprs_of, max_depth}
+use Rattle.si_semantics.specs.Grammar.{Terminal, NAME, NUMBER, STRING, Sign, Word, NEWLINE, INDENT, DEDENT, ENDMARKER, value_of_int, value_of_str, left_level, right_level, prefix_level, item_level, is_identity, Link, chain_of, exprs_of, max_depth, Branch, stmts_of, elifs_of, max_nesting}
 
 -- ---- one terminal of look-ahead
 
@@ -13,9 +13,17 @@ use Rattle.si_semantics.specs.Grammar.{Terminal, NAME, NUMBER, STRING, Sign, NEW
 pub data Continuation : Type 0 where
   operator : BinaryOperator → Continuation
   arguments : Continuation
+  comparison : Continuation
+  boolean : BooleanOperator → Continuation
+  condition : Continuation
   nothing : Continuation
 
 abbrev pub role_of : Symbol → Continuation
+role_of token.Bar = operator BitOr
+role_of token.Caret = operator BitXor
+role_of token.Ampersand = operator BitAnd
+role_of token.LeftShift = operator ShiftLeft
+role_of token.RightShift = operator ShiftRight
 role_of token.Plus = operator Add
 role_of token.Minus = operator Subtract
 role_of token.Star = operator Multiply
@@ -23,20 +31,39 @@ role_of token.DoubleSlash = operator FloorDivide
 role_of token.Percent = operator Modulo
 role_of token.DoubleStar = operator Power
 role_of token.LeftParenthesis = arguments
+role_of token.Less = comparison
+role_of token.Greater = comparison
+role_of token.LessEqual = comparison
+role_of token.GreaterEqual = comparison
+role_of token.EqualEqual = comparison
+role_of token.NotEqual = comparison
 role_of _ = nothing
+
+abbrev pub word_role : Keyword → Continuation
+word_role token.AndWord = boolean tree.And
+word_role token.OrWord = boolean tree.Or
+word_role token.IsWord = comparison
+word_role token.IfWord = condition
+word_role _ = nothing
 
 abbrev pub continuation_of : Terminal → Continuation
 continuation_of (Sign s) = role_of s
+continuation_of (Word w) = word_role w
 continuation_of _ = nothing
 
 abbrev pub continuation_at : List Terminal → Continuation
 continuation_at [] = nothing
 continuation_at (t ∷ ts) = continuation_of t
 
--- the tightest level at which the terminal still continues an expression
+-- The tightest level at which the terminal still continues an expression. Between a chain's level and that of its items
+-- lies the strength of the chain's operator, and no production: so no operator has the strength of a chain or of a prefix.
 abbrev pub strength_of : Continuation → ℕ
 strength_of (operator op) = left_level op
 strength_of arguments = 18
+strength_of comparison = 9
+strength_of (boolean tree.And) = 6
+strength_of (boolean tree.Or) = 4
+strength_of condition = 2
 strength_of nothing = 0
 
 abbrev pub strength_at : List Terminal → ℕ
@@ -72,15 +99,65 @@ after_semicolon [] = None
 after_semicolon (Sign token.Semicolon ∷ ts) = Some ts
 after_semicolon (_ ∷ ts) = None
 
-abbrev pub after_equal : Step
-after_equal [] = None
-after_equal (Sign token.Equal ∷ ts) = Some ts
-after_equal (_ ∷ ts) = None
-
 abbrev pub after_newline : Step
 after_newline [] = None
 after_newline (NEWLINE ∷ ts) = Some ts
 after_newline (_ ∷ ts) = None
+
+abbrev pub after_colon : Step
+after_colon [] = None
+after_colon (Sign token.Colon ∷ ts) = Some ts
+after_colon (_ ∷ ts) = None
+
+abbrev pub after_indent : Step
+after_indent [] = None
+after_indent (INDENT ∷ ts) = Some ts
+after_indent (_ ∷ ts) = None
+
+abbrev pub after_dedent : Step
+after_dedent [] = None
+after_dedent (DEDENT ∷ ts) = Some ts
+after_dedent (_ ∷ ts) = None
+
+abbrev pub after_if : Step
+after_if [] = None
+after_if (Word token.IfWord ∷ ts) = Some ts
+after_if (_ ∷ ts) = None
+
+abbrev pub after_elif : Step
+after_elif [] = None
+after_elif (Word token.ElifWord ∷ ts) = Some ts
+after_elif (_ ∷ ts) = None
+
+abbrev pub after_while : Step
+after_while [] = None
+after_while (Word token.WhileWord ∷ ts) = Some ts
+after_while (_ ∷ ts) = None
+
+abbrev pub after_not : Step
+after_not [] = None
+after_not (Word token.NotWord ∷ ts) = Some ts
+after_not (_ ∷ ts) = None
+
+abbrev pub after_else : Step
+after_else [] = None
+after_else (Word token.ElseWord ∷ ts) = Some ts
+after_else (_ ∷ ts) = None
+
+abbrev pub after_and : Step
+after_and [] = None
+after_and (Word token.AndWord ∷ ts) = Some ts
+after_and (_ ∷ ts) = None
+
+abbrev pub after_or : Step
+after_or [] = None
+after_or (Word token.OrWord ∷ ts) = Some ts
+after_or (_ ∷ ts) = None
+
+-- the terminals behind the word of an operator
+abbrev pub after_boolean : BooleanOperator → Step
+after_boolean tree.And = after_and
+after_boolean tree.Or = after_or
 
 -- ---- lists of items
 
@@ -108,19 +185,30 @@ separated_by add rest item separator close zero b ts = None
 separated_by add rest item separator close (suc k) b ts =
     then_read (item ts) (λ r. behind_item (separated_by add rest item separator close k) (add b r) (closing separator close (rest r)) (separator (rest r)))
 
+-- A tree, its depth, and the terminals after it: an expression that was read.
+abbrev pub Found : Type 0
+Found = Expr × ℕ × List Terminal
+
+abbrev pub Parsed : Type 0
+Parsed = Option Found
+
+-- Operands behind operators, and the greatest depth among them, as long as an operator follows. The number bounds them.
+abbrev pub chain_from : {O X : Type 0} → (O → Expr → X) → (O → List Terminal → Parsed) → (List X × ℕ → List Terminal → Option ((List X × ℕ) × List Terminal)) → List X × ℕ → List Terminal
+    → Option (O × List Terminal) → Option ((List X × ℕ) × List Terminal)
+chain_from make item go b ts None = Some (b, ts)
+chain_from make item go b ts (Some o) = then_read (item o.0 o.1) (λ r. go (b.0 ++ make o.0 r.0 ∷ [], max b.1 r.1) r.2)
+
+unfoldable pub chain_by : {O X : Type 0} → (O → Expr → X) → (List Terminal → Option (O × List Terminal)) → (O → List Terminal → Parsed) → ℕ → List X × ℕ → List Terminal
+    → Option ((List X × ℕ) × List Terminal)
+chain_by make next item zero b ts = None
+chain_by make next item (suc k) b ts = chain_from make item (chain_by make next item k) b ts (next ts)
+
 -- Items up to where they end. The number bounds them.
 unfoldable pub many_by : {B : Type 0} → (B → List Terminal → Option (B × List Terminal)) → (List Terminal → Bool) → ℕ → B → List Terminal → Option (B × List Terminal)
 many_by item ends zero b ts = None
 many_by item ends (suc k) b ts = if ends ts then Some (b, ts) else then_read (item b ts) (λ r. many_by item ends k r.0 r.1)
 
 -- ---- expressions
-
--- a tree, its depth, and the terminals after it
-abbrev pub Found : Type 0
-Found = Expr × ℕ × List Terminal
-
-abbrev pub Parsed : Type 0
-Parsed = Option Found
 
 abbrev pub Parser : Type 0
 Parser = ℕ → List Terminal → Parsed
@@ -144,17 +232,83 @@ arguments_by sub ts = arguments_from sub ts (after_close ts)
 abbrev pub within : ℕ → Expr → ℕ → List Terminal → Parsed
 within n e d ts = if nat_le d n then Some (e, d, ts) else None
 
+abbrev pub binary_by : Parser → ℕ → Expr → ℕ → BinaryOperator → List Terminal → Parsed
+binary_by sub n e d op ts = then_read (sub (right_level op) ts) (λ r. within n (Binary op e r.0) (max d r.1 + 1) r.2)
+
+abbrev pub call_by : Parser → ℕ → Expr → ℕ → List Terminal → Parsed
+call_by sub n e d ts = then_read (arguments_by sub ts) (λ r. within n (Call e (exprs_of r.0.0)) (max d r.0.1 + 1) r.1)
+
+-- a conditional expression, from behind its `if`
+abbrev pub other_by : Parser → ℕ → Expr → ℕ → Found → List Terminal → Parsed
+other_by sub n e d t ts = then_read (sub 1 ts) (λ o. within n (Conditional t.0 e o.0) (max d (max t.1 o.1) + 1) o.2)
+
+abbrev pub conditional_by : Parser → ℕ → Expr → ℕ → List Terminal → Parsed
+conditional_by sub n e d ts = then_read (sub 3 ts) (λ t. then_read (after_else t.2) (other_by sub n e d t))
+
+-- the operands of `and` or of `or` behind the first one, from the first word on
+abbrev pub with_word : BooleanOperator → Option (List Terminal) → Option (BooleanOperator × List Terminal)
+with_word op rest = option_map (λ ts. (op, ts)) rest
+
+abbrev pub operands_by : Parser → BooleanOperator → List Terminal → Option (Collected × List Terminal)
+operands_by sub op ts = chain_by (λ o e. e) (λ ts. with_word op (after_boolean op ts)) (λ o. sub (item_level o)) (length ts) ([], 0) ts
+
+abbrev pub boolean_by : Parser → ℕ → Expr → ℕ → BooleanOperator → List Terminal → Parsed
+boolean_by sub n e d op ts = then_read (operands_by sub op ts) (λ r. within n (Boolean op e (exprs_of r.0.0)) (max d r.0.1 + 1) r.1)
+
+-- an operator of a comparison, and the terminals behind it
+abbrev pub comparison_symbol : Symbol → Option ComparisonOperator
+comparison_symbol token.Less = Some tree.Less
+comparison_symbol token.Greater = Some tree.Greater
+comparison_symbol token.LessEqual = Some tree.LessEqual
+comparison_symbol token.GreaterEqual = Some tree.GreaterEqual
+comparison_symbol token.EqualEqual = Some tree.Equal
+comparison_symbol token.NotEqual = Some tree.NotEqual
+comparison_symbol _ = None
+
+abbrev pub identity_from : List Terminal → Option (List Terminal) → ComparisonOperator × List Terminal
+identity_from ts None = (tree.Is, ts)
+identity_from ts (Some rest) = (tree.IsNot, rest)
+
+abbrev pub comparison_at : List Terminal → Option (ComparisonOperator × List Terminal)
+comparison_at [] = None
+comparison_at (Sign s ∷ ts) = option_map (λ op. (op, ts)) (comparison_symbol s)
+comparison_at (Word token.IsWord ∷ ts) = Some (identity_from ts (after_not ts))
+comparison_at (_ ∷ ts) = None
+
+-- whether a tree of this depth is None, True or False, by one word alone
+abbrev pub is_singleton : Expr → ℕ → Bool
+is_singleton (Constant Nothing) d = nat_eq d 1
+is_singleton (Constant (Truth b)) d = nat_eq d 1
+is_singleton _ d = false
+
+abbrev pub compared_to : ComparisonOperator → Found → Parsed
+compared_to op r = if is_identity op && not (is_singleton r.0 r.1) then None else Some r
+
+abbrev pub compared_by : Parser → ComparisonOperator → List Terminal → Parsed
+compared_by sub op ts = then_read (sub 10 ts) (compared_to op)
+
+-- the operators of comparisons with the operands behind them, from the first operator on
+abbrev pub links_by : Parser → List Terminal → Option ((List Link × ℕ) × List Terminal)
+links_by sub ts = chain_by (λ o e. (o, e)) comparison_at (compared_by sub) (length ts) ([], 0) ts
+
+abbrev pub compare_by : Parser → ℕ → Expr → ℕ → List Terminal → Parsed
+compare_by sub n e d ts = then_read (links_by sub ts) (λ r. within n (Compare e (chain_of r.0.0)) (max d r.0.1 + 1) r.1)
+
+-- the operand with what continues it; the terminals begin with the one that does
 abbrev pub extended_by : Parser → ℕ → Expr → ℕ → List Terminal → Continuation → Parsed
-extended_by sub n e d ts (operator op) = then_read (sub (right_level op) ts) (λ r. within n (Binary op e r.0) (max d r.1 + 1) r.2)
-extended_by sub n e d ts arguments = then_read (arguments_by sub ts) (λ r. within n (Call e (exprs_of r.0.0)) (max d r.0.1 + 1) r.1)
+extended_by sub n e d ts (operator op) = binary_by sub n e d op (rest_of ts)
+extended_by sub n e d ts arguments = call_by sub n e d (rest_of ts)
+extended_by sub n e d ts comparison = compare_by sub n e d ts
+extended_by sub n e d ts (boolean op) = boolean_by sub n e d op ts
+extended_by sub n e d ts condition = conditional_by sub n e d (rest_of ts)
 extended_by sub n e d ts nothing = None
 
--- The operators and calls behind an operand, as far as they are of level l. The last number bounds them.
+-- What continues an operand, as far as it is of level l. The last number bounds it.
 unfoldable pub continued_by : Parser → ℕ → ℕ → ℕ → Expr → ℕ → List Terminal → Parsed
 continued_by sub n l zero e d ts = None
 continued_by sub n l (suc k) e d ts =
     if nat_lt (strength_at ts) l then Some (e, d, ts)
-    else then_read (extended_by sub n e d (rest_of ts) (continuation_at ts)) (λ r. continued_by sub n l k r.0 r.1 r.2)
+    else then_read (extended_by sub n e d ts (continuation_at ts)) (λ r. continued_by sub n l k r.0 r.1 r.2)
 
 -- the tree in round brackets, where the closed one follows
 abbrev pub closed : Expr → ℕ → Option (List Terminal) → Parsed
@@ -167,25 +321,42 @@ strings_by text [] = Some (text, [])
 strings_by text (STRING literal ∷ ts) = then_read (value_of_str literal) (λ s. strings_by (text ++ s) ts)
 strings_by text (t ∷ ts) = Some (text, t ∷ ts)
 
-abbrev pub unary_by : Parser → UnaryOperator → List Terminal → Parsed
-unary_by sub op ts = then_read (sub 16 ts) (λ r. Some (Unary op r.0, r.1 + 1, r.2))
+-- the operator that stands before an operand
+abbrev pub prefix_at : List Terminal → Option UnaryOperator
+prefix_at [] = None
+prefix_at (Sign token.Plus ∷ ts) = Some tree.Plus
+prefix_at (Sign token.Minus ∷ ts) = Some tree.Minus
+prefix_at (Sign token.Tilde ∷ ts) = Some tree.Invert
+prefix_at (Word token.NotWord ∷ ts) = Some tree.Not
+prefix_at (_ ∷ ts) = None
+
+abbrev pub unary_by : Parser → ℕ → UnaryOperator → List Terminal → Parsed
+unary_by sub l op ts = if nat_le l (prefix_level op) then then_read (sub (prefix_level op) ts) (λ r. Some (Unary op r.0, r.1 + 1, r.2)) else None
 
 abbrev pub bracketed_by : Parser → List Terminal → Parsed
 bracketed_by sub ts = then_read (sub 1 ts) (λ r. closed r.0 r.1 (after_close r.2))
 
-abbrev pub operand_by : Parser → List Terminal → Parsed
-operand_by sub [] = None
-operand_by sub (NAME x ∷ ts) = Some (Name x, 1, ts)
-operand_by sub (NUMBER digits ∷ ts) = then_read (value_of_int digits) (λ n. Some (Constant (Int n), 1, ts))
-operand_by sub (STRING literal ∷ ts) = then_read (strings_by [] (STRING literal ∷ ts)) (λ r. Some (Constant (Str r.0), 1, r.1))
-operand_by sub (Sign token.Plus ∷ ts) = unary_by sub tree.Plus ts
-operand_by sub (Sign token.Minus ∷ ts) = unary_by sub tree.Minus ts
-operand_by sub (Sign token.LeftParenthesis ∷ ts) = bracketed_by sub ts
-operand_by sub (_ ∷ ts) = None
+abbrev pub atom_by : Parser → List Terminal → Parsed
+atom_by sub [] = None
+atom_by sub (NAME x ∷ ts) = Some (Name x, 1, ts)
+atom_by sub (NUMBER digits ∷ ts) = then_read (value_of_int digits) (λ n. Some (Constant (Int n), 1, ts))
+atom_by sub (STRING literal ∷ ts) = then_read (strings_by [] (STRING literal ∷ ts)) (λ r. Some (Constant (Str r.0), 1, r.1))
+atom_by sub (Word token.NoneWord ∷ ts) = Some (Constant Nothing, 1, ts)
+atom_by sub (Word token.TrueWord ∷ ts) = Some (Constant (Truth true), 1, ts)
+atom_by sub (Word token.FalseWord ∷ ts) = Some (Constant (Truth false), 1, ts)
+atom_by sub (Sign token.LeftParenthesis ∷ ts) = bracketed_by sub ts
+atom_by sub (_ ∷ ts) = None
+
+abbrev pub operand_from : Parser → ℕ → List Terminal → Option UnaryOperator → Parsed
+operand_from sub l ts (Some op) = unary_by sub l op (rest_of ts)
+operand_from sub l ts None = atom_by sub ts
+
+abbrev pub operand_by : Parser → ℕ → List Terminal → Parsed
+operand_by sub l ts = operand_from sub l ts (prefix_at ts)
 
 -- an expression of level l and of at most this depth, given the parser of its parts
 abbrev pub expression_by : Parser → ℕ → Parser
-expression_by sub n l ts = then_read (operand_by sub ts) (λ r. continued_by sub n l n r.0 r.1 r.2)
+expression_by sub n l ts = then_read (operand_by sub l ts) (λ r. continued_by sub n l n r.0 r.1 r.2)
 
 unfoldable pub expression_at : ℕ → Parser
 expression_at zero l ts = None
@@ -193,21 +364,134 @@ expression_at (suc n) l ts = expression_by (expression_at n) (suc n) l ts
 
 -- ---- statements
 
+-- the assignment that a sign is: a plain one, or an augmented one with its operator
+abbrev pub assignment_symbol : Symbol → Option (Option BinaryOperator)
+assignment_symbol token.Equal = Some None
+assignment_symbol token.BarEqual = Some (Some BitOr)
+assignment_symbol token.CaretEqual = Some (Some BitXor)
+assignment_symbol token.AmpersandEqual = Some (Some BitAnd)
+assignment_symbol token.LeftShiftEqual = Some (Some ShiftLeft)
+assignment_symbol token.RightShiftEqual = Some (Some ShiftRight)
+assignment_symbol token.PlusEqual = Some (Some Add)
+assignment_symbol token.MinusEqual = Some (Some Subtract)
+assignment_symbol token.StarEqual = Some (Some Multiply)
+assignment_symbol token.DoubleSlashEqual = Some (Some FloorDivide)
+assignment_symbol token.PercentEqual = Some (Some Modulo)
+assignment_symbol token.DoubleStarEqual = Some (Some Power)
+assignment_symbol _ = None
+
+abbrev pub assignment_at : List Terminal → Option (Option BinaryOperator × List Terminal)
+assignment_at [] = None
+assignment_at (Sign s ∷ ts) = option_map (λ op. (op, ts)) (assignment_symbol s)
+assignment_at (_ ∷ ts) = None
+
+abbrev pub assigned : Text → Option BinaryOperator → Expr → Stmt
+assigned x None e = Assign x e
+assigned x (Some op) e = Augment x op e
+
 -- what an expression begins: an assignment to it, or itself
-abbrev pub statement_from : Parser → List Terminal → Expr → Option (List Terminal) → Option (Stmt × List Terminal)
+abbrev pub statement_from : Parser → List Terminal → Expr → Option (Option BinaryOperator × List Terminal) → Option (Stmt × List Terminal)
 statement_from sub ts e None = Some (Evaluate e, ts)
-statement_from sub ts (Name x) (Some rest) = then_read (sub 1 rest) (λ r. Some (Assign x r.0, r.2))
-statement_from sub ts _ (Some rest) = None
+statement_from sub ts (Name x) (Some a) = then_read (sub 1 a.1) (λ r. Some (assigned x a.0 r.0, r.2))
+statement_from sub ts _ (Some a) = None
+
+abbrev pub spelled_by : Parser → List Terminal → Option (Stmt × List Terminal)
+spelled_by sub ts = then_read (sub 1 ts) (λ r. statement_from sub r.2 r.0 (assignment_at r.2))
+
+-- the statement that is one word
+abbrev pub word_statement : List Terminal → Option Stmt
+word_statement [] = None
+word_statement (Word token.PassWord ∷ ts) = Some Pass
+word_statement (Word token.BreakWord ∷ ts) = Some Break
+word_statement (Word token.ContinueWord ∷ ts) = Some Continue
+word_statement (_ ∷ ts) = None
+
+abbrev pub small_from : Parser → List Terminal → Option Stmt → Option (Stmt × List Terminal)
+small_from sub ts (Some s) = Some (s, rest_of ts)
+small_from sub ts None = spelled_by sub ts
 
 abbrev pub statement_by : Parser → List Terminal → Option (Stmt × List Terminal)
-statement_by sub ts = then_read (sub 1 ts) (λ r. statement_from sub r.2 r.0 (after_equal r.2))
+statement_by sub ts = small_from sub ts (word_statement ts)
 
 abbrev pub with_statement : List Stmt → Stmt × List Terminal → List Stmt
 with_statement body r = body ++ r.0 ∷ []
 
--- a line's statements, behind those before
-abbrev pub line_by : Parser → List Stmt → List Terminal → Option (List Stmt × List Terminal)
+-- statements behind those before, and the terminals after them
+abbrev pub LineParser : Type 0
+LineParser = List Stmt → List Terminal → Option (List Stmt × List Terminal)
+
+-- a line's statements
+abbrev pub line_by : Parser → LineParser
 line_by sub body ts = separated_by with_statement (λ r. r.1) (statement_by sub) after_semicolon after_newline (length ts) body ts
+
+abbrev pub simple_line : LineParser
+simple_line = line_by (expression_at max_depth)
+
+-- ---- compound statements
+
+abbrev pub is_none : Option (List Terminal) → Bool
+is_none None = true
+is_none (Some ts) = false
+
+abbrev pub is_dedent : List Terminal → Bool
+is_dedent ts = not (is_none (after_dedent ts))
+
+abbrev pub indented_by : LineParser → List Terminal → Option (List Stmt × List Terminal)
+indented_by line ts = if is_dedent ts then None else then_read (many_by line is_dedent (length ts) [] ts) (λ r. Some (r.0, rest_of r.1))
+
+abbrev pub suite_from : LineParser → List Terminal → Option (List Terminal) → Option (List Stmt × List Terminal)
+suite_from line ts None = simple_line [] ts
+suite_from line ts (Some rest) = then_read (after_indent rest) (indented_by line)
+
+abbrev pub suite_by : LineParser → List Terminal → Option (List Stmt × List Terminal)
+suite_by line ts = then_read (after_colon ts) (λ rest. suite_from line rest (after_newline rest))
+
+-- a test and the suite behind it
+abbrev pub branch_by : LineParser → List Terminal → Option (Branch × List Terminal)
+branch_by line ts = then_read (expression_at max_depth 1 ts) (λ t. then_read (suite_by line t.2) (λ b. Some ((t.0, stmts_of b.0), b.1)))
+
+abbrev pub with_branch : List Branch → Branch × List Terminal → Option (List Branch × List Terminal)
+with_branch bs r = Some (bs ++ r.0 ∷ [], r.1)
+
+abbrev pub elif_by : LineParser → List Branch → List Terminal → Option (List Branch × List Terminal)
+elif_by line bs ts = then_read (after_elif ts) (λ rest. then_read (branch_by line rest) (with_branch bs))
+
+abbrev pub no_elif : List Terminal → Bool
+no_elif ts = is_none (after_elif ts)
+
+abbrev pub elifs_by : LineParser → List Terminal → Option (List Branch × List Terminal)
+elifs_by line ts = many_by (elif_by line) no_elif (length ts) [] ts
+
+abbrev pub otherwise_from : LineParser → List Terminal → Option (List Terminal) → Option (List Stmt × List Terminal)
+otherwise_from line ts None = Some ([], ts)
+otherwise_from line ts (Some rest) = suite_by line rest
+
+abbrev pub otherwise_by : LineParser → List Terminal → Option (List Stmt × List Terminal)
+otherwise_by line ts = otherwise_from line ts (after_else ts)
+
+abbrev pub joined_if : Branch → List Branch → List Stmt × List Terminal → Option (Stmt × List Terminal)
+joined_if b elifs o = Some (If b.0 b.1 (elifs_of elifs (stmts_of o.0)), o.1)
+
+-- from behind the `if`
+abbrev pub if_by : LineParser → List Terminal → Option (Stmt × List Terminal)
+if_by line ts = then_read (branch_by line ts) (λ b. then_read (elifs_by line b.1) (λ es. then_read (otherwise_by line es.1) (joined_if b.0 es.0)))
+
+-- from behind the `while`
+abbrev pub while_by : LineParser → List Terminal → Option (Stmt × List Terminal)
+while_by line ts = then_read (branch_by line ts) (λ b. Some (While b.0.0 b.0.1 NoStmts, b.1))
+
+abbrev pub with_compound : List Stmt → Stmt × List Terminal → Option (List Stmt × List Terminal)
+with_compound body r = Some (body ++ r.0 ∷ [], r.1)
+
+abbrev pub block_from : LineParser → List Stmt → List Terminal → Option (List Terminal) → Option (List Terminal) → Option (List Stmt × List Terminal)
+block_from line body ts (Some rest) w = then_read (if_by line rest) (with_compound body)
+block_from line body ts None (Some rest) = then_read (while_by line rest) (with_compound body)
+block_from line body ts None None = simple_line body ts
+
+-- A line, or a compound statement, in which compound statements are nested this deep at most.
+unfoldable pub block_at : ℕ → LineParser
+block_at zero body ts = simple_line body ts
+block_at (suc n) body ts = block_from (block_at n) body ts (after_if ts) (after_while ts)
 
 -- whether the terminals are the last one
 abbrev pub is_end : List Terminal → Bool
@@ -216,4 +500,4 @@ is_end (ENDMARKER ∷ []) = true
 is_end _ = false
 
 abbrev pub module_by : List Terminal → Option (List Stmt × List Terminal)
-module_by ts = many_by (line_by (expression_at max_depth)) is_end (length ts) [] ts
+module_by ts = many_by (block_at max_nesting) is_end (length ts) [] ts

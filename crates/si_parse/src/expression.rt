@@ -1,100 +1,27 @@
 // Expressions, by precedence climbing with one token of look-ahead.
 
-ghost use Rattle.std.specs.Prelude.{◌≡◌, ℕ, ◌+◌, ◌-◌, ◌*◌, ◌<◌, ◌≤◌, [], map, length, IfOk};
-ghost use Rattle.si_semantics.specs.Grammar.{left_level, right_level};
-ghost use Rattle.si_token.specs.Views.{symbol_of};
-ghost use Rattle.si_parse.specs.Trees.{binary_of, unary_of, expr_of};
-ghost use Rattle.si_parse.specs.Reading.{role_of, continuation_at, strength_of, rest_of, within, strings_by, operand_by, unary_by, bracketed_by, continued_by, extended_by, arguments_by, expression_at};
+ghost use Rattle.std.specs.Prelude.{◌≡◌, ℕ, ◌+◌, ◌-◌, ◌*◌, ◌<◌, ◌≤◌, [], map, length, option_map, IfOk};
+ghost use Rattle.si_semantics.specs.Grammar.{is_identity};
+ghost use Rattle.si_parse.specs.Trees.{binary_of, unary_of, boolean_of, comparison_of, expr_of, link_of};
+ghost use Rattle.si_parse.specs.Reading.{rest_of, within, strings_by, is_singleton, compared_by, operand_by, atom_by, unary_by, bracketed_by, continued_by, binary_by, call_by, compare_by, boolean_by, conditional_by, extended_by, arguments_by, operands_by, links_by, expression_at};
 ghost use Rattle.si_parse.specs.Gives.{Gives, from, continuation_view};
 
 use crate::fault::ParseFault;
 use crate::literal::str_value;
-use crate::lookahead::{after_arguments, after_close, after_comma, line_at, token_at};
-use crate::syntax::{BinaryOperator, Expr, UnaryOperator};
+use crate::lookahead::{
+    after_arguments, after_boolean, after_close, after_comma, after_else, line_at, token_at,
+};
+use crate::precedence::{
+    ANY, COMPARED, Continuation, DISJUNCTION, comparison_at, item_level, prefix_at, prefix_level,
+    right_level, strength, what_follows,
+};
+use crate::syntax::{BinaryOperator, BooleanOperator, ComparisonOperator, Expr, UnaryOperator};
 use si_plain::Text;
-use si_token::{Symbol, Token, TokenKind, int_value};
+use si_token::{Keyword, Symbol, Token, TokenKind, int_value};
 use std::alloc::Global;
 
 // An expression with its depth, and the place behind it.
 pub(crate) type Read = Result<(Expr, u32, usize), ParseFault>;
-
-// The level of any expression, of a factor (an operand of a unary operator), and of a primary (a callee).
-pub(crate) const ANY: u32 = 1;
-
-const FACTOR: u32 = 16;
-
-const PRIMARY: u32 = 18;
-
-// What a token does behind an operand.
-#[derive(Clone, Copy)]
-enum Continuation {
-    Operator(BinaryOperator),
-    Arguments,
-    Nothing,
-}
-
-// The level that the left operand of an operator has at least.
-fn left_level(operator: BinaryOperator) -> u32
-    ensures { result ≡ left_level (binary_of operator) }
-{
-    match operator {
-        BinaryOperator::Add | BinaryOperator::Subtract => 14,
-        BinaryOperator::Multiply | BinaryOperator::FloorDivide | BinaryOperator::Modulo => 15,
-        BinaryOperator::Power => PRIMARY,
-    }
-}
-
-// The level that its right operand has at least.
-fn right_level(operator: BinaryOperator) -> u32
-    ensures { result ≡ right_level (binary_of operator) }
-{
-    match operator {
-        BinaryOperator::Add | BinaryOperator::Subtract => 15,
-        BinaryOperator::Multiply | BinaryOperator::FloorDivide | BinaryOperator::Modulo => 16,
-        BinaryOperator::Power => FACTOR,
-    }
-}
-
-// What a symbol does behind an operand.
-fn role_of(symbol: Symbol) -> Continuation
-    ensures { continuation_view result ≡ role_of (symbol_of symbol) }
-{
-    match symbol {
-        Symbol::Plus => Continuation::Operator(BinaryOperator::Add),
-        Symbol::Minus => Continuation::Operator(BinaryOperator::Subtract),
-        Symbol::Star => Continuation::Operator(BinaryOperator::Multiply),
-        Symbol::DoubleSlash => Continuation::Operator(BinaryOperator::FloorDivide),
-        Symbol::Percent => Continuation::Operator(BinaryOperator::Modulo),
-        Symbol::DoubleStar => Continuation::Operator(BinaryOperator::Power),
-        Symbol::LeftParenthesis => Continuation::Arguments,
-        _ => Continuation::Nothing,
-    }
-}
-
-// What the token at the place does behind an operand, and the place behind it.
-fn what_follows(tokens: &[Token], at: usize) -> (Continuation, usize)
-    ensures role { continuation_view result.0 ≡ continuation_at (from tokens.now at) }
-    ensures behind { from tokens.now result.1 ≡ rest_of (from tokens.now at) }
-{
-    let Some(token) = token_at(tokens, at) else {
-        return (Continuation::Nothing, at);
-    };
-    match token.kind {
-        TokenKind::Symbol(symbol) => (role_of(symbol), at + 1),
-        _ => (Continuation::Nothing, at + 1),
-    }
-}
-
-// The level at which it still continues an expression, or 0.
-fn strength(continuation: Continuation) -> u32
-    ensures { result ≡ strength_of (continuation_view continuation) }
-{
-    match continuation {
-        Continuation::Operator(operator) => left_level(operator),
-        Continuation::Arguments => PRIMARY,
-        Continuation::Nothing => 0,
-    }
-}
 
 // The tree, where it is no deeper than the limit.
 fn within(limit: u32, tree: Expr, depth: u32, tokens: &[Token], at: usize) -> Read
@@ -143,15 +70,28 @@ pub(crate) fn expression(
     if budget == 0 {
         return Err(ParseFault::Syntax(line_at(tokens, at)));
     }
-    let (left, depth, at) = operand(alloc, budget - 1, tokens, at)?;
+    let (left, depth, at) = operand(alloc, budget - 1, level, tokens, at)?;
     continued(alloc, budget - 1, level, left, depth, tokens, at)
 }
 
-// A name, a literal, an operator before its operand, or an expression in round brackets.
+// An operator before its operand, or an operand without one.
 #[cycle(expressions)]
-fn operand(alloc: Global, parts: u32, tokens: &[Token], at: usize) -> Read
+fn operand(alloc: Global, parts: u32, level: u32, tokens: &[Token], at: usize) -> Read
     requires { parts < 999 }
-    ensures reads { Gives (λ x. (expr_of x.0, x.1, from tokens.now x.2)) result (operand_by (expression_at parts) (from tokens.now at)) }
+    ensures reads { Gives (λ x. (expr_of x.0, x.1, from tokens.now x.2)) result (operand_by (expression_at parts) level (from tokens.now at)) }
+    ensures shallow { IfOk result (λ x. x.1 ≤ parts + 1) }
+{
+    match prefix_at(tokens, at) {
+        Some((operator, behind)) => unary(alloc, parts, level, operator, tokens, behind),
+        None => atom(alloc, parts, tokens, at),
+    }
+}
+
+// A name, a literal, a word that is one, or an expression in round brackets.
+#[cycle(expressions)]
+fn atom(alloc: Global, parts: u32, tokens: &[Token], at: usize) -> Read
+    requires { parts < 999 }
+    ensures reads { Gives (λ x. (expr_of x.0, x.1, from tokens.now x.2)) result (atom_by (expression_at parts) (from tokens.now at)) }
     ensures shallow { IfOk result (λ x. x.1 ≤ parts + 1) }
 {
     let Some(token) = token_at(tokens, at) else {
@@ -167,23 +107,32 @@ fn operand(alloc: Global, parts: u32, tokens: &[Token], at: usize) -> Read
             let (text, at) = strings(alloc, tokens, at)?;
             Ok((Expr::Str(text), 1, at))
         }
-        TokenKind::Symbol(Symbol::Plus) => unary(alloc, parts, UnaryOperator::Plus, tokens, at + 1),
-        TokenKind::Symbol(Symbol::Minus) => {
-            unary(alloc, parts, UnaryOperator::Minus, tokens, at + 1)
-        }
+        TokenKind::Keyword(Keyword::None) => Ok((Expr::Nothing, 1, at + 1)),
+        TokenKind::Keyword(Keyword::True) => Ok((Expr::Truth(true), 1, at + 1)),
+        TokenKind::Keyword(Keyword::False) => Ok((Expr::Truth(false), 1, at + 1)),
         TokenKind::Symbol(Symbol::LeftParenthesis) => bracketed(alloc, parts, tokens, at + 1),
         _ => Err(ParseFault::Syntax(token.span.line)),
     }
 }
 
-// The operator with its operand, which begins at the place.
+// The operator with its operand, which begins at the place, where an expression of the level may stand.
 #[cycle(expressions)]
-fn unary(alloc: Global, parts: u32, operator: UnaryOperator, tokens: &[Token], at: usize) -> Read
+fn unary(
+    alloc: Global,
+    parts: u32,
+    level: u32,
+    operator: UnaryOperator,
+    tokens: &[Token],
+    at: usize,
+) -> Read
     requires { parts < 999 }
-    ensures reads { Gives (λ x. (expr_of x.0, x.1, from tokens.now x.2)) result (unary_by (expression_at parts) (unary_of operator) (from tokens.now at)) }
+    ensures reads { Gives (λ x. (expr_of x.0, x.1, from tokens.now x.2)) result (unary_by (expression_at parts) level (unary_of operator) (from tokens.now at)) }
     ensures shallow { IfOk result (λ x. x.1 ≤ parts + 1) }
 {
-    let (inner, depth, at) = expression(alloc, parts, FACTOR, tokens, at)?;
+    if prefix_level(operator) < level {
+        return Err(ParseFault::Syntax(line_at(tokens, at)));
+    }
+    let (inner, depth, at) = expression(alloc, parts, prefix_level(operator), tokens, at)?;
     Ok((
         Expr::Unary(operator, Box::new(alloc, inner)?),
         depth + 1,
@@ -231,7 +180,7 @@ fn continued(
             return Ok((left, depth, at));
         }
         let (longer, deeper, behind) = extended(
-            alloc, parts, left, depth, next, tokens, after_next,
+            alloc, parts, left, depth, next, tokens, at, after_next,
         )?;
         left = longer;
         depth = deeper;
@@ -240,7 +189,7 @@ fn continued(
     Err(ParseFault::Syntax(line_at(tokens, at)))
 }
 
-// The operand with one operator or call behind it; the place is the one behind the token that continues it.
+// The operand with what continues it; `at` is the place of the token that does, and `behind` the one behind it.
 #[cycle(expressions)]
 fn extended(
     alloc: Global,
@@ -250,31 +199,127 @@ fn extended(
     continuation: Continuation,
     tokens: &[Token],
     at: usize,
+    behind: usize,
 ) -> Read
     requires limit { parts < 999 }
     requires shallow { depth ≤ parts + 1 }
+    requires next { from tokens.now behind ≡ rest_of (from tokens.now at) }
     ensures reads { Gives (λ x. (expr_of x.0, x.1, from tokens.now x.2)) result (extended_by (expression_at parts) (parts + 1) (expr_of left) depth (from tokens.now at) (continuation_view continuation)) }
     ensures shallow { IfOk result (λ x. x.1 ≤ parts + 1) }
 {
     match continuation {
-        Continuation::Operator(operator) => {
-            let (right, right_depth, at) = expression(
-                alloc,
-                parts,
-                right_level(operator),
-                tokens,
-                at,
-            )?;
-            let tree = Expr::Binary(operator, Box::new(alloc, left)?, Box::new(alloc, right)?);
-            within(parts + 1, tree, depth.max(right_depth) + 1, tokens, at)
-        }
-        Continuation::Arguments => {
-            let (args, args_depth, at) = arguments(alloc, parts, tokens, at)?;
-            let tree = Expr::Call(Box::new(alloc, left)?, args);
-            within(parts + 1, tree, depth.max(args_depth) + 1, tokens, at)
-        }
+        Continuation::Operator(operator) => binary(
+            alloc, parts, left, depth, operator, tokens, behind,
+        ),
+        Continuation::Arguments => call(alloc, parts, left, depth, tokens, behind),
+        Continuation::Comparison => compare(alloc, parts, left, depth, tokens, at),
+        Continuation::Boolean(operator) => boolean(alloc, parts, left, depth, operator, tokens, at),
+        Continuation::Condition => conditional(alloc, parts, left, depth, tokens, behind),
         Continuation::Nothing => Err(ParseFault::Syntax(line_at(tokens, at))),
     }
+}
+
+// The operand with an operator and its right operand, which begins at the place.
+#[cycle(expressions)]
+fn binary(
+    alloc: Global,
+    parts: u32,
+    left: Expr,
+    depth: u32,
+    operator: BinaryOperator,
+    tokens: &[Token],
+    at: usize,
+) -> Read
+    requires limit { parts < 999 }
+    requires shallow { depth ≤ parts + 1 }
+    ensures reads { Gives (λ x. (expr_of x.0, x.1, from tokens.now x.2)) result (binary_by (expression_at parts) (parts + 1) (expr_of left) depth (binary_of operator) (from tokens.now at)) }
+    ensures shallow { IfOk result (λ x. x.1 ≤ parts + 1) }
+{
+    let (right, right_depth, at) = expression(alloc, parts, right_level(operator), tokens, at)?;
+    let tree = Expr::Binary(operator, Box::new(alloc, left)?, Box::new(alloc, right)?);
+    within(parts + 1, tree, depth.max(right_depth) + 1, tokens, at)
+}
+
+// The callee with its arguments, from behind the open bracket.
+#[cycle(expressions)]
+fn call(alloc: Global, parts: u32, left: Expr, depth: u32, tokens: &[Token], at: usize) -> Read
+    requires limit { parts < 999 }
+    requires shallow { depth ≤ parts + 1 }
+    ensures reads { Gives (λ x. (expr_of x.0, x.1, from tokens.now x.2)) result (call_by (expression_at parts) (parts + 1) (expr_of left) depth (from tokens.now at)) }
+    ensures shallow { IfOk result (λ x. x.1 ≤ parts + 1) }
+{
+    let (args, args_depth, at) = arguments(alloc, parts, tokens, at)?;
+    let tree = Expr::Call(Box::new(alloc, left)?, args);
+    within(parts + 1, tree, depth.max(args_depth) + 1, tokens, at)
+}
+
+// The operand with a chain of comparisons, whose first operator stands at the place.
+#[cycle(expressions)]
+#[tactic(auto, using(crate::proofs::Forms::compare_is))]
+fn compare(alloc: Global, parts: u32, left: Expr, depth: u32, tokens: &[Token], at: usize) -> Read
+    requires limit { parts < 999 }
+    requires shallow { depth ≤ parts + 1 }
+    ensures reads { Gives (λ x. (expr_of x.0, x.1, from tokens.now x.2)) result (compare_by (expression_at parts) (parts + 1) (expr_of left) depth (from tokens.now at)) }
+    ensures shallow { IfOk result (λ x. x.1 ≤ parts + 1) }
+{
+    let (links, links_depth, at) = links(alloc, parts, tokens, at)?;
+    let tree = Expr::Compare(Box::new(alloc, left)?, links);
+    within(parts + 1, tree, depth.max(links_depth) + 1, tokens, at)
+}
+
+// The operand with others behind it, each behind the word of the operator, whose first one stands at the place.
+#[cycle(expressions)]
+fn boolean(
+    alloc: Global,
+    parts: u32,
+    left: Expr,
+    depth: u32,
+    operator: BooleanOperator,
+    tokens: &[Token],
+    at: usize,
+) -> Read
+    requires limit { parts < 999 }
+    requires shallow { depth ≤ parts + 1 }
+    ensures reads { Gives (λ x. (expr_of x.0, x.1, from tokens.now x.2)) result (boolean_by (expression_at parts) (parts + 1) (expr_of left) depth (boolean_of operator) (from tokens.now at)) }
+    ensures shallow { IfOk result (λ x. x.1 ≤ parts + 1) }
+{
+    let (others, others_depth, at) = operands(alloc, parts, operator, tokens, at)?;
+    let tree = Expr::Boolean(operator, Box::new(alloc, left)?, others);
+    within(parts + 1, tree, depth.max(others_depth) + 1, tokens, at)
+}
+
+// The value with its test, which begins at the place, behind an `if`, and the other value.
+#[cycle(expressions)]
+fn conditional(
+    alloc: Global,
+    parts: u32,
+    left: Expr,
+    depth: u32,
+    tokens: &[Token],
+    at: usize,
+) -> Read
+    requires limit { parts < 999 }
+    requires shallow { depth ≤ parts + 1 }
+    ensures reads { Gives (λ x. (expr_of x.0, x.1, from tokens.now x.2)) result (conditional_by (expression_at parts) (parts + 1) (expr_of left) depth (from tokens.now at)) }
+    ensures shallow { IfOk result (λ x. x.1 ≤ parts + 1) }
+{
+    let (test, test_depth, at) = expression(alloc, parts, DISJUNCTION, tokens, at)?;
+    let Some(behind) = after_else(tokens, at) else {
+        return Err(ParseFault::Syntax(line_at(tokens, at)));
+    };
+    let (other, other_depth, at) = expression(alloc, parts, ANY, tokens, behind)?;
+    let tree = Expr::Conditional(
+        Box::new(alloc, test)?,
+        Box::new(alloc, left)?,
+        Box::new(alloc, other)?,
+    );
+    within(
+        parts + 1,
+        tree,
+        depth.max(test_depth.max(other_depth)) + 1,
+        tokens,
+        at,
+    )
 }
 
 // The arguments behind an open bracket, up to the closed one, and the greatest depth among them.
@@ -307,6 +352,100 @@ fn arguments(
             return Err(ParseFault::Syntax(line_at(tokens, behind)));
         };
         at = more;
+    }
+    Err(ParseFault::Syntax(line_at(tokens, at)))
+}
+
+// The operands behind the first one, each behind the word of the operator, and the greatest depth among them.
+#[cycle(expressions)]
+#[tactic(auto, using(crate::proofs::Steps::chain_by_zero))]
+fn operands(
+    alloc: Global,
+    parts: u32,
+    operator: BooleanOperator,
+    tokens: &[Token],
+    start: usize,
+) -> Result<(Vec<Expr>, u32, usize), ParseFault>
+    requires { parts < 999 }
+    ensures reads { Gives (λ x. ((map expr_of x.0.items, x.1), from tokens.now x.2)) result (operands_by (expression_at parts) (boolean_of operator) (from tokens.now start)) }
+    ensures shallow { IfOk result (λ x. x.1 ≤ parts) }
+{
+    let mut others = Vec::new(alloc);
+    let mut depth: u32 = 0;
+    let mut at = start;
+    for _turn in start..tokens.len() {
+        let Some(behind) = after_boolean(operator, tokens, at) else {
+            return Ok((others, depth, at));
+        };
+        let (other, other_depth, end) = expression(
+            alloc,
+            parts,
+            item_level(operator),
+            tokens,
+            behind,
+        )?;
+        others.push(other)?;
+        depth = depth.max(other_depth);
+        at = end;
+    }
+    Err(ParseFault::Syntax(line_at(tokens, at)))
+}
+
+// Whether the tree of this depth is None, True or False, by one word alone.
+fn is_singleton(tree: &Expr, depth: u32) -> bool
+    ensures { result ≡ is_singleton (expr_of tree.now) depth }
+{
+    match tree {
+        Expr::Nothing | Expr::Truth(_) => depth == 1,
+        _ => false,
+    }
+}
+
+// The operand of a comparison, which begins at the place. Behind `is` it is one word.
+#[cycle(expressions)]
+fn compared(
+    alloc: Global,
+    parts: u32,
+    operator: ComparisonOperator,
+    tokens: &[Token],
+    at: usize,
+) -> Read
+    requires { parts < 999 }
+    ensures reads { Gives (λ x. (expr_of x.0, x.1, from tokens.now x.2)) result (compared_by (expression_at parts) (comparison_of operator) (from tokens.now at)) }
+    ensures shallow { IfOk result (λ x. x.1 ≤ parts) }
+{
+    let (tree, depth, end) = expression(alloc, parts, COMPARED, tokens, at)?;
+    let names_one = matches!(operator, ComparisonOperator::Is | ComparisonOperator::IsNot);
+    if names_one && !is_singleton(&tree, depth) {
+        return Err(ParseFault::Syntax(line_at(tokens, at)));
+    }
+    Ok((tree, depth, end))
+}
+
+// The operators of a chain of comparisons with their operands, and the greatest depth among them.
+#[cycle(expressions)]
+#[tactic(auto, using(crate::proofs::Steps::chain_by_zero))]
+fn links(
+    alloc: Global,
+    parts: u32,
+    tokens: &[Token],
+    start: usize,
+) -> Result<(Vec<(ComparisonOperator, Expr)>, u32, usize), ParseFault>
+    requires { parts < 999 }
+    ensures reads { Gives (λ x. ((map link_of x.0.items, x.1), from tokens.now x.2)) result (links_by (expression_at parts) (from tokens.now start)) }
+    ensures shallow { IfOk result (λ x. x.1 ≤ parts) }
+{
+    let mut links = Vec::new(alloc);
+    let mut depth: u32 = 0;
+    let mut at = start;
+    for _turn in start..tokens.len() {
+        let Some((operator, behind)) = comparison_at(tokens, at) else {
+            return Ok((links, depth, at));
+        };
+        let (operand, operand_depth, end) = compared(alloc, parts, operator, tokens, behind)?;
+        links.push((operator, operand))?;
+        depth = depth.max(operand_depth);
+        at = end;
     }
     Err(ParseFault::Syntax(line_at(tokens, at)))
 }

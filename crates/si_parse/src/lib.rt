@@ -4,21 +4,25 @@
 // is none (or where memory is refused).
 //
 // In reading order: `syntax` has the trees, `fault` why a text is refused, `literal` the values of literals,
-// `lookahead` the token at a place, `expression` reads an expression by precedence climbing, `statement` lines of
+// `lookahead` the token at a place, `precedence` what continues an expression, `expression` reads an expression by precedence climbing, `statement` lines of
 // statements, and `parser` a whole text.
 #![tactic(auto)]
 
+pub mod block;
 pub mod expression;
 pub mod fault;
 pub mod literal;
 pub mod lookahead;
 pub mod parser;
+pub mod precedence;
 pub mod statement;
 pub mod syntax;
 
 pub use fault::ParseFault;
 pub use parser::parse;
-pub use syntax::{BinaryOperator, Expr, Module, Stmt, UnaryOperator};
+pub use syntax::{
+    BinaryOperator, BooleanOperator, ComparisonOperator, Expr, Module, Stmt, UnaryOperator,
+};
 
 #[cfg(test)]
 mod tests;

@@ -3,10 +3,12 @@
 ghost use Rattle.std.specs.Prelude.{◌≡◌, ℕ, ◌+◌, ◌<◌, ◌≤◌, length, [], ◌∷◌, option_map, MatchOption, OnSome};
 ghost use Rattle.si_semantics.specs.Grammar.{terminal_of};
 ghost use Rattle.si_token.specs.Views.{token_of};
-ghost use Rattle.si_parse.specs.Reading.{after_close, after_comma, after_equal, after_newline, after_semicolon, closing, is_end};
+ghost use Rattle.si_parse.specs.Trees.{boolean_of};
+ghost use Rattle.si_parse.specs.Reading.{after_close, after_comma, after_newline, after_colon, after_indent, after_dedent, after_if, after_elif, after_while, after_semicolon, after_not, after_else, after_and, after_or, after_boolean, closing, is_end};
 ghost use Rattle.si_parse.specs.Gives.{from};
 
-use si_token::{Symbol, Token, TokenKind};
+use crate::syntax::BooleanOperator;
+use si_token::{Keyword, Symbol, Token, TokenKind};
 
 // The token at the place.
 pub(crate) fn token_at<'a>(tokens: &[Token<'a>], at: usize) -> Option<Token<'a>>
@@ -61,17 +63,6 @@ pub(crate) fn after_semicolon(tokens: &[Token], at: usize) -> Option<usize>
     }
 }
 
-// The place behind a `=`, where one stands at the place.
-pub(crate) fn after_equal(tokens: &[Token], at: usize) -> Option<usize>
-    ensures { option_map (from tokens.now) result ≡ after_equal (from tokens.now at) }
-{
-    let token = token_at(tokens, at)?;
-    match token.kind {
-        TokenKind::Symbol(Symbol::Equal) => Some(at + 1),
-        _ => None,
-    }
-}
-
 // The place behind the end of a line, where it stands at the place.
 pub(crate) fn after_newline(tokens: &[Token], at: usize) -> Option<usize>
     ensures { option_map (from tokens.now) result ≡ after_newline (from tokens.now at) }
@@ -80,6 +71,126 @@ pub(crate) fn after_newline(tokens: &[Token], at: usize) -> Option<usize>
     match token.kind {
         TokenKind::Newline => Some(at + 1),
         _ => None,
+    }
+}
+
+// The place behind a colon, where one stands at the place.
+pub(crate) fn after_colon(tokens: &[Token], at: usize) -> Option<usize>
+    ensures { option_map (from tokens.now) result ≡ after_colon (from tokens.now at) }
+{
+    let token = token_at(tokens, at)?;
+    match token.kind {
+        TokenKind::Symbol(Symbol::Colon) => Some(at + 1),
+        _ => None,
+    }
+}
+
+// The place behind an indent, where one stands at the place.
+pub(crate) fn after_indent(tokens: &[Token], at: usize) -> Option<usize>
+    ensures { option_map (from tokens.now) result ≡ after_indent (from tokens.now at) }
+{
+    let token = token_at(tokens, at)?;
+    match token.kind {
+        TokenKind::Indent => Some(at + 1),
+        _ => None,
+    }
+}
+
+// The place behind a dedent, where one stands at the place.
+pub(crate) fn after_dedent(tokens: &[Token], at: usize) -> Option<usize>
+    ensures { option_map (from tokens.now) result ≡ after_dedent (from tokens.now at) }
+{
+    let token = token_at(tokens, at)?;
+    match token.kind {
+        TokenKind::Dedent => Some(at + 1),
+        _ => None,
+    }
+}
+
+// The place behind an `if`, where one stands at the place.
+pub(crate) fn after_if(tokens: &[Token], at: usize) -> Option<usize>
+    ensures { option_map (from tokens.now) result ≡ after_if (from tokens.now at) }
+{
+    let token = token_at(tokens, at)?;
+    match token.kind {
+        TokenKind::Keyword(Keyword::If) => Some(at + 1),
+        _ => None,
+    }
+}
+
+// The place behind an `elif`, where one stands at the place.
+pub(crate) fn after_elif(tokens: &[Token], at: usize) -> Option<usize>
+    ensures { option_map (from tokens.now) result ≡ after_elif (from tokens.now at) }
+{
+    let token = token_at(tokens, at)?;
+    match token.kind {
+        TokenKind::Keyword(Keyword::Elif) => Some(at + 1),
+        _ => None,
+    }
+}
+
+// The place behind a `while`, where one stands at the place.
+pub(crate) fn after_while(tokens: &[Token], at: usize) -> Option<usize>
+    ensures { option_map (from tokens.now) result ≡ after_while (from tokens.now at) }
+{
+    let token = token_at(tokens, at)?;
+    match token.kind {
+        TokenKind::Keyword(Keyword::While) => Some(at + 1),
+        _ => None,
+    }
+}
+
+// The place behind a `not`, where one stands at the place.
+pub(crate) fn after_not(tokens: &[Token], at: usize) -> Option<usize>
+    ensures { option_map (from tokens.now) result ≡ after_not (from tokens.now at) }
+{
+    let token = token_at(tokens, at)?;
+    match token.kind {
+        TokenKind::Keyword(Keyword::Not) => Some(at + 1),
+        _ => None,
+    }
+}
+
+// The place behind an `else`, where one stands at the place.
+pub(crate) fn after_else(tokens: &[Token], at: usize) -> Option<usize>
+    ensures { option_map (from tokens.now) result ≡ after_else (from tokens.now at) }
+{
+    let token = token_at(tokens, at)?;
+    match token.kind {
+        TokenKind::Keyword(Keyword::Else) => Some(at + 1),
+        _ => None,
+    }
+}
+
+// The place behind an `and`, where one stands at the place.
+pub(crate) fn after_and(tokens: &[Token], at: usize) -> Option<usize>
+    ensures { option_map (from tokens.now) result ≡ after_and (from tokens.now at) }
+{
+    let token = token_at(tokens, at)?;
+    match token.kind {
+        TokenKind::Keyword(Keyword::And) => Some(at + 1),
+        _ => None,
+    }
+}
+
+// The place behind an `or`, where one stands at the place.
+pub(crate) fn after_or(tokens: &[Token], at: usize) -> Option<usize>
+    ensures { option_map (from tokens.now) result ≡ after_or (from tokens.now at) }
+{
+    let token = token_at(tokens, at)?;
+    match token.kind {
+        TokenKind::Keyword(Keyword::Or) => Some(at + 1),
+        _ => None,
+    }
+}
+
+// The place behind the word of the operator, where it stands at the place.
+pub(crate) fn after_boolean(operator: BooleanOperator, tokens: &[Token], at: usize) -> Option<usize>
+    ensures { option_map (from tokens.now) result ≡ after_boolean (boolean_of operator) (from tokens.now at) }
+{
+    match operator {
+        BooleanOperator::And => after_and(tokens, at),
+        BooleanOperator::Or => after_or(tokens, at),
     }
 }
 

@@ -1,37 +1,102 @@
-// Statements, line by line.
+// Small statements, lines, and all lines of a text.
 
-ghost use Rattle.std.specs.Prelude.{◌≡◌, ℕ, ◌+◌, ◌-◌, length, map, option_map};
+ghost use Rattle.std.specs.Prelude.{◌≡◌, ℕ, ◌+◌, ◌-◌, length, map, option_map, IfSome};
+ghost use Rattle.si_token.specs.Views.{symbol_of};
 ghost use Rattle.si_semantics.specs.Grammar.{max_depth};
-ghost use Rattle.si_parse.specs.Trees.{expr_of, stmt_of};
-ghost use Rattle.si_parse.specs.Reading.{expression_at, statement_by, line_by, is_end, module_by};
+ghost use Rattle.si_parse.specs.Trees.{binary_of, expr_of, stmt_of};
+ghost use Rattle.si_parse.specs.Reading.{assignment_symbol, assignment_at, word_statement, rest_of, expression_at, spelled_by, statement_by, line_by, is_end, module_by};
 ghost use Rattle.si_parse.specs.Gives.{Gives, from};
 
-use crate::expression::{ANY, expression};
+use crate::block::{MAX_NESTING, block};
+use crate::expression::expression;
 use crate::fault::ParseFault;
-use crate::lookahead::{after_equal, after_line, after_semicolon, line_at, token_at};
-use crate::syntax::{Expr, Stmt};
+use crate::lookahead::{after_line, after_semicolon, line_at, token_at};
+use crate::precedence::ANY;
+use crate::syntax::{BinaryOperator, Expr, Stmt};
 use si_plain::limits::MAX_EXPRESSION_DEPTH;
-use si_token::{Token, TokenKind};
+use si_token::{Keyword, Symbol, Token, TokenKind};
 use std::alloc::Global;
 
-// A statement, and the place behind it.
-fn statement(alloc: Global, tokens: &[Token], start: usize) -> Result<(Stmt, usize), ParseFault>
-    ensures { Gives (λ x. (stmt_of x.0, from tokens.now x.1)) result (statement_by (expression_at max_depth) (from tokens.now start)) }
+// The assignment that a sign is: a plain one, or an augmented one with its operator.
+fn assignment_symbol(symbol: Symbol) -> Option<Option<BinaryOperator>>
+    ensures { option_map (option_map binary_of) result ≡ assignment_symbol (symbol_of symbol) }
+{
+    match symbol {
+        Symbol::Equal => Some(None),
+        Symbol::BarEqual => Some(Some(BinaryOperator::BitOr)),
+        Symbol::CaretEqual => Some(Some(BinaryOperator::BitXor)),
+        Symbol::AmpersandEqual => Some(Some(BinaryOperator::BitAnd)),
+        Symbol::LeftShiftEqual => Some(Some(BinaryOperator::ShiftLeft)),
+        Symbol::RightShiftEqual => Some(Some(BinaryOperator::ShiftRight)),
+        Symbol::PlusEqual => Some(Some(BinaryOperator::Add)),
+        Symbol::MinusEqual => Some(Some(BinaryOperator::Subtract)),
+        Symbol::StarEqual => Some(Some(BinaryOperator::Multiply)),
+        Symbol::DoubleSlashEqual => Some(Some(BinaryOperator::FloorDivide)),
+        Symbol::PercentEqual => Some(Some(BinaryOperator::Modulo)),
+        Symbol::DoubleStarEqual => Some(Some(BinaryOperator::Power)),
+        _ => None,
+    }
+}
+
+// The assignment whose sign stands at the place, and the place behind it.
+fn assignment_at(tokens: &[Token], at: usize) -> Option<(Option<BinaryOperator>, usize)>
+    ensures { option_map (λ x. (option_map binary_of x.0, from tokens.now x.1)) result ≡ assignment_at (from tokens.now at) }
+{
+    let token = token_at(tokens, at)?;
+    match token.kind {
+        TokenKind::Symbol(symbol) => {
+            let operator = assignment_symbol(symbol)?;
+            Some((operator, at + 1))
+        }
+        _ => None,
+    }
+}
+
+// The statement that is one word, where it stands at the place, and the place behind it.
+fn word_statement(tokens: &[Token], at: usize) -> Option<(Stmt, usize)>
+    ensures statement { option_map (λ x. stmt_of x.0) result ≡ word_statement (from tokens.now at) }
+    ensures behind { IfSome result (λ x. from tokens.now x.1 ≡ rest_of (from tokens.now at)) }
+{
+    let token = token_at(tokens, at)?;
+    match token.kind {
+        TokenKind::Keyword(Keyword::Pass) => Some((Stmt::Pass, at + 1)),
+        TokenKind::Keyword(Keyword::Break) => Some((Stmt::Break, at + 1)),
+        TokenKind::Keyword(Keyword::Continue) => Some((Stmt::Continue, at + 1)),
+        _ => None,
+    }
+}
+
+// An expression or an assignment, and the place behind it.
+fn spelled(alloc: Global, tokens: &[Token], start: usize) -> Result<(Stmt, usize), ParseFault>
+    ensures { Gives (λ x. (stmt_of x.0, from tokens.now x.1)) result (spelled_by (expression_at max_depth) (from tokens.now start)) }
 {
     let (first, _, at) = expression(alloc, MAX_EXPRESSION_DEPTH, ANY, tokens, start)?;
-    let Some(behind) = after_equal(tokens, at) else {
+    let Some((operator, behind)) = assignment_at(tokens, at) else {
         return Ok((Stmt::Evaluate(first), at));
     };
     let Expr::Name(name) = first else {
         return Err(ParseFault::Syntax(line_at(tokens, at)));
     };
     let (value, _, end) = expression(alloc, MAX_EXPRESSION_DEPTH, ANY, tokens, behind)?;
-    Ok((Stmt::Assign(name, value), end))
+    match operator {
+        None => Ok((Stmt::Assign(name, value), end)),
+        Some(operator) => Ok((Stmt::Augment(name, operator, value), end)),
+    }
+}
+
+// A small statement, and the place behind it.
+fn statement(alloc: Global, tokens: &[Token], start: usize) -> Result<(Stmt, usize), ParseFault>
+    ensures { Gives (λ x. (stmt_of x.0, from tokens.now x.1)) result (statement_by (expression_at max_depth) (from tokens.now start)) }
+{
+    match word_statement(tokens, start) {
+        Some((word, behind)) => Ok((word, behind)),
+        None => spelled(alloc, tokens, start),
+    }
 }
 
 // The statements before with those of a line, and the place behind it.
 #[tactic(auto, using(crate::proofs::Steps::separated_by_zero))]
-fn line(
+pub(crate) fn line(
     alloc: Global,
     before: Vec<Stmt>,
     tokens: &[Token],
@@ -82,7 +147,7 @@ pub(crate) fn statements(alloc: Global, tokens: &[Token]) -> Result<Vec<Stmt>, P
         if is_end(tokens, at) {
             return Ok(body);
         }
-        let (longer, behind) = line(alloc, body, tokens, at)?;
+        let (longer, behind) = block(alloc, MAX_NESTING, body, tokens, at)?;
         body = longer;
         at = behind;
     }

@@ -1,8 +1,8 @@
--- The grammar: which tokens derive which tree (Python Language Reference 3.14, 6, 7 and 10).
+-- The grammar: which tokens derive which tree (Python Language Reference 3.14, 6, 7, 8 and 10).
 -- Each rule stands in the line above its production, in the notation of the reference.
-use Rattle.std.specs.Prelude.{◌≡◌, ℕ, zero, suc, ◌+◌, ◌<◌, ◌≤◌, max, List, [], ◌∷◌, ◌++◌, length, flat_map, ◌⊎◌, Some}
+use Rattle.std.specs.Prelude.{◌≡◌, ℕ, zero, suc, ◌+◌, ◌<◌, ◌≤◌, max, Bool, true, false, List, [], ◌∷◌, ◌++◌, length, flat_map, ◌⊎◌, Some}
 use Rattle.si_semantics.specs.Value.{Text, Nothing, Truth, Int, Str, Provided}
-use Rattle.si_semantics.specs.Tree.{BinaryOperator, Add, Subtract, Multiply, FloorDivide, Modulo, Power, BitOr, BitXor, BitAnd, ShiftLeft, ShiftRight, UnaryOperator, Expr, Constant, Name, Unary, Binary, Call, Boolean, Compare, Conditional, Exprs, NoExprs, MoreExprs, Comparisons, NoComparisons, MoreComparisons, Stmt, Evaluate, Assign, Augment, Pass, If, While, Break, Continue, Stmts, NoStmts, MoreStmts}
+use Rattle.si_semantics.specs.Tree.{BinaryOperator, Add, Subtract, Multiply, FloorDivide, Modulo, Power, BitOr, BitXor, BitAnd, ShiftLeft, ShiftRight, UnaryOperator, ComparisonOperator, BooleanOperator, Expr, Constant, Name, Unary, Binary, Call, Boolean, Compare, Conditional, Exprs, NoExprs, MoreExprs, Comparisons, NoComparisons, MoreComparisons, Stmt, Evaluate, Assign, Augment, Pass, If, While, Break, Continue, Stmts, NoStmts, MoreStmts}
 use Rattle.si_semantics.specs.Tree as tree
 use Rattle.si_semantics.specs.Tokens.{Symbol, Keyword, TokenKind, Token}
 use Rattle.si_semantics.specs.Tokens as token
@@ -38,73 +38,106 @@ terminal_of t = terminal t.kind t.text
 
 -- ---- precedence (6.17)
 
--- the level of an operator between two operands: a tighter one has a higher level; those of level 0 are not read yet
+-- the level of an operator between two operands: a tighter one has a higher level
 abbrev pub level_of : BinaryOperator → ℕ
+level_of BitOr = 10
+level_of BitXor = 11
+level_of BitAnd = 12
+level_of ShiftLeft = 13
+level_of ShiftRight = 13
 level_of Add = 14
 level_of Subtract = 14
 level_of Multiply = 15
 level_of FloorDivide = 15
 level_of Modulo = 15
 level_of Power = 17
-level_of BitOr = 0
-level_of BitXor = 0
-level_of BitAnd = 0
-level_of ShiftLeft = 0
-level_of ShiftRight = 0
 
 -- the level that its left operand has at least
 abbrev pub left_level : BinaryOperator → ℕ
+left_level BitOr = 10
+left_level BitXor = 11
+left_level BitAnd = 12
+left_level ShiftLeft = 13
+left_level ShiftRight = 13
 left_level Add = 14
 left_level Subtract = 14
 left_level Multiply = 15
 left_level FloorDivide = 15
 left_level Modulo = 15
 left_level Power = 18
-left_level BitOr = 0
-left_level BitXor = 0
-left_level BitAnd = 0
-left_level ShiftLeft = 0
-left_level ShiftRight = 0
 
 -- the level that its right operand has at least
 abbrev pub right_level : BinaryOperator → ℕ
+right_level BitOr = 11
+right_level BitXor = 12
+right_level BitAnd = 13
+right_level ShiftLeft = 14
+right_level ShiftRight = 14
 right_level Add = 15
 right_level Subtract = 15
 right_level Multiply = 16
 right_level FloorDivide = 16
 right_level Modulo = 16
 right_level Power = 16
-right_level BitOr = 1
-right_level BitXor = 1
-right_level BitAnd = 1
-right_level ShiftLeft = 1
-right_level ShiftRight = 1
 
 abbrev pub symbol_of : BinaryOperator → Symbol
+symbol_of BitOr = token.Bar
+symbol_of BitXor = token.Caret
+symbol_of BitAnd = token.Ampersand
+symbol_of ShiftLeft = token.LeftShift
+symbol_of ShiftRight = token.RightShift
 symbol_of Add = token.Plus
 symbol_of Subtract = token.Minus
 symbol_of Multiply = token.Star
 symbol_of FloorDivide = token.DoubleSlash
 symbol_of Modulo = token.Percent
 symbol_of Power = token.DoubleStar
-symbol_of BitOr = token.Bar
-symbol_of BitXor = token.Caret
-symbol_of BitAnd = token.Ampersand
-symbol_of ShiftLeft = token.LeftShift
-symbol_of ShiftRight = token.RightShift
 
-abbrev pub sign_of : UnaryOperator → Symbol
-sign_of tree.Plus = token.Plus
-sign_of tree.Minus = token.Minus
-sign_of tree.Invert = token.Tilde
-sign_of tree.Not = token.Tilde
+-- the level of an operator before its operand, which has the same level at least
+abbrev pub prefix_level : UnaryOperator → ℕ
+prefix_level tree.Plus = 16
+prefix_level tree.Minus = 16
+prefix_level tree.Invert = 16
+prefix_level tree.Not = 7
 
--- the level of an operator before its operand; those of level 0 are not read yet
-abbrev pub sign_level : UnaryOperator → ℕ
-sign_level tree.Plus = 16
-sign_level tree.Minus = 16
-sign_level tree.Invert = 0
-sign_level tree.Not = 0
+abbrev pub prefix_of : UnaryOperator → Terminal
+prefix_of tree.Plus = Sign token.Plus
+prefix_of tree.Minus = Sign token.Minus
+prefix_of tree.Invert = Sign token.Tilde
+prefix_of tree.Not = Word token.NotWord
+
+-- the level of operands with `and`, or with `or`, between them
+abbrev pub boolean_level : BooleanOperator → ℕ
+boolean_level tree.Or = 3
+boolean_level tree.And = 5
+
+-- the level that each of the operands has at least
+abbrev pub item_level : BooleanOperator → ℕ
+item_level tree.Or = 5
+item_level tree.And = 7
+
+abbrev pub word_of : BooleanOperator → Keyword
+word_of tree.Or = token.OrWord
+word_of tree.And = token.AndWord
+
+abbrev pub comparison_of : ComparisonOperator → List Terminal
+comparison_of tree.Less = Sign token.Less ∷ []
+comparison_of tree.Greater = Sign token.Greater ∷ []
+comparison_of tree.LessEqual = Sign token.LessEqual ∷ []
+comparison_of tree.GreaterEqual = Sign token.GreaterEqual ∷ []
+comparison_of tree.Equal = Sign token.EqualEqual ∷ []
+comparison_of tree.NotEqual = Sign token.NotEqual ∷ []
+comparison_of tree.Is = Word token.IsWord ∷ []
+comparison_of tree.IsNot = Word token.IsWord ∷ (Word token.NotWord ∷ [])
+
+abbrev pub is_identity : ComparisonOperator → Bool
+is_identity tree.Is = true
+is_identity tree.IsNot = true
+is_identity _ = false
+
+abbrev pub truth_word : Bool → Keyword
+truth_word true = token.TrueWord
+truth_word false = token.FalseWord
 
 -- ---- lists of items
 
@@ -112,6 +145,10 @@ sign_level tree.Not = 0
 abbrev pub Many : {A : Type 0} → (A → List Terminal → Type 0) → List A → List Terminal → Type 0
 Many I [] ts = ts ≡ []
 Many I (x ∷ xs) ts = (f : List Terminal) × (g : List Terminal) × (ts ≡ f ++ g) × I x f × Many I xs g
+
+-- an item behind a terminal
+abbrev pub Behind : {A : Type 0} → Terminal → (A → List Terminal → Type 0) → A → List Terminal → Type 0
+Behind t I x ts = (f : List Terminal) × (ts ≡ t ∷ f) × I x f
 
 -- { separator item } [separator]
 abbrev pub Following : {A : Type 0} → (A → List Terminal → Type 0) → Symbol → List A → List Terminal → Type 0
@@ -137,6 +174,24 @@ abbrev pub exprs_of : List Expr → Exprs
 exprs_of [] = NoExprs
 exprs_of (e ∷ es) = MoreExprs e (exprs_of es)
 
+-- an operator of a comparison, and the operand behind it
+abbrev pub Link : Type 0
+Link = ComparisonOperator × Expr
+
+abbrev pub links_of : Comparisons → List Link
+links_of NoComparisons = []
+links_of (MoreComparisons op e cs) = (op, e) ∷ links_of cs
+
+abbrev pub chain_of : List Link → Comparisons
+chain_of [] = NoComparisons
+chain_of (link ∷ links) = MoreComparisons link.0 link.1 (chain_of links)
+
+-- comparator: ('<' | '>' | '<=' | '>=' | '==' | '!=') bitor | 'is' ['not'] ('None' | 'True' | 'False')
+-- What stands behind `is` is one word, which is a choice of this project.
+abbrev pub Compares : Language → Link → List Terminal → Type 0
+Compares E link ts =
+    (f : List Terminal) × (ts ≡ comparison_of link.0 ++ f) × E 10 link.1 f × (is_identity link.0 ≡ true → (w : Keyword) × (f ≡ Word w ∷ []))
+
 -- the text of str literals beside each other (2.4.3)
 abbrev pub Strings : Text → List Terminal → Type 0
 Strings s [] = s ≡ []
@@ -145,25 +200,33 @@ Strings s (_ ∷ ts) = ⊥
 
 -- one production for each kind of tree, over the language of the parts
 abbrev pub Produces : Language → Language
--- atom: NAME | NUMBER | STRING+
+-- atom: NAME | NUMBER | STRING+ | 'None' | 'True' | 'False'
 Produces E l (Name x) ts = ts ≡ NAME x ∷ []
 Produces E l (Constant (Int n)) ts = (digits : List ℕ) × (ts ≡ NUMBER digits ∷ []) × (value_of_int digits ≡ Some n)
 Produces E l (Constant (Str s)) ts = (0 < length ts) × Strings s ts
-Produces E l (Constant Nothing) ts = ⊥
-Produces E l (Constant (Truth b)) ts = ⊥
+Produces E l (Constant Nothing) ts = ts ≡ Word token.NoneWord ∷ []
+Produces E l (Constant (Truth b)) ts = ts ≡ Word (truth_word b) ∷ []
 Produces E l (Constant (Provided b)) ts = ⊥
--- factor: ('+' | '-') factor
-Produces E l (Unary op a) ts = (f : List Terminal) × (ts ≡ Sign (sign_of op) ∷ f) × (l ≤ sign_level op) × E 16 a f
+-- factor: ('+' | '-' | '~') factor; inversion: 'not' inversion
+Produces E l (Unary op a) ts = (f : List Terminal) × (ts ≡ prefix_of op ∷ f) × (l ≤ prefix_level op) × E (prefix_level op) a f
+-- bitor: bitor '|' bitxor; bitxor: bitxor '^' bitand; bitand: bitand '&' shift; shift: shift ('<<' | '>>') sum;
 -- sum: sum ('+' | '-') term; term: term ('*' | '//' | '%') factor; power: primary '**' factor
 Produces E l (Binary op a b) ts =
     (f : List Terminal) × (g : List Terminal) × (ts ≡ f ++ Sign (symbol_of op) ∷ g) × (l ≤ level_of op) × E (left_level op) a f × E (right_level op) b g
 -- primary: primary '(' [ expression { ',' expression } [','] ] ')'
 Produces E l (Call a args) ts =
     (f : List Terminal) × (g : List Terminal) × (ts ≡ f ++ Sign token.LeftParenthesis ∷ (g ++ Sign token.RightParenthesis ∷ [])) × (l ≤ 18) × E 18 a f × Separated (E 1) token.Comma (items_of args) g
--- not read yet
-Produces E l (Boolean o a more) ts = ⊥
-Produces E l (Compare a cs) ts = ⊥
-Produces E l (Conditional a b c) ts = ⊥
+-- comparison: bitor comparator { comparator }
+Produces E l (Compare a cs) ts =
+    (f : List Terminal) × (g : List Terminal) × (ts ≡ f ++ g) × (l ≤ 8) × E 10 a f × (0 < length (links_of cs)) × Many (Compares E) (links_of cs) g
+-- conjunction: inversion 'and' inversion { 'and' inversion }; disjunction: conjunction 'or' conjunction { 'or' conjunction }
+Produces E l (Boolean op a others) ts =
+    (f : List Terminal) × (g : List Terminal) × (ts ≡ f ++ g) × (l ≤ boolean_level op) × E (item_level op) a f
+    × (0 < length (items_of others)) × Many (Behind (Word (word_of op)) (E (item_level op))) (items_of others) g
+-- expression: disjunction 'if' disjunction 'else' expression
+Produces E l (Conditional test value other) ts =
+    (f : List Terminal) × (g : List Terminal) × (h : List Terminal) × (ts ≡ f ++ Word token.IfWord ∷ (g ++ Word token.ElseWord ∷ h)) × (l ≤ 1)
+    × E 3 value f × E 3 test g × E 1 other h
 
 -- The tokens of a tree of at most this depth, where an expression of level l may stand.
 -- group: '(' expression ')'. It makes no node, and adds 1 to the depth.
@@ -181,17 +244,32 @@ IsExpression = Spells max_depth 1
 
 -- ---- statements
 
--- small: expression | NAME '=' expression, where brackets may stand round the name
+-- the sign of an augmented assignment
+abbrev pub augmented_of : BinaryOperator → Symbol
+augmented_of BitOr = token.BarEqual
+augmented_of BitXor = token.CaretEqual
+augmented_of BitAnd = token.AmpersandEqual
+augmented_of ShiftLeft = token.LeftShiftEqual
+augmented_of ShiftRight = token.RightShiftEqual
+augmented_of Add = token.PlusEqual
+augmented_of Subtract = token.MinusEqual
+augmented_of Multiply = token.StarEqual
+augmented_of FloorDivide = token.DoubleSlashEqual
+augmented_of Modulo = token.PercentEqual
+augmented_of Power = token.DoubleStarEqual
+
+-- small: expression | NAME '=' expression | NAME augmented expression | 'pass' | 'break' | 'continue',
+-- where brackets may stand round the name
 abbrev pub Small : Stmt → List Terminal → Type 0
 Small (Evaluate e) ts = IsExpression e ts
 Small (Assign x e) ts = (f : List Terminal) × (g : List Terminal) × (ts ≡ f ++ Sign token.Equal ∷ g) × IsExpression (Name x) f × IsExpression e g
--- not read yet
-Small (Augment x o e) ts = ⊥
-Small Pass ts = ⊥
-Small (If a b c) ts = ⊥
-Small (While a b c) ts = ⊥
-Small Break ts = ⊥
-Small Continue ts = ⊥
+Small (Augment x op e) ts =
+    (f : List Terminal) × (g : List Terminal) × (ts ≡ f ++ Sign (augmented_of op) ∷ g) × IsExpression (Name x) f × IsExpression e g
+Small Pass ts = ts ≡ Word token.PassWord ∷ []
+Small Break ts = ts ≡ Word token.BreakWord ∷ []
+Small Continue ts = ts ≡ Word token.ContinueWord ∷ []
+Small (If test body other) ts = ⊥
+Small (While test body other) ts = ⊥
 
 -- simple: small { ';' small } [';'] NEWLINE
 abbrev pub Simple : List Stmt → List Terminal → Type 0
@@ -201,10 +279,60 @@ abbrev pub stmts_of : List Stmt → Stmts
 stmts_of [] = NoStmts
 stmts_of (s ∷ ss) = MoreStmts s (stmts_of ss)
 
--- module: { simple } ENDMARKER
+-- Which tokens spell the statements of a line, or a compound statement.
+abbrev pub Lines : Type 1
+Lines = List Stmt → List Terminal → Type 0
+
+-- { line }
+abbrev pub Block : Lines → Stmts → List Terminal → Type 0
+Block L body ts = (lines : List (List Stmt)) × (body ≡ stmts_of (flat_map (λ line. line) lines)) × Many L lines ts
+
+-- suite: ':' simple | ':' NEWLINE INDENT line { line } DEDENT
+abbrev pub Suite : Lines → Stmts → List Terminal → Type 0
+Suite L body ts =
+    ((ss : List Stmt) × (f : List Terminal) × (ts ≡ Sign token.Colon ∷ f) × (body ≡ stmts_of ss) × Simple ss f)
+    ⊎ ((f : List Terminal) × (ts ≡ Sign token.Colon ∷ (NEWLINE ∷ (INDENT ∷ (f ++ DEDENT ∷ [])))) × (0 < length f) × Block L body f)
+
+-- a test and the suite behind it
+abbrev pub Branch : Type 0
+Branch = Expr × Stmts
+
+-- expression suite
+abbrev pub Tested : Lines → Branch → List Terminal → Type 0
+Tested L b ts = (f : List Terminal) × (g : List Terminal) × (ts ≡ f ++ g) × IsExpression b.0 f × Suite L b.1 g
+
+-- ['else' suite]
+abbrev pub Otherwise : Lines → Stmts → List Terminal → Type 0
+Otherwise L body ts = ((body ≡ NoStmts) × (ts ≡ [])) ⊎ Behind (Word token.ElseWord) (Suite L) body ts
+
+-- an `elif` is an `if` of its own, alone in the else suite of the one before it
+abbrev pub elifs_of : List Branch → Stmts → Stmts
+elifs_of [] last = last
+elifs_of (b ∷ more) last = MoreStmts (If b.0 b.1 (elifs_of more last)) NoStmts
+
+abbrev pub Compound : Lines → Stmt → List Terminal → Type 0
+-- if: 'if' expression suite { 'elif' expression suite } ['else' suite]
+Compound L (If test body other) ts =
+    (elifs : List Branch) × (last : Stmts) × (f : List Terminal) × (g : List Terminal) × (h : List Terminal)
+    × (ts ≡ Word token.IfWord ∷ (f ++ (g ++ h))) × (other ≡ elifs_of elifs last)
+    × Tested L (test, body) f × Many (Behind (Word token.ElifWord) (Tested L)) elifs g × Otherwise L last h
+-- while: 'while' expression suite
+Compound L (While test body other) ts = (other ≡ NoStmts) × Behind (Word token.WhileWord) (Tested L) (test, body) ts
+Compound L _ ts = ⊥
+
+-- The tokens of a line, in which compound statements are nested this deep at most.
+-- line: simple | if | while
+abbrev pub Nests : ℕ → Lines
+Nests zero ss ts = Simple ss ts
+Nests (suc n) ss ts = Simple ss ts ⊎ ((s : Stmt) × (ss ≡ s ∷ []) × Compound (Nests n) s ts)
+
+-- the greatest nesting of compound statements (this project's own); an `elif` nests no deeper
+abbrev pub max_nesting : ℕ
+max_nesting = 20
+
+-- module: { line } ENDMARKER
 abbrev pub Derives : Stmts → List Terminal → Type 0
-Derives body ts =
-    (lines : List (List Stmt)) × (f : List Terminal) × (body ≡ stmts_of (flat_map (λ line. line) lines)) × (ts ≡ f ++ ENDMARKER ∷ []) × Many Simple lines f
+Derives body ts = (f : List Terminal) × (ts ≡ f ++ ENDMARKER ∷ []) × Block (Nests max_nesting) body f
 
 -- ---- depth
 
@@ -229,13 +357,17 @@ abbrev mutual
   depth_of_chain (MoreComparisons o e cs) = max (depth_of e) (depth_of_chain cs)
 
 -- no expression of the statement is deeper than the limit
-abbrev pub IsShallow : Stmt → Type 0
-IsShallow (Evaluate e) = depth_of e ≤ max_depth
-IsShallow (Assign x e) = depth_of e ≤ max_depth
--- not read yet
-IsShallow (Augment x o e) = ⊥
-IsShallow Pass = ⊥
-IsShallow (If a b c) = ⊥
-IsShallow (While a b c) = ⊥
-IsShallow Break = ⊥
-IsShallow Continue = ⊥
+abbrev mutual
+  pub IsShallow : Stmt → Type 0
+  IsShallow (Evaluate e) = depth_of e ≤ max_depth
+  IsShallow (Assign x e) = depth_of e ≤ max_depth
+  IsShallow (Augment x op e) = depth_of e ≤ max_depth
+  IsShallow Pass = Unit {0}
+  IsShallow (If test body other) = (depth_of test ≤ max_depth) × AreShallow body × AreShallow other
+  IsShallow (While test body other) = (depth_of test ≤ max_depth) × AreShallow body × AreShallow other
+  IsShallow Break = Unit {0}
+  IsShallow Continue = Unit {0}
+
+  pub AreShallow : Stmts → Type 0
+  AreShallow NoStmts = Unit {0}
+  AreShallow (MoreStmts s ss) = IsShallow s × AreShallow ss

@@ -1,11 +1,13 @@
-use Rattle.std.proofs.Common.{◌+◌, ◌-◌, ◌<◌, ◌≤◌, [], length, sym, ◌∙◌, ap, subst, Some, map, arith}
+use Rattle.std.proofs.Common.{◌≡◌, List, ◌+◌, ◌-◌, ◌<◌, ◌≤◌, [], length, sym, ◌∙◌, ap, subst, Some, map, arith}
 use Rattle.std.proofs.lemmas.Result.{err_from_is_err_and}
 use Rattle.std.proofs.lemmas.List.{map-append}
 use Rattle.std.specs.Prelude.{option_map, ◌∷◌, ◌++◌, max}
-use Rattle.si_parse.specs.Trees.{expr_of}
-use Rattle.si_parse.specs.Reading.{separated_by, with_argument, expression_at, strength_of, after_close, after_comma}
-use Rattle.si_parse.specs.Gives.{Fails, from, continuation_view}
-use Rattle.si_parse.proofs.Turns.{continued_on, continued_stops, continued_fails, separated_fails, separated_last, separated_on, separated_stuck}
+use Rattle.si_semantics.specs.Tree.{Compare}
+use Rattle.si_semantics.specs.Grammar.{item_level, Link, chain_of}
+use Rattle.si_parse.specs.Trees.{expr_of, boolean_of, comparison_of, link_of}
+use Rattle.si_parse.specs.Reading.{then_read, within, compare_by, with_word, after_boolean, comparison_at, compared_by, separated_by, with_argument, expression_at, strength_of, after_close, after_comma}
+use Rattle.si_parse.specs.Gives.{Gives, Fails, from, continuation_view}
+use Rattle.si_parse.proofs.Turns.{continued_on, continued_stops, continued_fails, separated_fails, separated_last, separated_on, separated_stuck, chain_ends, chain_next, chain_fails}
 use Rattle.si_parse.proofs.expression.+expressions.Goals as goal
 
 pub continued-returns-then-strength-level-clause-reads : goal.continued-returns-then-strength-level-clause-reads
@@ -18,7 +20,7 @@ continued-loop-turn-preserved t c =
     let strong : c.args.level ≤ strength_of (continuation_view c.what_follows-next.result.0) = omega arith in
     record {
       shallow = omega (arith, c.in_ok-longer.ensures.shallow);
-      reads = sym (continued_on _ _ _ _ _ _ _ _ c.what_follows-next.ensures.role _ _ c.what_follows-next.ensures.behind (omega arith) strong _ _ _ c.in_ok-longer.ensures.reads)
+      reads = sym (continued_on _ _ _ _ _ _ _ _ c.what_follows-next.ensures.role _ (omega arith) strong _ _ _ c.in_ok-longer.ensures.reads)
           ∙ c.loop-turn.invariant.reads;
     }
 
@@ -26,7 +28,7 @@ pub continued-returns-in_err-longer-clause-reads : goal.continued-returns-in_err
 continued-returns-in_err-longer-clause-reads t c =
     let strong : c.args.level ≤ strength_of (continuation_view c.what_follows-next.result.0) = omega arith in
     let fails = continued_fails (expression_at c.args.parts) (c.args.parts + 1) c.args.level (c.args.parts + 1 - c.loop-turn._turn) (expr_of c.loop-turn.left) c.loop-turn.depth (from c.args.tokens.now c.loop-turn.at) _ c.what_follows-next.ensures.role
-    (c.args.parts - c.loop-turn._turn) _ c.what_follows-next.ensures.behind (omega arith) strong _ c.in_err-longer.ensures.reads in
+    (c.args.parts - c.loop-turn._turn) (omega arith) strong _ c.in_err-longer.ensures.reads in
     let p = err_from_is_err_and c.from_residual.result c.from_residual.ensures.1 in
     rw (p.1, p.2) (subst (Fails _) c.loop-turn.invariant.reads fails)
 
@@ -66,5 +68,57 @@ arguments-loop-turn-preserved t c =
           ∙ ap (λ d. separated_by with_argument (λ r. r.2) (expression_at c.args.parts 1) after_comma after_close (length c.args.tokens.now - (c.loop-turn._turn + 1)) (map expr_of c.loop-turn.args.items ++ expr_of c.in_ok-argument.argument ∷ [], d) (from c.args.tokens.now c.in-Some-after_comma.more)) c.max-depth.ensures
           ∙ sym (separated_on with_argument (λ r. r.2) (expression_at c.args.parts 1) after_comma after_close (length c.args.tokens.now - c.loop-turn._turn) (length c.args.tokens.now - (c.loop-turn._turn + 1)) (map expr_of c.loop-turn.args.items, c.loop-turn.depth) (from c.args.tokens.now c.loop-turn.at)
           (omega arith) _ c.in_ok-argument.ensures.reads _ behind next)
+          ∙ c.loop-turn.invariant.reads;
+    }
+
+pub operands-returns-in_default-clause-reads : goal.operands-returns-in_default-clause-reads
+operands-returns-in_default-clause-reads t c =
+    let next = sym c.after_boolean.ensures ∙ ap (option_map (from c.args.tokens.now)) c.in_default.is in
+    sym c.loop-turn.invariant.reads ∙ chain_ends _ _ _ _ _ _ (omega arith) (ap (with_word (boolean_of c.args.operator)) next)
+
+pub operands-returns-in_err-other-clause-reads : goal.operands-returns-in_err-other-clause-reads
+operands-returns-in_err-other-clause-reads t c =
+    let next = sym c.after_boolean.ensures ∙ ap (option_map (from c.args.tokens.now)) c.in-Some.is in
+    let here = subst (λ l. Fails c.in_err-other.field-0.0 (expression_at c.args.parts l (from c.args.tokens.now c.in-Some.behind))) c.item_level.ensures c.in_err-other.ensures.reads in
+    let fails = chain_fails (λ o e. e) (λ ts. with_word (boolean_of c.args.operator) (after_boolean (boolean_of c.args.operator) ts)) (λ o. expression_at c.args.parts (item_level o))
+    (length c.args.tokens.now - c.loop-turn._turn) (map expr_of c.loop-turn.others.items, c.loop-turn.depth) (from c.args.tokens.now c.loop-turn.at) (length c.args.tokens.now - (c.loop-turn._turn + 1)) (omega arith) (boolean_of c.args.operator) (from c.args.tokens.now c.in-Some.behind)
+    (ap (with_word (boolean_of c.args.operator)) next) _ here in
+    let p = err_from_is_err_and c.from_residual.result c.from_residual.ensures.1 in
+    rw (p.1, p.2) (subst (Fails _) c.loop-turn.invariant.reads fails)
+
+pub operands-loop-turn-preserved : goal.operands-loop-turn-preserved
+operands-loop-turn-preserved t c =
+    let next = sym c.after_boolean.ensures ∙ ap (option_map (from c.args.tokens.now)) c.in-Some.is in
+    let pushed = ap (map expr_of) c.in_ok-push.ensures.items ∙ map-append expr_of c.loop-turn.others.items (c.in_ok-other.other ∷ []) in
+    let here = subst (λ l. expression_at c.args.parts l (from c.args.tokens.now c.in-Some.behind) ≡ Some (expr_of c.in_ok-other.other, c.in_ok-other.other_depth, from c.args.tokens.now c.in_ok-other.end)) c.item_level.ensures c.in_ok-other.ensures.reads in
+    record {
+      shallow = omega (arith, c.in_ok-other.ensures.shallow);
+      reads = chain_next (λ o e. e) (λ ts. with_word (boolean_of c.args.operator) (after_boolean (boolean_of c.args.operator) ts)) (λ o. expression_at c.args.parts (item_level o))
+          (length c.args.tokens.now - c.loop-turn._turn) (map expr_of c.loop-turn.others.items, c.loop-turn.depth) (from c.args.tokens.now c.loop-turn.at) (length c.args.tokens.now - (c.loop-turn._turn + 1)) (omega arith) (boolean_of c.args.operator) (from c.args.tokens.now c.in-Some.behind)
+          (ap (with_word (boolean_of c.args.operator)) next) _ _ _ here _ _ pushed c.max-depth.ensures
+          ∙ c.loop-turn.invariant.reads;
+    }
+
+pub links-returns-in_default-clause-reads : goal.links-returns-in_default-clause-reads
+links-returns-in_default-clause-reads t c =
+    let next = sym c.comparison_at.ensures ∙ ap (option_map (λ x. (comparison_of x.0, from c.args.tokens.now x.1))) c.in_default.is in
+    sym c.loop-turn.invariant.reads ∙ chain_ends _ _ _ _ _ _ (omega arith) next
+
+pub links-returns-in_err-operand-clause-reads : goal.links-returns-in_err-operand-clause-reads
+links-returns-in_err-operand-clause-reads t c =
+    let next = sym c.comparison_at.ensures ∙ ap (option_map (λ x. (comparison_of x.0, from c.args.tokens.now x.1))) c.in-Some.is in
+    let fails = chain_fails (λ o e. (o, e)) comparison_at (compared_by (expression_at c.args.parts)) (length c.args.tokens.now - c.loop-turn._turn) (map link_of c.loop-turn.links.items, c.loop-turn.depth) (from c.args.tokens.now c.loop-turn.at)
+    (length c.args.tokens.now - (c.loop-turn._turn + 1)) (omega arith) (comparison_of c.in-Some.operator) (from c.args.tokens.now c.in-Some.behind) next _ c.in_err-operand.ensures.reads in
+    let p = err_from_is_err_and c.from_residual.result c.from_residual.ensures.1 in
+    rw (p.1, p.2) (subst (Fails _) c.loop-turn.invariant.reads fails)
+
+pub links-loop-turn-preserved : goal.links-loop-turn-preserved
+links-loop-turn-preserved t c =
+    let next = sym c.comparison_at.ensures ∙ ap (option_map (λ x. (comparison_of x.0, from c.args.tokens.now x.1))) c.in-Some.is in
+    let pushed = ap (map link_of) c.in_ok-push.ensures.items ∙ map-append link_of c.loop-turn.links.items ((c.in-Some.operator, c.in_ok-operand.operand) ∷ []) in
+    record {
+      shallow = omega (arith, c.in_ok-operand.ensures.shallow);
+      reads = chain_next (λ o e. (o, e)) comparison_at (compared_by (expression_at c.args.parts)) (length c.args.tokens.now - c.loop-turn._turn) (map link_of c.loop-turn.links.items, c.loop-turn.depth) (from c.args.tokens.now c.loop-turn.at)
+          (length c.args.tokens.now - (c.loop-turn._turn + 1)) (omega arith) (comparison_of c.in-Some.operator) (from c.args.tokens.now c.in-Some.behind) next _ _ _ c.in_ok-operand.ensures.reads _ _ pushed c.max-depth.ensures
           ∙ c.loop-turn.invariant.reads;
     }

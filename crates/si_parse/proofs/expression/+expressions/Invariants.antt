@@ -1,29 +1,57 @@
 use Rattle.std.proofs.Common.{◌≡◌, ◌+◌, ◌-◌, ◌*◌, ◌≤◌, length, map}
-use Rattle.si_parse.specs.Trees.{expr_of}
-use Rattle.si_parse.specs.Reading.{continued_by, arguments_by, separated_by, with_argument, after_comma, after_close, expression_at}
+use Rattle.si_semantics.specs.Grammar.{item_level}
+use Rattle.si_parse.specs.Trees.{expr_of, link_of, boolean_of}
+use Rattle.si_parse.specs.Reading.{continued_by, arguments_by, operands_by, links_by, separated_by, chain_by, with_word, after_boolean, comparison_at, compared_by, with_argument, after_comma, after_close, expression_at}
 use Rattle.si_parse.specs.Gives.{from}
 use Rattle.si_parse.proofs.expression.+expressions.Given as goal
 
 abbrev pub decreases-expression : goal.decreases-expression
-decreases-expression l = 5 * l.budget
-
-abbrev pub decreases-operand : goal.decreases-operand
-decreases-operand l = 5 * l.parts + 2
-
-abbrev pub decreases-unary : goal.decreases-unary
-decreases-unary l = 5 * l.parts + 1
-
-abbrev pub decreases-bracketed : goal.decreases-bracketed
-decreases-bracketed l = 5 * l.parts + 1
+decreases-expression l = 8 * l.budget
 
 abbrev pub decreases-continued : goal.decreases-continued
-decreases-continued l = 5 * l.parts + 4
+decreases-continued l = 8 * l.parts + 7
 
 abbrev pub decreases-extended : goal.decreases-extended
-decreases-extended l = 5 * l.parts + 3
+decreases-extended l = 8 * l.parts + 6
+
+abbrev pub decreases-binary : goal.decreases-binary
+decreases-binary l = 8 * l.parts + 5
+
+abbrev pub decreases-call : goal.decreases-call
+decreases-call l = 8 * l.parts + 5
+
+abbrev pub decreases-compare : goal.decreases-compare
+decreases-compare l = 8 * l.parts + 5
+
+abbrev pub decreases-boolean : goal.decreases-boolean
+decreases-boolean l = 8 * l.parts + 5
+
+abbrev pub decreases-conditional : goal.decreases-conditional
+decreases-conditional l = 8 * l.parts + 5
 
 abbrev pub decreases-arguments : goal.decreases-arguments
-decreases-arguments l = 5 * l.parts + 1
+decreases-arguments l = 8 * l.parts + 4
+
+abbrev pub decreases-operands : goal.decreases-operands
+decreases-operands l = 8 * l.parts + 4
+
+abbrev pub decreases-links : goal.decreases-links
+decreases-links l = 8 * l.parts + 4
+
+abbrev pub decreases-compared : goal.decreases-compared
+decreases-compared l = 8 * l.parts + 3
+
+abbrev pub decreases-operand : goal.decreases-operand
+decreases-operand l = 8 * l.parts + 3
+
+abbrev pub decreases-atom : goal.decreases-atom
+decreases-atom l = 8 * l.parts + 2
+
+abbrev pub decreases-unary : goal.decreases-unary
+decreases-unary l = 8 * l.parts + 1
+
+abbrev pub decreases-bracketed : goal.decreases-bracketed
+decreases-bracketed l = 8 * l.parts + 1
 
 abbrev pub invariant-continued-loop-turn : goal.invariant-continued-loop-turn
 invariant-continued-loop-turn l = record {
@@ -37,4 +65,18 @@ invariant-arguments-loop-turn l = record {
   shallow : l.depth ≤ l.parts;
   reads : separated_by with_argument (λ r. r.2) (expression_at l.parts 1) after_comma after_close (length l.tokens - l._turn) (map expr_of l.args.items, l.depth) (from l.tokens l.at)
       ≡ arguments_by (expression_at l.parts) (from l.tokens l.start);
+}
+
+abbrev pub invariant-operands-loop-turn : goal.invariant-operands-loop-turn
+invariant-operands-loop-turn l = record {
+  shallow : l.depth ≤ l.parts;
+  reads : chain_by (λ o e. e) (λ ts. with_word (boolean_of l.operator) (after_boolean (boolean_of l.operator) ts)) (λ o. expression_at l.parts (item_level o)) (length l.tokens - l._turn) (map expr_of l.others.items, l.depth) (from l.tokens l.at)
+      ≡ operands_by (expression_at l.parts) (boolean_of l.operator) (from l.tokens l.start);
+}
+
+abbrev pub invariant-links-loop-turn : goal.invariant-links-loop-turn
+invariant-links-loop-turn l = record {
+  shallow : l.depth ≤ l.parts;
+  reads : chain_by (λ o e. (o, e)) comparison_at (compared_by (expression_at l.parts)) (length l.tokens - l._turn) (map link_of l.links.items, l.depth) (from l.tokens l.at)
+      ≡ links_by (expression_at l.parts) (from l.tokens l.start);
 }

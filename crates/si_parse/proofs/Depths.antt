@@ -1,0 +1,107 @@
+-- A tree is no deeper than its terminals are nested.
+use Rattle.std.proofs.Common.{◌≡◌, ℕ, zero, suc, ◌+◌, ◌<◌, ◌≤◌, List, [], ◌∷◌, ◌++◌, inl, inr, length, sym, ap, ◌∙◌, subst, arith}
+use Rattle.std.specs.Prelude.{flat_map}
+use Rattle.std.specs.List.{AllByRecursion}
+use Rattle.si_semantics.specs.Tree.{BooleanOperator, Expr, Constant, Name, Unary, Binary, Call, Boolean, Compare, Conditional, Exprs, NoExprs, MoreExprs, Comparisons, NoComparisons, MoreComparisons, Stmt, Evaluate, Assign, Augment, Pass, If, While, Break, Continue, Stmts, NoStmts, MoreStmts}
+use Rattle.si_semantics.specs.Tokens as token
+use Rattle.si_semantics.specs.Grammar.{Terminal, Word, left_level, right_level, prefix_level, item_level, word_of, Many, Behind, Following, Separated, items_of, links_of, Compares, Spells, max_depth, Small, Simple, stmts_of, Lines, Block, Suite, Branch, Tested, Otherwise, elifs_of, Compound, Nests, depth_of, depth_of_all, depth_of_chain, IsShallow, AreShallow}
+
+-- ---- expressions
+
+abbrev Bounded : ℕ → Type 0
+Bounded n = (l : ℕ) (e : Expr) (f : List Terminal) → Spells n l e f → depth_of e ≤ n
+
+following_bounded : (n : ℕ) → Bounded n → (args : Exprs) (g : List Terminal) → Following (Spells n 1) token.Comma (items_of args) g → depth_of_all args ≤ n
+following_bounded n b NoExprs g h = omega arith
+following_bounded n b (MoreExprs a rest) g h = omega (arith, b 1 a h.0 h.3, following_bounded n b rest h.1 h.4)
+
+arguments_bounded : (n : ℕ) → Bounded n → (args : Exprs) (g : List Terminal) → Separated (Spells n 1) token.Comma (items_of args) g → depth_of_all args ≤ n
+arguments_bounded n b NoExprs g h = omega arith
+arguments_bounded n b (MoreExprs a rest) g h = omega (arith, b 1 a h.0 h.3, following_bounded n b rest h.1 h.4)
+
+chain_bounded : (n : ℕ) → Bounded n → (cs : Comparisons) (g : List Terminal) → Many (Compares (Spells n)) (links_of cs) g → depth_of_chain cs ≤ n
+chain_bounded n b NoComparisons g h = omega arith
+chain_bounded n b (MoreComparisons op e cs) g h = omega (arith, b 10 e h.3.0 h.3.2, chain_bounded n b cs h.1 h.4)
+
+operands_bounded : (n : ℕ) → Bounded n → (op : BooleanOperator) (es : Exprs) (g : List Terminal) → Many (Behind (Word (word_of op)) (Spells n (item_level op))) (items_of es) g → depth_of_all es ≤ n
+operands_bounded n b op NoExprs g h = omega arith
+operands_bounded n b op (MoreExprs e es) g h = omega (arith, b (item_level op) e h.3.0 h.3.2, operands_bounded n b op es h.1 h.4)
+
+bounded : (n : ℕ) → Bounded n
+bounded zero l e f h = absurd h
+bounded (suc n) l e f (inr h) = omega (arith, bounded n 1 e h.0 h.2)
+bounded (suc n) l (Name x) f (inl h) = omega arith
+bounded (suc n) l (Constant v) f (inl h) = omega arith
+bounded (suc n) l (Unary op a) f (inl h) = omega (arith, bounded n (prefix_level op) a h.0 h.3)
+bounded (suc n) l (Binary op a b) f (inl h) = omega (arith, bounded n (left_level op) a h.0 h.4, bounded n (right_level op) b h.1 h.5)
+bounded (suc n) l (Call a args) f (inl h) = omega (arith, bounded n 18 a h.0 h.4, arguments_bounded n (bounded n) args h.1 h.5)
+bounded (suc n) l (Compare a cs) f (inl h) = omega (arith, bounded n 10 a h.0 h.4, chain_bounded n (bounded n) cs h.1 h.6)
+bounded (suc n) l (Boolean op a others) f (inl h) = omega (arith, bounded n (item_level op) a h.0 h.4, operands_bounded n (bounded n) op others h.1 h.6)
+bounded (suc n) l (Conditional test value other) f (inl h) = omega (arith, bounded n 3 value h.0 h.5, bounded n 3 test h.1 h.6, bounded n 1 other h.2 h.7)
+
+-- ---- lines
+
+small_shallow : (s : Stmt) (f : List Terminal) → Small s f → IsShallow s
+small_shallow (Evaluate e) f h = bounded max_depth 1 e f h
+small_shallow (Assign x e) f h = bounded max_depth 1 e h.1 h.4
+small_shallow (Augment x op e) f h = bounded max_depth 1 e h.1 h.4
+small_shallow Pass f h = tt
+small_shallow Break f h = tt
+small_shallow Continue f h = tt
+small_shallow (If test body other) f h = absurd h
+small_shallow (While test body other) f h = absurd h
+
+following_shallow : (ss : List Stmt) (g : List Terminal) → Following Small token.Semicolon ss g → AllByRecursion IsShallow ss
+following_shallow [] g h = tt
+following_shallow (s ∷ ss) g h = (small_shallow s h.0 h.3, following_shallow ss h.1 h.4)
+
+line_shallow : (ss : List Stmt) (f : List Terminal) → Simple ss f → AllByRecursion IsShallow ss
+line_shallow [] f h = tt
+line_shallow (s ∷ ss) f h = (small_shallow s h.3.0 h.3.3, following_shallow ss h.3.1 h.3.4)
+
+both_shallow : (xs ys : List Stmt) → AllByRecursion IsShallow xs → AllByRecursion IsShallow ys → AllByRecursion IsShallow (xs ++ ys)
+both_shallow [] ys g h = h
+both_shallow (x ∷ xs) ys g h = (g.0, both_shallow xs ys g.1 h)
+
+all_shallow : (ss : List Stmt) → AllByRecursion IsShallow ss → AreShallow (stmts_of ss)
+all_shallow [] h = tt
+all_shallow (s ∷ ss) h = (h.0, all_shallow ss h.1)
+
+-- ---- compound statements
+
+abbrev pub Shallow : Lines → Type 0
+Shallow L = (ss : List Stmt) (f : List Terminal) → L ss f → AllByRecursion IsShallow ss
+
+module _ (L : Lines) (shallow : Shallow L) where
+  pub lines_shallow : (lines : List (List Stmt)) (f : List Terminal) → Many L lines f → AllByRecursion IsShallow (flat_map (λ line. line) lines)
+  lines_shallow [] f h = tt
+  lines_shallow (line ∷ lines) f h = both_shallow line (flat_map (λ line. line) lines) (shallow line h.0 h.3) (lines_shallow lines h.1 h.4)
+
+  suite_shallow : (body : Stmts) (f : List Terminal) → Suite L body f → AreShallow body
+  suite_shallow body f (inl h) = subst AreShallow (sym h.3) (all_shallow h.0 (line_shallow h.0 h.1 h.4))
+  suite_shallow body f (inr h) = subst AreShallow (sym h.3.1) (all_shallow (flat_map (λ line. line) h.3.0) (lines_shallow h.3.0 h.0 h.3.2))
+
+  last_shallow : (last : Stmts) (f : List Terminal) → Otherwise L last f → AreShallow last
+  last_shallow last f (inl h) = subst AreShallow (sym h.0) tt
+  last_shallow last f (inr h) = suite_shallow last h.0 h.2
+
+  elifs_shallow : (elifs : List Branch) (last : Stmts) (f : List Terminal) → Many (Behind (Word token.ElifWord) (Tested L)) elifs f → AreShallow last → AreShallow (elifs_of elifs last)
+  elifs_shallow [] last f h low = low
+  elifs_shallow (b ∷ elifs) last f h low =
+      ((bounded max_depth 1 b.0 h.3.2.0 h.3.2.3, suite_shallow b.1 h.3.2.1 h.3.2.4, elifs_shallow elifs last h.1 h.4 low), tt)
+
+  compound_shallow : (s : Stmt) (f : List Terminal) → Compound L s f → IsShallow s
+  compound_shallow (If test body other) f h =
+      (bounded max_depth 1 test h.7.0 h.7.3, suite_shallow body h.7.1 h.7.4, subst AreShallow (sym h.6) (elifs_shallow h.0 h.1 h.3 h.8 (last_shallow h.1 h.4 h.9)))
+  compound_shallow (While test body other) f h = (bounded max_depth 1 test h.1.2.0 h.1.2.3, suite_shallow body h.1.2.1 h.1.2.4, subst AreShallow (sym h.0) tt)
+  compound_shallow (Evaluate e) f h = absurd h
+  compound_shallow (Assign x e) f h = absurd h
+  compound_shallow (Augment x op e) f h = absurd h
+  compound_shallow Pass f h = absurd h
+  compound_shallow Break f h = absurd h
+  compound_shallow Continue f h = absurd h
+
+pub nests_shallow : (n : ℕ) → Shallow (Nests n)
+nests_shallow zero ss f h = line_shallow ss f h
+nests_shallow (suc n) ss f (inl h) = line_shallow ss f h
+nests_shallow (suc n) ss f (inr h) = subst (AllByRecursion IsShallow) (sym h.1) (compound_shallow (Nests n) (nests_shallow n) h.0 f h.2, tt)

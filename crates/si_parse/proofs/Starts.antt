@@ -1,0 +1,179 @@
+-- How an expression begins: with a terminal of its own kind, and at least one.
+use Rattle.std.proofs.Common.{◌≡◌, ℕ, zero, suc, ◌+◌, ◌<◌, ◌≤◌, List, [], ◌∷◌, ◌++◌, inl, inr, length, Bool, Option, Some, None, true, false, refl, sym, ap, ◌∙◌, subst, arith, append_assoc, length-append}
+use Rattle.si_semantics.specs.Value.{Nothing, Truth, Int, Str, Provided}
+use Rattle.si_semantics.specs.Tree.{UnaryOperator, Expr, Constant, Name, Unary, Binary, Call, Boolean, Compare, Conditional}
+use Rattle.si_semantics.specs.Tree as tree
+use Rattle.si_semantics.specs.Tokens.{Keyword}
+use Rattle.si_semantics.specs.Tokens as token
+use Rattle.si_semantics.specs.Grammar.{Terminal, NAME, NUMBER, STRING, Sign, Word, NEWLINE, DEDENT, symbol_of, left_level, prefix_of, prefix_level, item_level, truth_word, Strings, Spells}
+use Rattle.si_parse.specs.Reading.{after_close, after_newline, after_not, after_if, after_while, after_elif, after_else, is_dedent, word_statement, is_singleton}
+
+-- whether an operand may begin so
+abbrev pub is_operand : Terminal → Bool
+is_operand (NAME x) = true
+is_operand (NUMBER x) = true
+is_operand (STRING x) = true
+is_operand (Sign token.Plus) = true
+is_operand (Sign token.Minus) = true
+is_operand (Sign token.Tilde) = true
+is_operand (Sign token.LeftParenthesis) = true
+is_operand (Word token.NoneWord) = true
+is_operand (Word token.TrueWord) = true
+is_operand (Word token.FalseWord) = true
+is_operand (Word token.NotWord) = true
+is_operand _ = false
+
+abbrev pub begins : List Terminal → Bool
+begins [] = false
+begins (t ∷ ts) = is_operand t
+
+begins_strings : (s : List ℕ) (f : List Terminal) → 0 < length f → Strings s f → (x : List Terminal) → begins (f ++ x) ≡ true
+begins_strings s [] some h x = absurd (omega arith)
+begins_strings s (STRING literal ∷ ts) some h x = refl
+begins_strings s (_ ∷ ts) some h x = absurd h
+
+begins_prefix : (op : UnaryOperator) → is_operand (prefix_of op) ≡ true
+begins_prefix tree.Plus = refl
+begins_prefix tree.Minus = refl
+begins_prefix tree.Invert = refl
+begins_prefix tree.Not = refl
+
+begins_truth : (b : Bool) → is_operand (Word (truth_word b)) ≡ true
+begins_truth true = refl
+begins_truth false = refl
+
+pub expression_begins : (m l : ℕ) (e : Expr) (f : List Terminal) → Spells m l e f → (x : List Terminal) → begins (f ++ x) ≡ true
+expression_begins zero l e f h x = absurd h
+expression_begins (suc m) l e f (inr h) x = ap (λ t. begins (t ++ x)) h.1
+expression_begins (suc m) l (Name i) f (inl h) x = ap (λ t. begins (t ++ x)) h
+expression_begins (suc m) l (Constant (Int n)) f (inl h) x = ap (λ t. begins (t ++ x)) h.1
+expression_begins (suc m) l (Constant (Str s)) f (inl h) x = begins_strings s f h.0 h.1 x
+expression_begins (suc m) l (Constant Nothing) f (inl h) x = ap (λ t. begins (t ++ x)) h
+expression_begins (suc m) l (Constant (Truth b)) f (inl h) x = ap (λ t. begins (t ++ x)) h ∙ begins_truth b
+expression_begins (suc m) l (Constant (Provided b)) f (inl h) x = absurd h
+expression_begins (suc m) l (Unary op a) f (inl h) x = ap (λ t. begins (t ++ x)) h.1 ∙ begins_prefix op
+expression_begins (suc m) l (Binary op a b) f (inl h) x =
+    ap (λ t. begins (t ++ x)) h.2 ∙ ap begins (append_assoc h.0 (Sign (symbol_of op) ∷ h.1) x) ∙ expression_begins m (left_level op) a h.0 h.4 (Sign (symbol_of op) ∷ (h.1 ++ x))
+expression_begins (suc m) l (Call a args) f (inl h) x =
+    ap (λ t. begins (t ++ x)) h.2
+    ∙ ap begins (append_assoc h.0 (Sign token.LeftParenthesis ∷ (h.1 ++ Sign token.RightParenthesis ∷ [])) x)
+    ∙ expression_begins m 18 a h.0 h.4 (Sign token.LeftParenthesis ∷ ((h.1 ++ Sign token.RightParenthesis ∷ []) ++ x))
+expression_begins (suc m) l (Compare a cs) f (inl h) x = ap (λ t. begins (t ++ x)) h.2 ∙ ap begins (append_assoc h.0 h.1 x) ∙ expression_begins m 10 a h.0 h.4 (h.1 ++ x)
+expression_begins (suc m) l (Boolean op a others) f (inl h) x = ap (λ t. begins (t ++ x)) h.2 ∙ ap begins (append_assoc h.0 h.1 x) ∙ expression_begins m (item_level op) a h.0 h.4 (h.1 ++ x)
+expression_begins (suc m) l (Conditional test value other) f (inl h) x =
+    ap (λ t. begins (t ++ x)) h.3
+    ∙ ap begins (append_assoc h.0 (Word token.IfWord ∷ (h.1 ++ Word token.ElseWord ∷ h.2)) x)
+    ∙ expression_begins m 3 value h.0 h.5 (Word token.IfWord ∷ ((h.1 ++ Word token.ElseWord ∷ h.2) ++ x))
+
+pub some_terminals : (m l : ℕ) (e : Expr) (f : List Terminal) → Spells m l e f → 0 < length f
+some_terminals m l e [] h = let bad : false ≡ true = expression_begins m l e [] h [] in cc
+some_terminals m l e (t ∷ f) h = omega arith
+
+-- ---- what does not begin an expression
+
+pub close_not : (ts : List Terminal) → begins ts ≡ true → after_close ts ≡ None
+close_not [] h = cc
+close_not (Sign token.RightParenthesis ∷ ts) h = cc
+close_not (_ ∷ ts) h = refl
+
+pub word_not : (ts : List Terminal) → begins ts ≡ true → word_statement ts ≡ None
+word_not [] h = cc
+word_not (Word token.PassWord ∷ ts) h = cc
+word_not (Word token.BreakWord ∷ ts) h = cc
+word_not (Word token.ContinueWord ∷ ts) h = cc
+word_not (_ ∷ ts) h = refl
+
+-- ---- how a small statement begins
+
+abbrev pub is_start : Terminal → Bool
+is_start (Word token.PassWord) = true
+is_start (Word token.BreakWord) = true
+is_start (Word token.ContinueWord) = true
+is_start t = is_operand t
+
+abbrev pub starts : List Terminal → Bool
+starts [] = false
+starts (t ∷ ts) = is_start t
+
+pub starts_operand : (ts : List Terminal) → begins ts ≡ true → starts ts ≡ true
+starts_operand [] h = h
+starts_operand (Word token.PassWord ∷ ts) h = refl
+starts_operand (Word token.BreakWord ∷ ts) h = refl
+starts_operand (Word token.ContinueWord ∷ ts) h = refl
+starts_operand (_ ∷ ts) h = h
+
+pub newline_not : (ts : List Terminal) → starts ts ≡ true → after_newline ts ≡ None
+newline_not [] h = cc
+newline_not (NEWLINE ∷ ts) h = cc
+newline_not (_ ∷ ts) h = refl
+
+pub dedent_not : (ts : List Terminal) → starts ts ≡ true → is_dedent ts ≡ false
+dedent_not [] h = cc
+dedent_not (DEDENT ∷ ts) h = cc
+dedent_not (_ ∷ ts) h = refl
+
+pub if_not : (ts : List Terminal) → starts ts ≡ true → after_if ts ≡ None
+if_not [] h = cc
+if_not (Word token.IfWord ∷ ts) h = cc
+if_not (_ ∷ ts) h = refl
+
+pub while_not : (ts : List Terminal) → starts ts ≡ true → after_while ts ≡ None
+while_not [] h = cc
+while_not (Word token.WhileWord ∷ ts) h = cc
+while_not (_ ∷ ts) h = refl
+
+pub elif_not : (ts : List Terminal) → starts ts ≡ true → after_elif ts ≡ None
+elif_not [] h = cc
+elif_not (Word token.ElifWord ∷ ts) h = cc
+elif_not (_ ∷ ts) h = refl
+
+pub else_not : (ts : List Terminal) → starts ts ≡ true → after_else ts ≡ None
+else_not [] h = cc
+else_not (Word token.ElseWord ∷ ts) h = cc
+else_not (_ ∷ ts) h = refl
+
+-- ---- an operand of one word
+
+-- what is known of an operand of a comparison that is one word
+pub record Singleton (e : Expr) (w : Keyword) : Type 0 where
+  pub spelled : Spells 1 10 e (Word w ∷ [])
+  pub is : is_singleton e 1 ≡ true
+  pub affirms : (ts : List Terminal) → after_not (Word w ∷ ts) ≡ None
+
+spelled_none : (w : Keyword) → Word w ∷ [] ≡ Word token.NoneWord ∷ [] → Singleton (Constant Nothing) w
+spelled_none w h =
+    let P : List Terminal → Type 0 = λ f. (ts : List Terminal) → after_not (f ++ ts) ≡ None in
+    record { spelled = inl h; is = refl; affirms = subst P (sym h) (λ ts. refl) }
+
+spelled_truth : (b : Bool) (w : Keyword) → Word w ∷ [] ≡ Word (truth_word b) ∷ [] → Singleton (Constant (Truth b)) w
+spelled_truth true w h =
+    let P : List Terminal → Type 0 = λ f. (ts : List Terminal) → after_not (f ++ ts) ≡ None in
+    record { spelled = inl h; is = refl; affirms = subst P (sym h) (λ ts. refl) }
+spelled_truth false w h =
+    let P : List Terminal → Type 0 = λ f. (ts : List Terminal) → after_not (f ++ ts) ≡ None in
+    record { spelled = inl h; is = refl; affirms = subst P (sym h) (λ ts. refl) }
+
+no_prefix : (op : UnaryOperator) (w : Keyword) (f : List Terminal) → 10 ≤ prefix_level op → Word w ∷ [] ≡ prefix_of op ∷ f → ⊥
+no_prefix tree.Plus w f low h = cc
+no_prefix tree.Minus w f low h = cc
+no_prefix tree.Invert w f low h = cc
+no_prefix tree.Not w f low h = omega arith
+
+pub singleton : (m : ℕ) (e : Expr) (w : Keyword) → Spells m 10 e (Word w ∷ []) → Singleton e w
+singleton zero e w h = absurd h
+singleton (suc m) e w (inr h) = cc (h.1)
+singleton (suc m) (Name x) w (inl h) = cc
+singleton (suc m) (Constant (Int n)) w (inl h) = cc (h.1)
+singleton (suc m) (Constant (Str s)) w (inl h) = absurd h.1
+singleton (suc m) (Constant Nothing) w (inl h) = spelled_none w h
+singleton (suc m) (Constant (Truth b)) w (inl h) = spelled_truth b w h
+singleton (suc m) (Constant (Provided b)) w (inl h) = absurd h
+singleton (suc m) (Unary op a) w (inl h) = absurd (no_prefix op w h.0 h.2 h.1)
+singleton (suc m) (Binary op a b) w (inl h) =
+    absurd (omega (arith, ap length h.2, length-append h.0 (Sign (symbol_of op) ∷ h.1), some_terminals m (left_level op) a h.0 h.4))
+singleton (suc m) (Call a args) w (inl h) =
+    absurd (omega (arith, ap length h.2, length-append h.0 (Sign token.LeftParenthesis ∷ (h.1 ++ Sign token.RightParenthesis ∷ [])), some_terminals m 18 a h.0 h.4))
+singleton (suc m) (Compare a cs) w (inl h) = absurd (omega (arith, h.3))
+singleton (suc m) (Boolean tree.And a others) w (inl h) = absurd (omega (arith, h.3))
+singleton (suc m) (Boolean tree.Or a others) w (inl h) = absurd (omega (arith, h.3))
+singleton (suc m) (Conditional test value other) w (inl h) = absurd (omega (arith, h.4))

@@ -1,0 +1,234 @@
+-- Small statements and lines: what is read is in the grammar, and what is in the grammar is read.
+use Rattle.std.proofs.Common.{◌≡◌, ℕ, zero, suc, ◌+◌, ◌<◌, ◌≤◌, List, [], ◌∷◌, ◌++◌, length, Option, Some, None, true, false, refl, sym, ap, ◌∙◌, subst, map, arith, append_assoc, length-append}
+use Rattle.std.specs.Prelude.{option_map}
+use Rattle.std.proofs.lemmas.List.{append-nil, length-map}
+use Rattle.si_semantics.specs.Value.{Text}
+use Rattle.si_semantics.specs.Tree.{BinaryOperator, Add, Subtract, Multiply, FloorDivide, Modulo, Power, BitOr, BitXor, BitAnd, ShiftLeft, ShiftRight, Expr, Constant, Name, Unary, Binary, Call, Boolean, Compare, Conditional, Stmt, Evaluate, Assign, Augment, Pass, If, While, Break, Continue}
+use Rattle.si_semantics.specs.Tokens.{Symbol}
+use Rattle.si_semantics.specs.Tokens as token
+use Rattle.si_semantics.specs.Grammar.{Terminal, Sign, Word, NEWLINE, Following, Separated, max_depth, IsExpression, augmented_of, Small, Simple}
+use Rattle.si_parse.specs.Reading.{then_read, rest_of, strength_at, begins_str, after_semicolon, after_newline, expression_at, assignment_symbol, assignment_at, assigned, statement_from, spelled_by, word_statement, small_from, statement_by, with_statement, line_by}
+use Rattle.si_parse.proofs.Laws.{then_read_some, some_inj, spells_deeper, after_semicolon_some, after_newline_some}
+use Rattle.si_parse.proofs.Levels.{at_condition}
+use Rattle.si_parse.proofs.Lists.{added, Pairwise, separated_sound, separated_complete}
+use Rattle.si_parse.proofs.Starts.{expression_begins, some_terminals, word_not, starts, starts_operand, newline_not}
+use Rattle.si_parse.proofs.Sound.{expression_sound}
+use Rattle.si_parse.proofs.Complete.{expression_complete}
+
+-- ---- signs of assignments
+
+abbrev sign_of : Option BinaryOperator → Symbol
+sign_of None = token.Equal
+sign_of (Some op) = augmented_of op
+
+sign_is : (s : Symbol) (a : Option BinaryOperator) → assignment_symbol s ≡ Some a → s ≡ sign_of a
+sign_is token.Equal a h = ap sign_of (some_inj None a h)
+sign_is token.BarEqual a h = ap sign_of (some_inj (Some BitOr) a h)
+sign_is token.CaretEqual a h = ap sign_of (some_inj (Some BitXor) a h)
+sign_is token.AmpersandEqual a h = ap sign_of (some_inj (Some BitAnd) a h)
+sign_is token.LeftShiftEqual a h = ap sign_of (some_inj (Some ShiftLeft) a h)
+sign_is token.RightShiftEqual a h = ap sign_of (some_inj (Some ShiftRight) a h)
+sign_is token.PlusEqual a h = ap sign_of (some_inj (Some Add) a h)
+sign_is token.MinusEqual a h = ap sign_of (some_inj (Some Subtract) a h)
+sign_is token.StarEqual a h = ap sign_of (some_inj (Some Multiply) a h)
+sign_is token.DoubleSlashEqual a h = ap sign_of (some_inj (Some FloorDivide) a h)
+sign_is token.PercentEqual a h = ap sign_of (some_inj (Some Modulo) a h)
+sign_is token.DoubleStarEqual a h = ap sign_of (some_inj (Some Power) a h)
+sign_is _ a h = cc
+
+sign_from : (s : Symbol) (ts : List Terminal) (o : Option (Option BinaryOperator)) → assignment_symbol s ≡ o → (a : Option BinaryOperator) (rest : List Terminal) → option_map {U = Option BinaryOperator × List Terminal} (λ op. (op, ts)) o ≡ Some (a, rest) → Sign s ∷ ts ≡ Sign (sign_of a) ∷ rest
+sign_from s ts None is a rest h = cc
+sign_from s ts (Some b) is a rest h =
+    let e = some_inj (b, ts) (a, rest) h in ap (λ x. Sign x ∷ ts) (sign_is s b is) ∙ ap (λ p. Sign (sign_of p.0) ∷ p.1) e
+
+assignment_some : (ts : List Terminal) (a : Option BinaryOperator) (rest : List Terminal) → assignment_at ts ≡ Some (a, rest) → ts ≡ Sign (sign_of a) ∷ rest
+assignment_some [] a rest h = cc
+assignment_some (Sign s ∷ ts) a rest h = sign_from s ts (assignment_symbol s) refl a rest h
+assignment_some (_ ∷ ts) a rest h = cc
+
+assignment_is : (a : Option BinaryOperator) (ts : List Terminal) → assignment_at (Sign (sign_of a) ∷ ts) ≡ Some (a, ts)
+assignment_is None ts = refl
+assignment_is (Some BitOr) ts = refl
+assignment_is (Some BitXor) ts = refl
+assignment_is (Some BitAnd) ts = refl
+assignment_is (Some ShiftLeft) ts = refl
+assignment_is (Some ShiftRight) ts = refl
+assignment_is (Some Add) ts = refl
+assignment_is (Some Subtract) ts = refl
+assignment_is (Some Multiply) ts = refl
+assignment_is (Some FloorDivide) ts = refl
+assignment_is (Some Modulo) ts = refl
+assignment_is (Some Power) ts = refl
+
+sign_weak : (a : Option BinaryOperator) (ts : List Terminal) → (strength_at (Sign (sign_of a) ∷ ts) < 1) × (begins_str (Sign (sign_of a) ∷ ts) ≡ false)
+sign_weak None ts = (omega arith, refl)
+sign_weak (Some BitOr) ts = (omega arith, refl)
+sign_weak (Some BitXor) ts = (omega arith, refl)
+sign_weak (Some BitAnd) ts = (omega arith, refl)
+sign_weak (Some ShiftLeft) ts = (omega arith, refl)
+sign_weak (Some ShiftRight) ts = (omega arith, refl)
+sign_weak (Some Add) ts = (omega arith, refl)
+sign_weak (Some Subtract) ts = (omega arith, refl)
+sign_weak (Some Multiply) ts = (omega arith, refl)
+sign_weak (Some FloorDivide) ts = (omega arith, refl)
+sign_weak (Some Modulo) ts = (omega arith, refl)
+sign_weak (Some Power) ts = (omega arith, refl)
+
+-- ---- a statement
+
+abbrev SmallRead : List Terminal → Stmt × List Terminal → Type 0
+SmallRead ts r = (f : List Terminal) × (ts ≡ f ++ r.1) × Small r.0 f
+
+assigned_small : (x : Text) (a : Option BinaryOperator) (e : Expr) (f g : List Terminal) → IsExpression (Name x) f → IsExpression e g → Small (assigned x a e) (f ++ Sign (sign_of a) ∷ g)
+assigned_small x None e f g h i = (f, g, refl, h, i)
+assigned_small x (Some op) e f g h i = (f, g, refl, h, i)
+
+from_reads : (f ts : List Terminal) (e : Expr) (o : Option (Option BinaryOperator × List Terminal)) → assignment_at ts ≡ o → IsExpression e f → (r : Stmt × List Terminal) → statement_from (expression_at max_depth) ts e o ≡ Some r → SmallRead (f ++ ts) r
+from_reads f ts e None is spelled r h =
+    let P : Stmt × List Terminal → Type 0 = SmallRead (f ++ ts) in subst P (some_inj (Evaluate e, ts) r h) (f, refl, spelled)
+from_reads f ts (Name x) (Some a) is spelled r h =
+    let s = then_read_some (expression_at max_depth 1 a.1) (λ r. Some (assigned x a.0 r.0, r.2)) r h in
+    let b = expression_sound max_depth 1 (omega arith) at_condition a.1 s.0 s.1 in
+    let P : Stmt × List Terminal → Type 0 = SmallRead (f ++ ts) in
+    subst P (some_inj (assigned x a.0 s.0.0, s.0.2) r s.2) (
+      f ++ Sign (sign_of a.0) ∷ b.0.front,
+      ap (λ t. f ++ t) (assignment_some ts a.0 a.1 is ∙ ap (λ t. Sign (sign_of a.0) ∷ t) b.0.split) ∙ sym (append_assoc f (Sign (sign_of a.0) ∷ b.0.front) s.0.2),
+      assigned_small x a.0 s.0.0 f b.0.front spelled (spells_deeper s.0.1 max_depth b.1 1 s.0.0 b.0.front b.0.spelled),
+    )
+from_reads f ts (Constant v) (Some a) is spelled r h = cc
+from_reads f ts (Unary op e) (Some a) is spelled r h = cc
+from_reads f ts (Binary op e g) (Some a) is spelled r h = cc
+from_reads f ts (Call e args) (Some a) is spelled r h = cc
+from_reads f ts (Boolean op e others) (Some a) is spelled r h = cc
+from_reads f ts (Compare e cs) (Some a) is spelled r h = cc
+from_reads f ts (Conditional e g i) (Some a) is spelled r h = cc
+
+spelled_reads : (ts : List Terminal) (r : Stmt × List Terminal) → spelled_by (expression_at max_depth) ts ≡ Some r → SmallRead ts r
+spelled_reads ts r h =
+    let s = then_read_some (expression_at max_depth 1 ts) (λ r. statement_from (expression_at max_depth) r.2 r.0 (assignment_at r.2)) r h in
+    let a = expression_sound max_depth 1 (omega arith) at_condition ts s.0 s.1 in
+    let P : List Terminal → Type 0 = λ t. SmallRead t r in
+    subst P (sym a.0.split) (from_reads a.0.front s.0.2 s.0.0 (assignment_at s.0.2) refl (spells_deeper s.0.1 max_depth a.1 1 s.0.0 a.0.front a.0.spelled) r s.2)
+
+word_reads : (ts : List Terminal) (s : Stmt) → word_statement ts ≡ Some s → SmallRead ts (s, rest_of ts)
+word_reads [] s h = cc
+word_reads (Word token.PassWord ∷ ts) s h = let P : Stmt → Type 0 = λ s. SmallRead (Word token.PassWord ∷ ts) (s, ts) in subst P (some_inj Pass s h) (Word token.PassWord ∷ [], refl, refl)
+word_reads (Word token.BreakWord ∷ ts) s h = let P : Stmt → Type 0 = λ s. SmallRead (Word token.BreakWord ∷ ts) (s, ts) in subst P (some_inj Break s h) (Word token.BreakWord ∷ [], refl, refl)
+word_reads (Word token.ContinueWord ∷ ts) s h = let P : Stmt → Type 0 = λ s. SmallRead (Word token.ContinueWord ∷ ts) (s, ts) in subst P (some_inj Continue s h) (Word token.ContinueWord ∷ [], refl, refl)
+word_reads (_ ∷ ts) s h = cc
+
+small_reads : (ts : List Terminal) (o : Option Stmt) → word_statement ts ≡ o → (r : Stmt × List Terminal) → small_from (expression_at max_depth) ts o ≡ Some r → SmallRead ts r
+small_reads ts (Some s) is r h = let P : Stmt × List Terminal → Type 0 = SmallRead ts in subst P (some_inj (s, rest_of ts) r h) (word_reads ts s is)
+small_reads ts None is r h = spelled_reads ts r h
+
+statement_reads : (ts : List Terminal) (r : Stmt × List Terminal) → statement_by (expression_at max_depth) ts ≡ Some r → SmallRead ts r
+statement_reads ts r h = small_reads ts (word_statement ts) refl r h
+
+-- what may stand behind a statement
+abbrev Follows : List Terminal → Type 0
+Follows more = (strength_at more < 1) × (begins_str more ≡ false) × (assignment_at more ≡ None)
+
+by_expression : (m : ℕ) (e : Expr) (f more : List Terminal) → IsExpression e f → statement_by (expression_at max_depth) (f ++ more) ≡ spelled_by (expression_at max_depth) (f ++ more)
+by_expression m e f more h = ap (small_from (expression_at max_depth) (f ++ more)) (word_not (f ++ more) (expression_begins max_depth 1 e f h more))
+
+assigned_complete : (x : Text) (a : Option BinaryOperator) (e : Expr) (f g whole more : List Terminal) → whole ≡ f ++ Sign (sign_of a) ∷ g → IsExpression (Name x) f → IsExpression e g → Follows more → statement_by (expression_at max_depth) (whole ++ more) ≡ Some (assigned x a e, more)
+assigned_complete x a e f g whole more is hx he ends =
+    let behind = g ++ more in
+    let weak = sign_weak a behind in
+    let c = expression_complete max_depth max_depth 1 (Name x) f (Sign (sign_of a) ∷ behind) (omega arith) (omega arith) hx weak.0 weak.1 in
+    let d = expression_complete max_depth max_depth 1 e g more (omega arith) (omega arith) he ends.0 ends.1 in
+    let split : whole ++ more ≡ f ++ Sign (sign_of a) ∷ behind = ap (λ t. t ++ more) is ∙ append_assoc f (Sign (sign_of a) ∷ g) more in
+    ap (statement_by (expression_at max_depth)) split
+    ∙ by_expression max_depth (Name x) f (Sign (sign_of a) ∷ behind) hx
+    ∙ ap (λ r. then_read r (λ r. statement_from (expression_at max_depth) r.2 r.0 (assignment_at r.2))) c.3
+    ∙ ap (statement_from (expression_at max_depth) (Sign (sign_of a) ∷ behind) (Name x)) (assignment_is a behind)
+    ∙ ap (λ r. then_read r (λ r. Some (assigned x a r.0, r.2))) d.3
+
+statement_complete : (s : Stmt) (f more : List Terminal) → Small s f → Follows more → statement_by (expression_at max_depth) (f ++ more) ≡ Some (s, more)
+statement_complete (Evaluate e) f more h ends =
+    let c = expression_complete max_depth max_depth 1 e f more (omega arith) (omega arith) h ends.0 ends.1 in
+    by_expression max_depth e f more h ∙ ap (λ r. then_read r (λ r. statement_from (expression_at max_depth) r.2 r.0 (assignment_at r.2))) c.3 ∙ ap (statement_from (expression_at max_depth) more e) ends.2
+statement_complete (Assign x e) f more h ends = assigned_complete x None e h.0 h.1 f more h.2 h.3 h.4 ends
+statement_complete (Augment x op e) f more h ends = assigned_complete x (Some op) e h.0 h.1 f more h.2 h.3 h.4 ends
+statement_complete Pass f more h ends = ap (λ t. statement_by (expression_at max_depth) (t ++ more)) h
+statement_complete Break f more h ends = ap (λ t. statement_by (expression_at max_depth) (t ++ more)) h
+statement_complete Continue f more h ends = ap (λ t. statement_by (expression_at max_depth) (t ++ more)) h
+statement_complete (If test body other) f more h ends = absurd h
+statement_complete (While test body other) f more h ends = absurd h
+
+expression_starts : (e : Expr) (f more : List Terminal) → IsExpression e f → starts (f ++ more) ≡ true
+expression_starts e f more h = starts_operand (f ++ more) (expression_begins max_depth 1 e f h more)
+
+target_starts : (x : Text) (s : Symbol) (f g whole more : List Terminal) → whole ≡ f ++ Sign s ∷ g → IsExpression (Name x) f → starts (whole ++ more) ≡ true
+target_starts x s f g whole more is h = ap starts (ap (λ t. t ++ more) is ∙ append_assoc f (Sign s ∷ g) more) ∙ expression_starts (Name x) f (Sign s ∷ (g ++ more)) h
+
+pub small_starts : (s : Stmt) (f more : List Terminal) → Small s f → starts (f ++ more) ≡ true
+small_starts (Evaluate e) f more h = expression_starts e f more h
+small_starts (Assign x e) f more h = target_starts x token.Equal h.0 h.1 f more h.2 h.3
+small_starts (Augment x op e) f more h = target_starts x (augmented_of op) h.0 h.1 f more h.2 h.3
+small_starts Pass f more h = ap (λ t. starts (t ++ more)) h
+small_starts Break f more h = ap (λ t. starts (t ++ more)) h
+small_starts Continue f more h = ap (λ t. starts (t ++ more)) h
+small_starts (If test body other) f more h = absurd h
+small_starts (While test body other) f more h = absurd h
+
+separated_starts : (line : List Stmt) (f more : List Terminal) → 0 < length line → Separated Small token.Semicolon line f → starts (f ++ more) ≡ true
+separated_starts [] f more some h = absurd (omega arith)
+separated_starts (s ∷ line) f more some h = ap starts (ap (λ t. t ++ more) h.2 ∙ append_assoc h.0 h.1 more) ∙ small_starts s h.0 (h.1 ++ more) h.3
+
+pub line_starts : (line : List Stmt) (f more : List Terminal) → Simple line f → starts (f ++ more) ≡ true
+line_starts line f more h = ap starts (ap (λ t. t ++ more) h.1 ∙ append_assoc h.0 (NEWLINE ∷ []) more) ∙ separated_starts line h.0 (NEWLINE ∷ more) h.2 h.3
+
+pub line_terminals : (line : List Stmt) (f : List Terminal) → Simple line f → 0 < length f
+line_terminals line f h = omega (arith, ap length h.1, length-append h.0 (NEWLINE ∷ []))
+
+-- ---- a line
+
+abbrev first : Stmt × List Terminal → Stmt
+first r = r.0
+
+abbrev Spelled : Stmt × List Terminal → List Terminal → Type 0
+Spelled r f = Small r.0 f
+
+added_is : (body : List Stmt) (xs : List (Stmt × List Terminal)) → added with_statement body xs ≡ body ++ map first xs
+added_is body [] = sym (append-nil body)
+added_is body (x ∷ xs) = added_is (body ++ x.0 ∷ []) xs ∙ append_assoc body (x.0 ∷ []) (map first xs)
+
+following_firsts : (xs : List (Stmt × List Terminal)) (g : List Terminal) → Following Spelled token.Semicolon xs g → Following Small token.Semicolon (map first xs) g
+following_firsts [] g h = h
+following_firsts (x ∷ xs) g h = (h.0, h.1, h.2, h.3, following_firsts xs h.1 h.4)
+
+separated_firsts : (xs : List (Stmt × List Terminal)) (g : List Terminal) → Separated Spelled token.Semicolon xs g → Separated Small token.Semicolon (map first xs) g
+separated_firsts [] g h = h
+separated_firsts (x ∷ xs) g h = (h.0, h.1, h.2, h.3, following_firsts xs h.1 h.4)
+
+abbrev pub with_line : List Stmt → List Stmt → List Stmt
+with_line body line = body ++ line
+
+pub line_reads : (body : List Stmt) (ts : List Terminal) (r : List Stmt × List Terminal) → line_by (expression_at max_depth) body ts ≡ Some r
+    → (line : List Stmt) × (f : List Terminal) × (r.0 ≡ with_line body line) × (ts ≡ f ++ r.1) × Simple line f
+line_reads body ts r h =
+    let s = separated_sound with_statement (λ r. r.1) (statement_by (expression_at max_depth)) after_semicolon after_newline token.Semicolon NEWLINE Spelled statement_reads after_semicolon_some after_newline_some
+    (length ts) body ts r h in
+    (map first s.0, s.1 ++ NEWLINE ∷ [], s.2 ∙ added_is body s.0, s.4 ∙ sym (append_assoc s.1 (NEWLINE ∷ []) r.1), (s.1, refl, omega (arith, length-map s.0 first), separated_firsts s.0 s.1 s.5))
+
+abbrev Read : Stmt → Stmt × List Terminal → Type 0
+Read s r = s ≡ r.0
+
+collected : (body xs : List Stmt) (rs : List (Stmt × List Terminal)) → Pairwise Read xs rs → added with_statement body rs ≡ body ++ xs
+collected body [] [] h = sym (append-nil body)
+collected body [] (r ∷ rs) h = absurd h
+collected body (x ∷ xs) [] h = absurd h
+collected body (x ∷ xs) (r ∷ rs) h = collected (body ++ r.0 ∷ []) xs rs h.1 ∙ append_assoc body (r.0 ∷ []) xs ∙ ap (λ y. body ++ y ∷ xs) (sym h.0)
+
+statement_read : (s : Stmt) (f more : List Terminal) → Small s f → Follows more → (r : Stmt × List Terminal) × (statement_by (expression_at max_depth) (f ++ more) ≡ Some r) × (r.1 ≡ more) × Read s r
+statement_read s f more h ends = ((s, more), statement_complete s f more h ends, refl, refl)
+
+pub line_complete : (body line : List Stmt) (f more : List Terminal) → Simple line f → line_by (expression_at max_depth) body (f ++ more) ≡ Some (with_line body line, more)
+line_complete body line f more h =
+    let split : f ++ more ≡ h.0 ++ NEWLINE ∷ more = ap (λ t. t ++ more) h.1 ∙ append_assoc h.0 (NEWLINE ∷ []) more in
+    let long : length (h.0 ++ NEWLINE ∷ more) ≡ length h.0 + length (NEWLINE ∷ more) = length-append h.0 (NEWLINE ∷ more) in
+    let s = separated_complete with_statement (λ r. r.1) (statement_by (expression_at max_depth)) after_semicolon after_newline token.Semicolon NEWLINE Small Read Follows statement_read
+    (λ s f more h. newline_not (f ++ more) (small_starts s f more h)) (λ ts. refl) (λ ts. refl) (λ ts. refl) (λ ts. (omega arith, refl, refl)) (λ ts. (omega arith, refl, refl))
+    (length (h.0 ++ NEWLINE ∷ more)) body line h.0 more (omega arith) h.2 h.3 in
+    ap (line_by (expression_at max_depth) body) split ∙ s.2 ∙ ap (λ b. Some (b, more)) (collected body line s.0 s.1)

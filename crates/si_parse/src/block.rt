@@ -1,0 +1,182 @@
+// Compound statements and their suites.
+
+ghost use Rattle.std.specs.Prelude.{◌≡◌, ℕ, ◌+◌, ◌-◌, ◌*◌, ◌<◌, [], length, map, option_map};
+ghost use Rattle.si_parse.specs.Trees.{expr_of, stmt_of, branch_of};
+ghost use Rattle.si_parse.specs.Reading.{indented_by, suite_by, branch_by, elifs_by, otherwise_by, if_by, while_by, block_at};
+ghost use Rattle.si_parse.specs.Gives.{Gives, from};
+
+use crate::expression::expression;
+use crate::fault::ParseFault;
+use crate::lookahead::{
+    after_colon, after_dedent, after_elif, after_else, after_if, after_indent, after_newline,
+    after_while, line_at,
+};
+use crate::precedence::ANY;
+use crate::statement::line;
+use crate::syntax::{Expr, Stmt};
+use si_plain::limits::MAX_EXPRESSION_DEPTH;
+use si_token::Token;
+use std::alloc::Global;
+
+// The most compound statements that are nested.
+pub(crate) const MAX_NESTING: u32 = 20;
+
+// Statements, and the place behind them.
+type Suite = Result<(Vec<Stmt>, usize), ParseFault>;
+
+// The statements before with those of a line, or with a compound statement; so many of these are nested at most.
+#[cycle(blocks)]
+#[tactic(auto, using(crate::proofs::Steps::block_at_zero, crate::proofs::Steps::block_at_step))]
+pub(crate) fn block(
+    alloc: Global,
+    nesting: u32,
+    before: Vec<Stmt>,
+    tokens: &[Token],
+    at: usize,
+) -> Suite
+    requires { nesting < 1000 }
+    ensures { Gives (λ x. (map stmt_of x.0.items, from tokens.now x.1)) result (block_at nesting (map stmt_of before.items) (from tokens.now at)) }
+{
+    if nesting == 0 {
+        return line(alloc, before, tokens, at);
+    }
+    let mut body = before;
+    if let Some(behind) = after_if(tokens, at) {
+        let (statement, end) = if_statement(alloc, nesting - 1, tokens, behind)?;
+        body.push(statement)?;
+        return Ok((body, end));
+    }
+    if let Some(behind) = after_while(tokens, at) {
+        let (statement, end) = while_statement(alloc, nesting - 1, tokens, behind)?;
+        body.push(statement)?;
+        return Ok((body, end));
+    }
+    line(alloc, body, tokens, at)
+}
+
+// The statement from behind its `if`.
+#[cycle(blocks)]
+#[tactic(auto, using(crate::proofs::Forms::if_is))]
+fn if_statement(
+    alloc: Global,
+    parts: u32,
+    tokens: &[Token],
+    start: usize,
+) -> Result<(Stmt, usize), ParseFault>
+    requires { parts < 999 }
+    ensures { Gives (λ x. (stmt_of x.0, from tokens.now x.1)) result (if_by (block_at parts) (from tokens.now start)) }
+{
+    let ((test, body), behind) = branch(alloc, parts, tokens, start)?;
+    let (elifs, at) = elifs(alloc, parts, tokens, behind)?;
+    let (last, end) = otherwise(alloc, parts, tokens, at)?;
+    Ok((Stmt::If(test, body, elifs, last), end))
+}
+
+// The statement from behind its `while`.
+#[cycle(blocks)]
+fn while_statement(
+    alloc: Global,
+    parts: u32,
+    tokens: &[Token],
+    start: usize,
+) -> Result<(Stmt, usize), ParseFault>
+    requires { parts < 999 }
+    ensures { Gives (λ x. (stmt_of x.0, from tokens.now x.1)) result (while_by (block_at parts) (from tokens.now start)) }
+{
+    let ((test, body), end) = branch(alloc, parts, tokens, start)?;
+    Ok((Stmt::While(test, body), end))
+}
+
+// A test and its suite, and the place behind them.
+#[cycle(blocks)]
+fn branch(
+    alloc: Global,
+    parts: u32,
+    tokens: &[Token],
+    start: usize,
+) -> Result<((Expr, Vec<Stmt>), usize), ParseFault>
+    requires { parts < 999 }
+    ensures { Gives (λ x. (branch_of x.0.0 x.0.1.items, from tokens.now x.1)) result (branch_by (block_at parts) (from tokens.now start)) }
+{
+    let (test, _, at) = expression(alloc, MAX_EXPRESSION_DEPTH, ANY, tokens, start)?;
+    let (body, end) = suite(alloc, parts, tokens, at)?;
+    Ok(((test, body), end))
+}
+
+// The test and the suite of each `elif`, and the place behind them.
+#[cycle(blocks)]
+#[tactic(auto, using(crate::proofs::Steps::many_by_zero, crate::proofs::Steps::many_by_step))]
+fn elifs(
+    alloc: Global,
+    parts: u32,
+    tokens: &[Token],
+    start: usize,
+) -> Result<(Vec<(Expr, Vec<Stmt>)>, usize), ParseFault>
+    requires { parts < 999 }
+    ensures { Gives (λ x. (map (λ b. branch_of b.0 b.1.items) x.0.items, from tokens.now x.1)) result (elifs_by (block_at parts) (from tokens.now start)) }
+{
+    let mut elifs = Vec::new(alloc);
+    let mut at = start;
+    for _turn in start..tokens.len() {
+        let Some(behind) = after_elif(tokens, at) else {
+            return Ok((elifs, at));
+        };
+        let (next, end) = branch(alloc, parts, tokens, behind)?;
+        elifs.push(next)?;
+        at = end;
+    }
+    Err(ParseFault::Syntax(line_at(tokens, at)))
+}
+
+// The suite of an `else`, where one stands at the place.
+#[cycle(blocks)]
+fn otherwise(alloc: Global, parts: u32, tokens: &[Token], at: usize) -> Suite
+    requires { parts < 999 }
+    ensures { Gives (λ x. (map stmt_of x.0.items, from tokens.now x.1)) result (otherwise_by (block_at parts) (from tokens.now at)) }
+{
+    match after_else(tokens, at) {
+        Some(behind) => suite(alloc, parts, tokens, behind),
+        None => Ok((Vec::new(alloc), at)),
+    }
+}
+
+// A colon with a line behind it, or with indented lines.
+#[cycle(blocks)]
+fn suite(alloc: Global, parts: u32, tokens: &[Token], at: usize) -> Suite
+    requires { parts < 999 }
+    ensures { Gives (λ x. (map stmt_of x.0.items, from tokens.now x.1)) result (suite_by (block_at parts) (from tokens.now at)) }
+{
+    let Some(behind) = after_colon(tokens, at) else {
+        return Err(ParseFault::Syntax(line_at(tokens, at)));
+    };
+    let Some(next) = after_newline(tokens, behind) else {
+        return line(alloc, Vec::new(alloc), tokens, behind);
+    };
+    match after_indent(tokens, next) {
+        Some(first) => indented(alloc, parts, tokens, first),
+        None => Err(ParseFault::Syntax(line_at(tokens, next))),
+    }
+}
+
+// The lines from behind an indent up to the dedent, of which there is one at least.
+#[cycle(blocks)]
+#[tactic(auto, using(crate::proofs::Steps::many_by_zero, crate::proofs::Steps::many_by_step))]
+fn indented(alloc: Global, parts: u32, tokens: &[Token], start: usize) -> Suite
+    requires { parts < 999 }
+    ensures { Gives (λ x. (map stmt_of x.0.items, from tokens.now x.1)) result (indented_by (block_at parts) (from tokens.now start)) }
+{
+    if after_dedent(tokens, start).is_some() {
+        return Err(ParseFault::Syntax(line_at(tokens, start)));
+    }
+    let mut body = Vec::new(alloc);
+    let mut at = start;
+    for _turn in start..tokens.len() {
+        if let Some(end) = after_dedent(tokens, at) {
+            return Ok((body, end));
+        }
+        let (longer, behind) = block(alloc, parts, body, tokens, at)?;
+        body = longer;
+        at = behind;
+    }
+    Err(ParseFault::Syntax(line_at(tokens, at)))
+}

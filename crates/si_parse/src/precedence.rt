@@ -1,0 +1,205 @@
+// What continues an expression, and how tightly: levels and strengths of operators.
+
+ghost use Rattle.std.specs.Prelude.{◌≡◌, option_map, IfSome};
+ghost use Rattle.si_semantics.specs.Grammar.{left_level, right_level, prefix_level, item_level};
+ghost use Rattle.si_token.specs.Views.{symbol_of, keyword_of};
+ghost use Rattle.si_parse.specs.Trees.{binary_of, unary_of, comparison_of, boolean_of};
+ghost use Rattle.si_parse.specs.Reading.{role_of, word_role, continuation_at, strength_of, rest_of, prefix_at, comparison_symbol, comparison_at};
+ghost use Rattle.si_parse.specs.Gives.{from, continuation_view};
+
+use crate::lookahead::{after_not, token_at};
+use crate::syntax::{BinaryOperator, BooleanOperator, ComparisonOperator, UnaryOperator};
+use si_token::{Keyword, Symbol, Token, TokenKind};
+
+// The level of any expression, and of operands: of a conditional expression's value and test, of `or`, of `and`, of a
+// comparison, of a sign, and of a call (the callee).
+pub(crate) const ANY: u32 = 1;
+
+pub(crate) const DISJUNCTION: u32 = 3;
+
+const CONJUNCTION: u32 = 5;
+
+const INVERSION: u32 = 7;
+
+pub(crate) const COMPARED: u32 = 10;
+
+const FACTOR: u32 = 16;
+
+const PRIMARY: u32 = 18;
+
+// What a token does behind an operand.
+#[derive(Clone, Copy)]
+pub(crate) enum Continuation {
+    Operator(BinaryOperator),
+    Arguments,
+    Comparison,
+    Boolean(BooleanOperator),
+    // the `if` of a conditional expression
+    Condition,
+    Nothing,
+}
+
+// The level that the left operand of an operator has at least.
+fn left_level(operator: BinaryOperator) -> u32
+    ensures { result ≡ left_level (binary_of operator) }
+{
+    match operator {
+        BinaryOperator::BitOr => 10,
+        BinaryOperator::BitXor => 11,
+        BinaryOperator::BitAnd => 12,
+        BinaryOperator::ShiftLeft | BinaryOperator::ShiftRight => 13,
+        BinaryOperator::Add | BinaryOperator::Subtract => 14,
+        BinaryOperator::Multiply | BinaryOperator::FloorDivide | BinaryOperator::Modulo => 15,
+        BinaryOperator::Power => PRIMARY,
+    }
+}
+
+// The level that its right operand has at least.
+pub(crate) fn right_level(operator: BinaryOperator) -> u32
+    ensures { result ≡ right_level (binary_of operator) }
+{
+    match operator {
+        BinaryOperator::BitOr => 11,
+        BinaryOperator::BitXor => 12,
+        BinaryOperator::BitAnd => 13,
+        BinaryOperator::ShiftLeft | BinaryOperator::ShiftRight => 14,
+        BinaryOperator::Add | BinaryOperator::Subtract => 15,
+        BinaryOperator::Multiply | BinaryOperator::FloorDivide | BinaryOperator::Modulo => 16,
+        BinaryOperator::Power => FACTOR,
+    }
+}
+
+// The level of an operator before its operand, which has the same level at least.
+pub(crate) fn prefix_level(operator: UnaryOperator) -> u32
+    ensures { result ≡ prefix_level (unary_of operator) }
+{
+    match operator {
+        UnaryOperator::Plus | UnaryOperator::Minus | UnaryOperator::Invert => FACTOR,
+        UnaryOperator::Not => INVERSION,
+    }
+}
+
+// The level that each operand of `and`, or of `or`, has at least.
+pub(crate) fn item_level(operator: BooleanOperator) -> u32
+    ensures { result ≡ item_level (boolean_of operator) }
+{
+    match operator {
+        BooleanOperator::Or => CONJUNCTION,
+        BooleanOperator::And => INVERSION,
+    }
+}
+
+// What a symbol does behind an operand.
+fn role_of(symbol: Symbol) -> Continuation
+    ensures { continuation_view result ≡ role_of (symbol_of symbol) }
+{
+    match symbol {
+        Symbol::Bar => Continuation::Operator(BinaryOperator::BitOr),
+        Symbol::Caret => Continuation::Operator(BinaryOperator::BitXor),
+        Symbol::Ampersand => Continuation::Operator(BinaryOperator::BitAnd),
+        Symbol::LeftShift => Continuation::Operator(BinaryOperator::ShiftLeft),
+        Symbol::RightShift => Continuation::Operator(BinaryOperator::ShiftRight),
+        Symbol::Plus => Continuation::Operator(BinaryOperator::Add),
+        Symbol::Minus => Continuation::Operator(BinaryOperator::Subtract),
+        Symbol::Star => Continuation::Operator(BinaryOperator::Multiply),
+        Symbol::DoubleSlash => Continuation::Operator(BinaryOperator::FloorDivide),
+        Symbol::Percent => Continuation::Operator(BinaryOperator::Modulo),
+        Symbol::DoubleStar => Continuation::Operator(BinaryOperator::Power),
+        Symbol::LeftParenthesis => Continuation::Arguments,
+        Symbol::Less | Symbol::Greater => Continuation::Comparison,
+        Symbol::LessEqual | Symbol::GreaterEqual => Continuation::Comparison,
+        Symbol::EqualEqual | Symbol::NotEqual => Continuation::Comparison,
+        _ => Continuation::Nothing,
+    }
+}
+
+// What a keyword does behind an operand.
+fn word_role(keyword: Keyword) -> Continuation
+    ensures { continuation_view result ≡ word_role (keyword_of keyword) }
+{
+    match keyword {
+        Keyword::And => Continuation::Boolean(BooleanOperator::And),
+        Keyword::Or => Continuation::Boolean(BooleanOperator::Or),
+        Keyword::Is => Continuation::Comparison,
+        Keyword::If => Continuation::Condition,
+        _ => Continuation::Nothing,
+    }
+}
+
+// What the token at the place does behind an operand, and the place behind it.
+pub(crate) fn what_follows(tokens: &[Token], at: usize) -> (Continuation, usize)
+    ensures role { continuation_view result.0 ≡ continuation_at (from tokens.now at) }
+    ensures behind { from tokens.now result.1 ≡ rest_of (from tokens.now at) }
+{
+    let Some(token) = token_at(tokens, at) else {
+        return (Continuation::Nothing, at);
+    };
+    match token.kind {
+        TokenKind::Symbol(symbol) => (role_of(symbol), at + 1),
+        TokenKind::Keyword(keyword) => (word_role(keyword), at + 1),
+        _ => (Continuation::Nothing, at + 1),
+    }
+}
+
+// The level at which it still continues an expression, or 0.
+pub(crate) fn strength(continuation: Continuation) -> u32
+    ensures { result ≡ strength_of (continuation_view continuation) }
+{
+    match continuation {
+        Continuation::Operator(operator) => left_level(operator),
+        Continuation::Arguments => PRIMARY,
+        Continuation::Comparison => 9,
+        Continuation::Boolean(BooleanOperator::And) => 6,
+        Continuation::Boolean(BooleanOperator::Or) => 4,
+        Continuation::Condition => 2,
+        Continuation::Nothing => 0,
+    }
+}
+
+// The operator before an operand, where one stands at the place, and the place behind it.
+pub(crate) fn prefix_at(tokens: &[Token], at: usize) -> Option<(UnaryOperator, usize)>
+    ensures operator { option_map (λ x. unary_of x.0) result ≡ prefix_at (from tokens.now at) }
+    ensures behind { IfSome result (λ x. from tokens.now x.1 ≡ rest_of (from tokens.now at)) }
+{
+    let token = token_at(tokens, at)?;
+    match token.kind {
+        TokenKind::Symbol(Symbol::Plus) => Some((UnaryOperator::Plus, at + 1)),
+        TokenKind::Symbol(Symbol::Minus) => Some((UnaryOperator::Minus, at + 1)),
+        TokenKind::Symbol(Symbol::Tilde) => Some((UnaryOperator::Invert, at + 1)),
+        TokenKind::Keyword(Keyword::Not) => Some((UnaryOperator::Not, at + 1)),
+        _ => None,
+    }
+}
+
+// The operator of a comparison that a symbol is.
+fn comparison_symbol(symbol: Symbol) -> Option<ComparisonOperator>
+    ensures { option_map comparison_of result ≡ comparison_symbol (symbol_of symbol) }
+{
+    match symbol {
+        Symbol::Less => Some(ComparisonOperator::Less),
+        Symbol::Greater => Some(ComparisonOperator::Greater),
+        Symbol::LessEqual => Some(ComparisonOperator::LessEqual),
+        Symbol::GreaterEqual => Some(ComparisonOperator::GreaterEqual),
+        Symbol::EqualEqual => Some(ComparisonOperator::Equal),
+        Symbol::NotEqual => Some(ComparisonOperator::NotEqual),
+        _ => None,
+    }
+}
+
+// The operator of a comparison, where one stands at the place, and the place behind it.
+pub(crate) fn comparison_at(tokens: &[Token], at: usize) -> Option<(ComparisonOperator, usize)>
+    ensures { option_map (λ x. (comparison_of x.0, from tokens.now x.1)) result ≡ comparison_at (from tokens.now at) }
+{
+    let token = token_at(tokens, at)?;
+    match token.kind {
+        TokenKind::Symbol(symbol) => {
+            let operator = comparison_symbol(symbol)?;
+            Some((operator, at + 1))
+        }
+        TokenKind::Keyword(Keyword::Is) => match after_not(tokens, at + 1) {
+            Some(behind) => Some((ComparisonOperator::IsNot, behind)),
+            None => Some((ComparisonOperator::Is, at + 1)),
+        },
+        _ => None,
+    }
+}
