@@ -1,8 +1,8 @@
-use Rattle.std.proofs.Common.{◌∙◌, ◌++◌, ap, ap₂, codes, encode_utf8_all, string_bytes, subst, sym, List, ℕ}
+use Rattle.std.proofs.Common.{◌∙◌, ◌++◌, ap₂, codes, encode_utf8_all, string_bytes, subst, List, ℕ}
 use Rattle.std.proofs.lemmas.Result.{on_ok_weaker}
 use Rattle.std.proofs.lemmas.Str.{IsUtf8-string_bytes}
 use Rattle.std.specs.Io.KnownBytes.{Appends}
-use Rattle.si_semantics.specs.Report.{end_line, raised_line}
+use Rattle.si_semantics.specs.Report.{raised_line}
 use Rattle.si_cli.specs.Views.{standing_of}
 use Rattle.si_cli.proofs.ReportLemmas.{appended, report_bytes}
 use Rattle.si_cli.proofs.report.write_report.Goals as goal
