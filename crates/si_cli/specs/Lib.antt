@@ -1,3 +1,5 @@
+pub mod Courses
+pub mod Runs
 pub mod Service
 pub mod Status
 pub mod Views

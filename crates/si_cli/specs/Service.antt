@@ -1,13 +1,16 @@
 -- What it means to carry out a command (this project's own).
-use Rattle.std.specs.Prelude.{◌≡◌, ℕ, List, [], ◌∷◌, IsUtf8, Option, bytes_eq, drop, if◌then◌else◌, take}
+use Rattle.std.specs.Prelude.{◌≡◌, ℕ, List, [], ◌∷◌, IsUtf8, Option, Some, bytes_eq, drop, if◌then◌else◌, take}
 use Rattle.std.specs.Io.KnownBytes.{Appends, Keeps}
 use Rattle.si_semantics.specs.Report.{status}
 use Rattle.si_semantics.specs.Tree.{Stmts}
 use Rattle.si_parse.specs.Modules.{IsRead}
 use Rattle.si_cli.specs.declared.fault.CliFault.{CliFault}
 use Rattle.si_cli.specs.declared.fault.CliFault.TheVariants.{Write, Script, NoMemory, Input}
+use Rattle.si_cli.specs.declared.asked.Request.{Request}
+use Rattle.si_cli.specs.declared.asked.Request.TheVariants.{Serial}
 use Rattle.si_cli.specs.declared.interpreter.Solo.{Solo}
-use Rattle.si_cli.specs.Views.{report_of, standing_of}
+use Rattle.si_cli.specs.Runs.{ShowsLife, one_run}
+use Rattle.si_cli.specs.Views.{HasUsed, report_of, standing_of}
 
 -- a byte order mark in UTF-8
 abbrev pub mark : List ℕ
@@ -26,9 +29,18 @@ abbrev pub IsRefusal : CliFault → Type 0
 IsRefusal (Script line) = Unit {0}
 IsRefusal _ = ⊥
 
--- a run of interpreter 0 is reported: the writer grew by its report, and the status is the run's
-pub record Reports (old new : Option (List ℕ)) (answer : ℕ) : Type 0 where
+-- how many local turns a request allows
+abbrev pub turns_of : Request → ℕ
+turns_of (Serial path limits) = limits.turns
+
+-- the run of a script that is read, of so many turns at most, is reported: the writer grew by its report, and the
+-- status is the run's
+pub record Reports (turns : ℕ) (script : List ℕ) (old new : Option (List ℕ)) (answer : ℕ) : Type 0 where
+  pub body : Stmts
+  pub read : IsScript script body
   pub run : Solo
+  pub shows : ShowsLife (one_run (Some (record { body = body }))) run
+  pub used : HasUsed turns run
   pub report : Appends old new (report_of run)
   pub status_is : answer ≡ status (standing_of run.standing)
 

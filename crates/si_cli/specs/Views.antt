@@ -1,17 +1,10 @@
 -- How a run is left, as the definitions see it.
 use Rattle.std.specs.Prelude.{◌≡◌, ◌≤◌, ℕ, List, [], ◌∷◌, ◌++◌, chars, codes, encode_utf8_all, string_bytes}
-use Rattle.si_machine.specs.declared.step.Outcome.{Outcome}
-use Rattle.si_machine.specs.declared.step.Outcome.TheVariants.{Returned, Raised}
-use Rattle.si_semantics.specs.Life as life
+use Rattle.si_machine.specs.Outcomes.{outcome_of}
 use Rattle.si_semantics.specs.Report as report
 use Rattle.si_cli.specs.declared.interpreter.Standing.{Standing}
 use Rattle.si_cli.specs.declared.interpreter.Standing.TheVariants.{Ready, AtEnd, Starved}
 use Rattle.si_cli.specs.declared.interpreter.Solo.{Solo}
-
--- how a run ended
-abbrev pub outcome_of : Outcome → life.Outcome
-outcome_of Returned = life.Returned
-outcome_of (Raised kind message) = life.Raised kind message
 
 -- how an interpreter stands
 abbrev pub standing_of : Standing → report.Standing
@@ -41,9 +34,3 @@ AreUsed turns locals Starved = locals ≤ turns
 -- a run had at most so many turns, and just so many where it has more to do
 abbrev pub HasUsed : ℕ → Solo → Type 0
 HasUsed turns solo = AreUsed turns solo.locals solo.standing
-
--- the run of a text that isn't read: no turn, nothing printed, left by its exception
-pub record IsNotRead (solo : Solo) : Type 0 where
-  pub printed : printed_by solo ≡ []
-  pub locals : solo.locals ≡ 0
-  pub standing : standing_of solo.standing ≡ report.AtEnd life.not_read

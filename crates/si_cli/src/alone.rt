@@ -1,7 +1,11 @@
 // Running a script in interpreter 0, with no other.
 
-ghost use Rattle.std.specs.Prelude.{◌≤◌, ℕ, IfOk};
-ghost use Rattle.si_cli.specs.Views.{AreUsed, HasUsed, IsNotRead};
+ghost use Rattle.std.specs.Prelude.{◌≤◌, ℕ, List, None, Some, IfOk};
+ghost use Rattle.si_semantics.specs.World.{Answer};
+ghost use Rattle.si_parse.specs.Modules.{tree_of};
+ghost use Rattle.si_cli.specs.Courses.{HasRun, IsUnderWay};
+ghost use Rattle.si_cli.specs.Runs.{IsRunOf, ShowsLife, one_run};
+ghost use Rattle.si_cli.specs.Views.{AreUsed, HasUsed};
 
 use crate::interpreter::{Outcome, Solo, Standing};
 use si_compile::{CodeTable, compile};
@@ -16,7 +20,8 @@ use std::alloc::{AllocError, Global};
 /// first turn.
 pub fn solo(alloc: Global, script: &str, turns: u64) -> Result<Solo, NoMemory>
     requires { turns ≤ 1099511627776 }
-    ensures { IfOk result (HasUsed turns) }
+    ensures used { IfOk result (HasUsed turns) }
+    ensures shows { IfOk result (IsRunOf script.now) }
 {
     match parse(alloc, script) {
         Ok(module) => run_module(alloc, &module, turns),
@@ -27,7 +32,7 @@ pub fn solo(alloc: Global, script: &str, turns: u64) -> Result<Solo, NoMemory>
 
 /// The run of a text that isn't read.
 fn unread(alloc: Global) -> Result<Solo, NoMemory>
-    ensures is { IfOk result IsNotRead }
+    ensures shows { IfOk result (ShowsLife (one_run None)) }
     ensures used { IfOk result (λ solo. (turns : ℕ) → HasUsed turns solo) }
 {
     Ok(Solo {
@@ -41,12 +46,13 @@ fn unread(alloc: Global) -> Result<Solo, NoMemory>
 }
 
 /// Runs a module in interpreter 0, as `solo` runs the script that is read as it.
-pub(crate) fn run_module(alloc: Global, module: &Module, turns: u64) -> Result<Solo, NoMemory>
+pub(crate) fn run_module(alloc: Global, tree: &Module, turns: u64) -> Result<Solo, NoMemory>
     requires { turns ≤ 1099511627776 }
-    ensures { IfOk result (HasUsed turns) }
+    ensures used { IfOk result (HasUsed turns) }
+    ensures shows { IfOk result (ShowsLife (one_run (Some (record { body = tree_of tree.now })))) }
 {
     let mut table = CodeTable::new(alloc);
-    let entry = compile(module, &mut table)?;
+    let entry = compile(tree, &mut table)?;
     let mut machine = Machine::new(alloc);
     machine.load(table, entry)?;
     let (locals, standing) = run(&mut machine, turns);
@@ -61,7 +67,9 @@ pub(crate) fn run_module(alloc: Global, module: &Module, turns: u64) -> Result<S
 /// how it then stands.
 fn run(machine: &mut Machine, turns: u64) -> (u64, Standing)
     requires { turns ≤ 1099511627776 }
-    ensures { AreUsed turns result.0 result.1 }
+    ensures used { AreUsed turns result.0 result.1 }
+    ensures ran { (answers : List Answer) → IsUnderWay answers 0 machine.old
+        → HasRun answers result.0 result.1 machine.new }
 {
     for turn in 0..turns {
         match machine.step() {

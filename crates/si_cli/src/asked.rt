@@ -1,5 +1,9 @@
 // What a command line asks for.
 
+ghost use Rattle.std.specs.Prelude.{◌≡◌, ◌≤◌, option_map};
+ghost use Rattle.si_cli.specs.Service.{turns_of};
+ghost use Rattle.si_cli.specs.Words.{path_of};
+
 use si_plain::Limits;
 
 /// What the words of a command line ask for. A path that is not named stands for standard input.
@@ -14,8 +18,21 @@ pub enum Request<'a> {
 
 impl<'a> Request<'a> {
     /// The path of the script, if the words name one.
-    pub fn script(&self) -> Option<&'a str> {
-        let Request::Serial { script, .. } = self;
-        *script
+    pub fn script(&self) -> Option<&'a str>
+        ensures { option_map (λ path. path.now) result ≡ path_of self.now }
+    {
+        match self {
+            Request::Serial { script, .. } => *script,
+        }
+    }
+
+    /// How many local turns an interpreter has at most.
+    pub(crate) fn turns(&self) -> u64
+        ensures value { result ≡ turns_of self.now }
+        ensures most { result ≤ 1099511627776 }
+    {
+        match self {
+            Request::Serial { limits, .. } => limits.turns(),
+        }
     }
 }

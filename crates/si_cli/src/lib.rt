@@ -1,11 +1,12 @@
 // The command line of `subpy`: from words and bytes to a report and a status.
 //
-// Its one contract is that of `serve`: what is appended to the writer is the report of the script's run, and the
-// answer is the status that the report's run has; a script that the grammar doesn't read is refused.
+// Its one contract is that of `serve`: the run that is reported is that of the script, which shows what its tree means;
+// what is appended to the writer is its report, and the answer is its status. A script that the grammar doesn't read is
+// refused, and no other.
 //
 // In reading order: `asked` (what a command line asks for), `words` (how it is read), `input` (reading a script),
-// `interpreter` and `alone` (running a script in interpreter 0), `report` (its text), `serving` (all of these in a row),
-// `fault`.
+// `interpreter` and `alone` (running a script in interpreter 0), `report` (its text), `serving` (all of these in a
+// row), `fault`. specs/Runs.antt says what a run shows, specs/Service.antt what it is to carry out a command.
 #![tactic(auto)]
 
 pub mod alone;

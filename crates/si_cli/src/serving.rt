@@ -5,7 +5,7 @@ ghost use Rattle.std.specs.Io.KnownBytes.{Keeps};
 ghost use Rattle.si_semantics.specs.Report.{status};
 ghost use Rattle.si_semantics.specs.Tree.{Stmts};
 ghost use Rattle.si_parse.specs.Modules.{tree_of};
-ghost use Rattle.si_cli.specs.Service.{IsOfScript, IsRefusal, IsScript, LeavesAlone, Reports, without_mark};
+ghost use Rattle.si_cli.specs.Service.{IsOfScript, IsRefusal, IsScript, LeavesAlone, Reports, turns_of, without_mark};
 ghost use Rattle.si_cli.specs.Views.{standing_of};
 
 use crate::alone::run_module;
@@ -36,17 +36,16 @@ pub fn serve<A: Write, B: Write>(
     _saved: &mut A,
     out: &mut B,
 ) -> Result<u8, CliFault>
-    ensures reports { IfOk result (Reports (B.contents out.old) (B.contents out.new)) }
-    // Only a script that is read is carried out, and only one that is not read is refused as a script.
-    ensures read { OnOk result ((body : Stmts) × IsScript script.now body) }
+    ensures reports { IfOk result
+        (Reports (turns_of request.now) script.now (B.contents out.old) (B.contents out.new)) }
+    // Only a script that is not read is refused as a script.
     ensures refused { IfErr result (λ fault. IsRefusal fault → (body : Stmts) → IsScript script.now body → ⊥) }
     // After every other fault than that of a write the writer is as before.
     ensures alone { IfErr result (LeavesAlone (B.contents out.old) (B.contents out.new)) }
     ensures saved { Keeps (A.contents _saved.old) (A.contents _saved.new) }
 {
-    let Request::Serial { limits, .. } = request;
     let module = read_module(alloc, script)?;
-    let solo = run_module(alloc, &module, limits.turns())?;
+    let solo = run_module(alloc, &module, request.turns())?;
     write_report(out, &solo)?;
     flush(out)?;
     Ok(status_of(&solo))

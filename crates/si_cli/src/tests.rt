@@ -170,60 +170,64 @@ fn words_that_are_taken(rt: HostRuntime) -> Result<(), Fail> {
     Ok(())
 }
 
+// Why words ask for nothing that can be carried out.
+fn fault_of(alloc: Global, words: &[&str]) -> Result<WordsFault, Fail> {
+    match request(alloc, words) {
+        Ok(_) => Err(Fail::from("the words are taken")),
+        Err(fault) => Ok(fault),
+    }
+}
+
 #[test]
-fn words_that_are_not_taken(rt: HostRuntime) -> Result<(), Fail> {
-    let cases: [(&[&str], u8, &str); 8] = [
+fn words_that_are_refused(rt: HostRuntime) -> Result<(), Fail> {
+    let cases: [(&[&str], &str); 5] = [
         (
             &["subpy"],
-            2,
             "no command is named; 'subpy --help' lists the commands",
         ),
         (
             &["subpy", "run"],
-            2,
+            "there is no command \"run\"; 'subpy --help' lists them",
+        ),
+        (
+            &["subpy", "help", "run"],
             "there is no command \"run\"; 'subpy --help' lists them",
         ),
         (
             &["subpy", "serial", "--x"],
-            2,
             "unexpected argument '--x' found",
         ),
         (
             &["subpy", "serial", "a", "b"],
-            2,
             "unexpected argument 'b' found",
         ),
-        (
-            &["subpy", "--help"],
-            0,
-            "Runs Python scripts in isolated interpreters",
-        ),
-        (
-            &["subpy", "help"],
-            0,
-            "Runs Python scripts in isolated interpreters",
-        ),
-        (
-            &["subpy", "help", "serial"],
-            0,
-            "Runs a script in interpreter 0",
-        ),
-        (
-            &["subpy", "serial", "--help"],
-            0,
-            "Runs a script in interpreter 0",
-        ),
     ];
-    for (words, status, begins) in cases {
-        let Err(fault) = request(rt.alloc(), words) else {
-            return Err(Fail::from("the words are taken"));
-        };
-        assert_eq!(rt; fault.status(), status);
-        let WordsFault::Words { help, text } = &fault else {
-            return Err(Fail::from("no memory"));
-        };
-        assert!(rt; *help == (status == 0) && text.as_str().starts_with(begins));
-        assert!(rt; *help || !text.as_str().contains('\n'));
+    for (words, message) in cases {
+        let fault = fault_of(rt.alloc(), words)?;
+        assert_eq!(rt; fault.status(), 2);
+        assert!(rt;
+            matches!(&fault, WordsFault::Words { help: false, text } if text.as_str() == message)
+        );
+    }
+    Ok(())
+}
+
+#[test]
+fn words_that_ask_for_help(rt: HostRuntime) -> Result<(), Fail> {
+    let general = "Runs Python scripts in isolated interpreters";
+    let serial = "Runs a script in interpreter 0";
+    let cases: [(&[&str], &str); 4] = [
+        (&["subpy", "--help"], general),
+        (&["subpy", "help"], general),
+        (&["subpy", "help", "serial"], serial),
+        (&["subpy", "serial", "--help"], serial),
+    ];
+    for (words, begins) in cases {
+        let fault = fault_of(rt.alloc(), words)?;
+        assert_eq!(rt; fault.status(), 0);
+        assert!(rt;
+            matches!(&fault, WordsFault::Words { help: true, text } if text.as_str().starts_with(begins))
+        );
     }
     Ok(())
 }

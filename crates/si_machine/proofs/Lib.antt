@@ -1,3 +1,5 @@
 pub mod Tops
 pub mod Strings
 pub mod Lines
+pub mod Begun
+pub mod Kept

@@ -1,132 +1,202 @@
--- The value of digits, digit by digit.
-use Rattle.std.proofs.Common.{◌≡◌, ℕ, ◌+◌, ◌-◌, ◌*◌, ◌<◌, ◌≤◌, List, [], ◌∷◌, ◌++◌, append_assoc, ◌⊎◌, inl, inr, length, drop, get_or, Option, Some, None, Bool, true, false, refl, sym, ap, ◌∙◌, arith, add-one, pos}
-use Rattle.std.specs.Prelude.{option_map, option_and_then, nat_eq, nat_le, ◌&&◌, if◌then◌else◌}
+-- The value of a str literal, character by character.
+use Rattle.std.proofs.Common.{◌≡◌, ℕ, zero, suc, ◌+◌, ◌-◌, ◌*◌, ◌<◌, ◌≤◌, List, [], ◌∷◌, ◌++◌, length, take, drop, append_assoc, Bool, true, false, Option, Some, None, refl, sym, ap, ◌∙◌, subst, arith, IsUtf8, length-append}
+use Rattle.std.specs.Prelude.{◌==◌, ◌||◌, not, option_map, option_and_then, nat_lt, nat_le, MatchOption, encode_utf8, if◌then◌else◌}
+use Rattle.std.specs.Char.{digit_value}
 use Rattle.std.specs.Str.{chars}
-use Rattle.std.proofs.Math.Seq.{drop-cons}
 use Rattle.std.proofs.lemmas.Bool.Decides.{nat_tests}
-use Rattle.si_semantics.specs.Grammar.{max_int, number_after, in_range, value_of_int, escape_of, ended, escaped, unquoted, quoted, value_of_str}
+use Rattle.std.proofs.lemmas.Str.{chars-nil, chars-append, chars_past_char, IsUtf8-drop, IsCharBoundary-from_take}
+use Rattle.si_semantics.specs.Value.{Text}
+use Rattle.si_semantics.specs.Literals.{Written, digits_within, with_one_more, escape, unescaped, peeled}
+use Rattle.si_parse.specs.Literals.{front_of, digit_front, up_to, value_from}
 
-abbrev is_digit : ℕ → Bool
-is_digit c = nat_le 48 c && nat_le c 57
+some_inj : {A : Type 0} (x y : A) → ◌≡◌ {A = Option A} (Some x) (Some y) → x ≡ y
+some_inj x y h = cc
 
-digit_test : (c : ℕ) → 48 ≤ c → c ≤ 57 → is_digit c ≡ true
-digit_test c low high = grind (arith, nat_tests)
+if_true : {A : Type 0} (b : Bool) (x y : A) → b ≡ true → (if b then x else y) ≡ x
+if_true true x y h = refl
+if_true false x y h = cc
 
-no_digit_test : (c : ℕ) → (c < 48) ⊎ (57 < c) → is_digit c ≡ false
-no_digit_test c (inl h) = grind (arith, nat_tests)
-no_digit_test c (inr h) = grind (arith, nat_tests)
+if_false : {A : Type 0} (b : Bool) (x y : A) → b ≡ false → (if b then x else y) ≡ y
+if_false false x y h = refl
+if_false true x y h = cc
 
-split : (n i : ℕ) (digits : List ℕ) (d : ℕ) → i < length digits
-    → number_after n (drop i digits) ≡ (if is_digit (get_or digits i d) then number_after (n * 10 + (get_or digits i d - 48)) (drop (i + 1) digits) else None)
-split n i digits d h =
-    ap (number_after n) (drop-cons digits i d h)
-    ∙ ap (λ k. if is_digit (get_or digits i d) then number_after (n * 10 + (get_or digits i d - 48)) (drop k digits) else None) (sym (add-one i))
+drop_none : {A : Type 0} (l : List A) → drop 0 l ≡ l
+drop_none [] = refl
+drop_none (b ∷ l) = refl
 
-pub next_digit : (n i : ℕ) (digits : List ℕ) (d : ℕ) → i < length digits → 48 ≤ get_or digits i d → get_or digits i d ≤ 57
-    → number_after n (drop i digits) ≡ number_after (n * 10 + (get_or digits i d - 48)) (drop (i + 1) digits)
-next_digit n i digits d h low high =
-    split n i digits d h
-    ∙ ap (λ b. if b then number_after (n * 10 + (get_or digits i d - 48)) (drop (i + 1) digits) else None) (digit_test (get_or digits i d) low high)
+take_append : (w rest : List ℕ) → take (length w) (w ++ rest) ≡ w
+take_append [] [] = refl
+take_append [] (b ∷ rest) = refl
+take_append (b ∷ w) rest = ap (λ l. b ∷ l) (take_append w rest)
 
-pub no_digit : (n i : ℕ) (digits : List ℕ) (d : ℕ) → i < length digits → (get_or digits i d < 48) ⊎ (57 < get_or digits i d) → number_after n (drop i digits) ≡ None
-no_digit n i digits d h out =
-    split n i digits d h
-    ∙ ap (λ b. if b then number_after (n * 10 + (get_or digits i d - 48)) (drop (i + 1) digits) else None) (no_digit_test (get_or digits i d) out)
+drop_append : (w rest : List ℕ) → drop (length w) (w ++ rest) ≡ rest
+drop_append [] [] = refl
+drop_append [] (b ∷ rest) = refl
+drop_append (b ∷ w) rest = drop_append w rest
 
-past : (n : ℕ) → max_int < n → nat_le n max_int ≡ false
-past n h = grind (arith, nat_tests)
+pub front_is : (cs : Text) (c : ℕ) (ds : Text) → ◌≡◌ {A = Option (ℕ × Text)} (Some (c, ds)) (front_of cs) → cs ≡ c ∷ ds
+front_is [] c ds h = cc
+front_is (d ∷ cs) c ds h = let e : (c, ds) ≡ (d, cs) = some_inj (c, ds) (d, cs) h in λ i. sym (ap (λ x. x.0) e) i ∷ sym (ap (λ x. x.1) e) i
 
--- a value that is too large stays too large
-pub too_large : (n : ℕ) (digits : List ℕ) → max_int < n → in_range (number_after n digits) ≡ None
-too_large n [] h = ap (λ b. if b then Some (pos n) else None) (past n h)
-too_large n (c ∷ cs) h =
-    elim (is_digit c) as (λ b. in_range (if b then number_after (n * 10 + (c - 48)) cs else None) ≡ None) [ true ↦ too_large (n * 10 + (c - 48)) cs (omega arith) | false ↦ refl ]
+-- ---- the quotes
 
-pub value_none : (digits : List ℕ) → in_range (number_after 0 digits) ≡ None → value_of_int digits ≡ None
-value_none digits h = elim (nat_eq (length digits) 0) as (λ b. (if b then None else in_range (number_after 0 digits)) ≡ None) [ true ↦ refl | false ↦ h ]
+-- the last character
+last_char : (behind inside : List ℕ) (d : ℕ) → IsUtf8 behind → IsUtf8 inside → behind ≡ inside ++ encode_utf8 d → chars behind ≡ chars inside ++ d ∷ []
+last_char behind inside d u v e =
+    let front : inside ≡ take (length inside) behind = sym (take_append inside (encode_utf8 d)) ∙ ap (take (length inside)) (sym e) in
+    let back : drop (length inside) behind ≡ encode_utf8 d = ap (drop (length inside)) e ∙ drop_append inside (encode_utf8 d) in
+    let long : length behind ≡ length inside + length (encode_utf8 d) = ap length e ∙ length-append inside (encode_utf8 d) in
+    let one : IsUtf8 (encode_utf8 d) = subst IsUtf8 back (IsUtf8-drop behind (length inside) u (IsCharBoundary-from_take behind (length inside) u (omega (arith, long)) (subst IsUtf8 front v))) in
+    ap chars e ∙ chars-append inside (encode_utf8 d) v ∙ ap (λ l. chars inside ++ l) (chars_past_char (encode_utf8 d) [] d one (sym (no_more (encode_utf8 d))) ∙ ap (λ l. d ∷ l) chars-nil)
+  where
+    no_more : (l : List ℕ) → l ++ [] ≡ l
+    no_more [] = refl
+    no_more (b ∷ l) = ap (λ l. b ∷ l) (no_more l)
 
-some_digits : (k : ℕ) → 0 < k → nat_eq k 0 ≡ false
-some_digits k h = grind (arith, nat_tests)
+without_ends : (c d : ℕ) (cs : Text) → cs ≡ peeled (c ∷ (cs ++ d ∷ []))
+without_ends c d cs =
+    let l = length-append cs (d ∷ []) in
+    let long : length cs ≡ length (c ∷ (cs ++ d ∷ [])) - 2 = omega (arith, l) in
+    sym (take_append cs (d ∷ [])) ∙ (λ i. take (long i) (sym (drop_none (cs ++ d ∷ [])) i))
 
-low_enough : (n : ℕ) → n ≤ max_int → nat_le n max_int ≡ true
-low_enough n h = grind (arith, nat_tests)
+-- without the first and the last character
+pub peeled_is : (text behind inside : List ℕ) (c : ℕ) (r : Option ℕ) → chars text ≡ c ∷ chars behind → IsUtf8 behind → IsUtf8 inside
+    → MatchOption r ((length behind ≡ 0) × (inside ≡ behind)) (λ d. behind ≡ inside ++ encode_utf8 d) → chars inside ≡ peeled (chars text)
+peeled_is text behind inside c (Some d) e u v h = without_ends c d (chars inside) ∙ ap (λ l. peeled (c ∷ l)) (sym (last_char behind inside d u v h)) ∙ ap peeled (sym e)
+peeled_is text behind inside c None e u v h =
+    let none = chars_none behind h.0 in ap chars h.1 ∙ none ∙ ap (λ l. peeled (c ∷ l)) (sym none) ∙ ap peeled (sym e)
+  where
+    chars_none : (l : List ℕ) → length l ≡ 0 → chars l ≡ []
+    chars_none [] h = chars-nil
+    chars_none (b ∷ l) h = absurd (omega (arith, h))
 
-pub value_some : (digits : List ℕ) (n : ℕ) → 0 < length digits → number_after 0 digits ≡ Some n → n ≤ max_int → value_of_int digits ≡ Some (pos n)
-value_some digits n some is low =
-    ap (λ b. if b then None else in_range (number_after 0 digits)) (some_digits (length digits) some) ∙ ap in_range is ∙ ap (λ b. if b then Some (pos n) else None) (low_enough n low)
+-- ---- digits
 
-same_test : (a b : ℕ) → a ≡ b → nat_eq a b ≡ true
-same_test a b h = grind (arith, nat_tests)
+-- a number and how many digits write it, behind so many digits
+abbrev pub behind : ℕ → Option (ℕ × ℕ) → Option (ℕ × ℕ)
+behind before o = option_map (λ (r : ℕ × ℕ). (r.0, before + r.1)) o
 
-other_test : (a b : ℕ) → (a ≡ b → ⊥) → nat_eq a b ≡ false
-other_test a b h = grind (arith, nat_tests)
+behind_more : (before : ℕ) (o : Option (ℕ × ℕ)) → behind before (with_one_more o) ≡ behind (before + 1) o
+behind_more before None = refl
+behind_more before (Some r) = let e : before + suc r.1 ≡ before + 1 + r.1 = omega arith in ap (λ k. Some (r.0, k)) e
 
--- the value of what follows in a literal between such quotes: behind the one that ends it, behind a backslash, or else
-abbrev pub value_behind : ℕ → Bool → Bool → List ℕ → Option (List ℕ)
-value_behind quote true e cs = ended cs
-value_behind quote false true cs = escaped quote cs
-value_behind quote false false cs = unquoted quote cs
+-- no digit stands in front
+one_stop : (base least most number : ℕ) (cs : Text) → ◌≡◌ {A = Option (ℕ × Text)} None (digit_front base cs) → 0 < most → digits_within base least most number cs ≡ (if least == 0 then Some (number, 0) else None)
+one_stop base least zero number cs h some = absurd (omega (arith, some))
+one_stop base least (suc most) number [] h some = refl
+one_stop base least (suc most) number (c ∷ cs) h some = by (nat_lt (digit_value c) base) h
+  where
+    by : (t : Bool) → ◌≡◌ {A = Option (ℕ × Text)} None (if t then Some (digit_value c, cs) else None)
+        → (if t then with_one_more (digits_within base (least - 1) most (number * base + digit_value c) cs) else (if least == 0 then Some (number, 0) else None)) ≡ (if least == 0 then Some (number, 0) else None)
+    by true h = cc
+    by false h = refl
 
-module _ (quote : ℕ) (t : List ℕ) (closed e : Bool) (c : ℕ) (cs bs : List ℕ) (split : bs ≡ c ∷ cs) (unclosed : closed ≡ false) where
-  abbrev Behind : Option (List ℕ)
-  Behind = option_map (λ v. t ++ v) (value_behind quote closed e bs)
+-- a digit stands in front
+one_digit : (base least most number : ℕ) (cs ds : Text) (d : ℕ) → ◌≡◌ {A = Option (ℕ × Text)} (Some (d, ds)) (digit_front base cs) → 0 < most
+    → digits_within base least most number cs ≡ with_one_more (digits_within base (least - 1) (most - 1) (number * base + d) ds)
+one_digit base least zero number cs ds d h some = absurd (omega (arith, some))
+one_digit base least (suc most) number [] ds d h some = cc
+one_digit base least (suc most) number (c ∷ cs) ds d h some = by (nat_lt (digit_value c) base) h
+  where
+    by : (t : Bool) → ◌≡◌ {A = Option (ℕ × Text)} (Some (d, ds)) (if t then Some (digit_value c, cs) else None)
+        → (if t then with_one_more (digits_within base (least - 1) most (number * base + digit_value c) cs) else (if least == 0 then Some (number, 0) else None)) ≡ with_one_more (digits_within base (least - 1) (suc most - 1) (number * base + d) ds)
+    by true h =
+        let less : most ≡ suc most - 1 = omega arith in
+        let e : (d, ds) ≡ (digit_value c, cs) = some_inj (d, ds) (digit_value c, cs) h in
+        λ i. with_one_more (digits_within base (least - 1) (less i) (number * base + sym (ap (λ x. x.0) e) i) (sym (ap (λ x. x.1) e) i))
+    by false h = cc
 
-  begun_with : (b : Bool) → e ≡ b → Behind ≡ option_map (λ v. t ++ v) (value_behind quote false b (c ∷ cs))
-  begun_with b is =
-      ap (λ x. option_map (λ v. t ++ v) (value_behind quote x e bs)) unclosed
-      ∙ ap (λ x. option_map (λ v. t ++ v) (value_behind quote false x bs)) is
-      ∙ ap (λ l. option_map (λ v. t ++ v) (value_behind quote false b l)) split
+past : (n limit : ℕ) → limit < n → nat_le n limit ≡ false
+past n limit h = grind (arith, nat_tests)
 
-  -- one character more in front of a value, or at the end of what came before it
-  moved : (d : ℕ) (o : Option (List ℕ)) → option_map (λ v. t ++ v) (option_map (λ v. d ∷ v) o) ≡ option_map (λ v. (t ++ d ∷ []) ++ v) o
-  moved d None = refl
-  moved d (Some v) = ap Some (sym (append_assoc t (d ∷ []) v))
+low : (n limit : ℕ) → n ≤ limit → nat_le n limit ≡ true
+low n limit h = grind (arith, nat_tests)
 
-  opened : (d : ℕ) → option_map (λ v. (t ++ d ∷ []) ++ v) (unquoted quote cs) ≡ option_map (λ v. (t ++ d ∷ []) ++ v) (value_behind quote closed false cs)
-  opened d = ap (λ x. option_map (λ v. (t ++ d ∷ []) ++ v) (value_behind quote x false cs)) (sym unclosed)
+larger : (base n d : ℕ) → 2 ≤ base → n ≤ n * base + d
+larger base n d h = grind arith
 
-  pub on_escaped : e ≡ true → (d : ℕ) → escape_of c ≡ Some d → option_map (λ v. (t ++ d ∷ []) ++ v) (value_behind quote closed false cs) ≡ Behind
-  on_escaped is d h =
-      sym (opened d)
-      ∙ sym (moved d (unquoted quote cs))
-      ∙ ap (λ o. option_map (λ v. t ++ v) (option_and_then (λ d. option_map (λ text. d ∷ text) (unquoted quote cs)) o)) (sym h)
-      ∙ sym (begun_with true is)
+-- a number that is past the limit stays past it
+too_large : (cs : Text) (base least most number limit before : ℕ) → 2 ≤ base → limit < number → up_to limit (behind before (digits_within base least most number cs)) ≡ None
+too_large cs base least zero number limit before some h = if_false (nat_le number limit) (Some (number, before + 0)) None (past number limit h)
+too_large [] base least (suc most) number limit before some h = by (least == 0)
+  where
+    by : (t : Bool) → up_to limit (behind before (if t then Some (number, 0) else None)) ≡ None
+    by true = if_false (nat_le number limit) (Some (number, before + 0)) None (past number limit h)
+    by false = refl
+too_large (c ∷ cs) base least (suc most) number limit before some h =
+    by (nat_lt (digit_value c) base) (least == 0) (too_large cs base (least - 1) most (number * base + digit_value c) limit (before + 1) some (let l = larger base number (digit_value c) some in omega (arith, l, h)))
+  where
+    by : (t u : Bool) → up_to limit (behind (before + 1) (digits_within base (least - 1) most (number * base + digit_value c) cs)) ≡ None
+        → up_to limit (behind before (if t then with_one_more (digits_within base (least - 1) most (number * base + digit_value c) cs) else (if u then Some (number, 0) else None))) ≡ None
+    by true u go = ap (up_to limit) (behind_more before (digits_within base (least - 1) most (number * base + digit_value c) cs)) ∙ go
+    by false true go = if_false (nat_le number limit) (Some (number, before + 0)) None (past number limit h)
+    by false false go = refl
 
-  pub no_escape : e ≡ true → escape_of c ≡ None → Behind ≡ None
-  no_escape is h = begun_with true is ∙ ap (λ o. option_map (λ v. t ++ v) (option_and_then (λ d. option_map (λ text. d ∷ text) (unquoted quote cs)) o)) h
+module _ (base least most limit count number : ℕ) (cs : Text) (more : count < most) where
+  abbrev Left : Option (ℕ × ℕ)
+  Left = up_to limit (behind count (digits_within base (least - count) (most - count) number cs))
 
-  abbrev Chosen : Bool → Bool → Option (List ℕ)
-  Chosen at_quote at_backslash = option_map (λ v. t ++ v) (if at_quote then ended cs else (if at_backslash then escaped quote cs else option_map (λ text. c ∷ text) (unquoted quote cs)))
+  stopped : (t : Bool) → (least - count == 0) ≡ t → ◌≡◌ {A = Option (ℕ × Text)} None (digit_front base cs) → Left ≡ up_to limit (behind count (if t then Some (number, 0) else None))
+  stopped t e h =
+      ap (λ o. up_to limit (behind count o)) (one_stop base (least - count) (most - count) number cs h (omega (arith, more)))
+      ∙ ap (λ t. up_to limit (behind count (if t then Some (number, 0) else None))) e
 
-  pub on_quote : e ≡ false → c ≡ quote → option_map (λ v. t ++ v) (value_behind quote true e cs) ≡ Behind
-  on_quote is h = ap (λ b. Chosen b (nat_eq c 92)) (sym (same_test c quote h)) ∙ sym (begun_with false is)
+  pub too_few : ◌≡◌ {A = Option (ℕ × Text)} None (digit_front base cs) → count < least → Left ≡ None
+  too_few h few = stopped false (grind (arith, nat_tests)) h
 
-  pub on_backslash : e ≡ false → (c ≡ quote → ⊥) → c ≡ 92 → option_map (λ v. t ++ v) (value_behind quote closed true cs) ≡ Behind
-  on_backslash is differs h =
-      ap (λ x. option_map (λ v. t ++ v) (value_behind quote x true cs)) unclosed
-      ∙ ap (λ b. Chosen false b) (sym (same_test c 92 h))
-      ∙ ap (λ b. Chosen b (nat_eq c 92)) (sym (other_test c quote differs))
-      ∙ sym (begun_with false is)
+  pub enough : ◌≡◌ {A = Option (ℕ × Text)} None (digit_front base cs) → least ≤ count → number ≤ limit → Left ≡ Some (number, count)
+  enough h many small =
+      let same : count + 0 ≡ count = omega arith in
+      stopped true (grind (arith, nat_tests)) h ∙ if_true (nat_le number limit) (Some (number, count + 0)) None (low number limit small) ∙ ap (λ k. Some (number, k)) same
 
-  pub on_plain : e ≡ false → (c ≡ quote → ⊥) → (c ≡ 92 → ⊥) → option_map (λ v. (t ++ c ∷ []) ++ v) (value_behind quote closed e cs) ≡ Behind
-  on_plain is differs nor =
-      ap (λ x. option_map (λ v. (t ++ c ∷ []) ++ v) (value_behind quote closed x cs)) is
-      ∙ sym (opened c)
-      ∙ sym (moved c (unquoted quote cs))
-      ∙ ap (λ b. Chosen false b) (sym (other_test c 92 nor))
-      ∙ ap (λ b. Chosen b (nat_eq c 92)) (sym (other_test c quote differs))
-      ∙ sym (begun_with false is)
+  module _ (d : ℕ) (ds : Text) (h : ◌≡◌ {A = Option (ℕ × Text)} (Some (d, ds)) (digit_front base cs)) where
+    pub with_one : Left ≡ up_to limit (behind (count + 1) (digits_within base (least - (count + 1)) (most - (count + 1)) (number * base + d) ds))
+    with_one =
+        let a : least - count - 1 ≡ least - (count + 1) = omega arith in
+        let b : most - count - 1 ≡ most - (count + 1) = omega arith in
+        ap (λ o. up_to limit (behind count o)) (one_digit base (least - count) (most - count) number cs ds d h (omega (arith, more)))
+        ∙ ap (up_to limit) (behind_more count (digits_within base (least - count - 1) (most - count - 1) (number * base + d) ds))
+        ∙ (λ i. up_to limit (behind (count + 1) (digits_within base (a i) (b i) (number * base + d) ds)))
 
--- no quote ended the literal
-pub unfinished : (quote : ℕ) (t : List ℕ) (closed e : Bool) (bs : List ℕ) → closed ≡ false → length bs ≡ 0 → option_map (λ v. t ++ v) (value_behind quote closed e (chars bs)) ≡ None
-unfolding chars
-unfinished quote t true e bs h z = cc
-unfinished quote t false true [] h z = refl
-unfinished quote t false false [] h z = refl
-unfinished quote t false e (b ∷ bs) h z = absurd (omega arith)
+    pub passed : 2 ≤ base → limit < number * base + d → Left ≡ None
+    passed some large = with_one ∙ too_large ds base (least - (count + 1)) (most - (count + 1)) (number * base + d) limit (count + 1) some large
 
--- behind the quote that begins a literal
-pub begun : (literal rest t : List ℕ) (quote : ℕ) → t ≡ [] → chars literal ≡ quote ∷ chars rest → option_map (λ v. t ++ v) (value_behind quote false false (chars rest)) ≡ value_of_str literal
-begun literal rest t quote none h =
-    let same : (o : Option (List ℕ)) → option_map (λ v. [] ++ v) o ≡ o = λ o. elim o as (λ o. option_map (λ v. [] ++ v) o ≡ o) [ None ↦ refl | Some v ↦ refl ] in
-    ap (λ t. option_map (λ v. t ++ v) (value_behind quote false false (chars rest))) none ∙ same (unquoted quote (chars rest)) ∙ ap quoted (sym h)
+-- ---- the body
+
+-- one character more in front of a value, or at the end of what came before it
+moved : (t w : Text) (o : Option Text) → option_map (λ v. (t ++ w) ++ v) o ≡ option_map (λ v. t ++ v) (option_map (λ v. w ++ v) o)
+moved t w None = refl
+moved t w (Some v) = ap Some (append_assoc t w v)
+
+or_false : (p q : Bool) → (p || not q) ≡ false → (p ≡ false) × (q ≡ true)
+or_false true q h = cc
+or_false false true h = (refl, refl)
+or_false false false h = cc
+
+module _ (t : Text) (raw : Bool) (skipped : ℕ) (c : ℕ) (cs ds : Text) (front : ◌≡◌ {A = Option (ℕ × Text)} (Some (c, ds)) (front_of cs)) (first : skipped ≡ 0) where
+  here : value_from t raw skipped cs ≡ value_from t raw 0 (c ∷ ds)
+  here = λ i. value_from t raw (first i) (front_is cs c ds front i)
+
+  plain_by : (raw escapes : Bool) → (c == 92) ≡ escapes → (raw || not escapes) ≡ true → value_from (t ++ c ∷ []) raw 0 ds ≡ value_from t raw 0 (c ∷ ds)
+  plain_by true escapes e h = ap (λ l. Some ((t ++ c ∷ []) ++ l)) (drop_none ds) ∙ ap Some (append_assoc t (c ∷ []) ds)
+  plain_by false true e h = cc
+  plain_by false false e h = moved t (c ∷ []) (unescaped 0 ds) ∙ ap (option_map (λ v. t ++ v)) (sym (if_false (c == 92) _ (option_map (λ text. c ∷ text) (unescaped 0 ds)) e))
+
+  pub on_plain : (raw || not (c == 92)) ≡ true → value_from (t ++ c ∷ []) raw skipped ds ≡ value_from t raw skipped cs
+  on_plain h = ap (λ k. value_from (t ++ c ∷ []) raw k ds) first ∙ plain_by raw (c == 92) refl h ∙ sym here
+
+  escape_here : (raw || not (c == 92)) ≡ false → value_from t raw skipped cs ≡ option_map (λ v. t ++ v) (option_and_then (λ (e : Written). option_map (λ text. e.0 ++ text) (unescaped e.1 ds)) (escape ds))
+  escape_here h =
+      let is = or_false raw (c == 92) h in
+      here ∙ ap (λ r. value_from t r 0 (c ∷ ds)) is.0 ∙ ap (option_map (λ v. t ++ v)) (if_true (c == 92) _ (option_map (λ text. c ∷ text) (unescaped 0 ds)) is.1)
+
+  pub no_escape : (raw || not (c == 92)) ≡ false → escape ds ≡ None → value_from t raw skipped cs ≡ None
+  no_escape h none = escape_here h ∙ ap (λ o. option_map (λ v. t ++ v) (option_and_then (λ (e : Written). option_map (λ text. e.0 ++ text) (unescaped e.1 ds)) o)) none
+
+  pub on_escape : (raw || not (c == 92)) ≡ false → (w : Text) (k : ℕ) → escape ds ≡ Some (w, k) → value_from (t ++ w) raw k ds ≡ value_from t raw skipped cs
+  on_escape h w k some =
+      let is = or_false raw (c == 92) h in
+      ap (λ r. value_from (t ++ w) r k ds) is.0
+      ∙ moved t w (unescaped k ds)
+      ∙ ap (λ o. option_map (λ v. t ++ v) (option_and_then (λ (e : Written). option_map (λ text. e.0 ++ text) (unescaped e.1 ds)) o)) (sym some)
+      ∙ sym (escape_here h)

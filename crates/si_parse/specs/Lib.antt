@@ -2,3 +2,4 @@ pub mod Trees
 pub mod Modules
 pub mod Reading
 pub mod Gives
+pub mod Literals

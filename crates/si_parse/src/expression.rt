@@ -7,7 +7,7 @@ ghost use Rattle.si_parse.specs.Reading.{rest_of, within, strings_by, is_singlet
 ghost use Rattle.si_parse.specs.Gives.{Gives, from, continuation_view};
 
 use crate::fault::ParseFault;
-use crate::literal::{int_value, str_value};
+use crate::literal::str_value;
 use crate::lookahead::{
     after_arguments, after_boolean, after_close, after_comma, after_else, line_at, token_at,
 };
@@ -17,7 +17,7 @@ use crate::precedence::{
 };
 use crate::syntax::{BinaryOperator, BooleanOperator, ComparisonOperator, Expr, UnaryOperator};
 use si_plain::Text;
-use si_token::{Keyword, Symbol, Token, TokenKind};
+use si_token::{Keyword, Symbol, Token, TokenKind, int_value};
 use std::alloc::Global;
 
 // An expression with its depth, and the place behind it.

@@ -2,3 +2,6 @@ pub mod Growing
 pub mod Courses
 pub mod Worked
 pub mod Names
+pub mod WorkedLiterals
+pub mod Scoped
+pub mod WorkedLayout

@@ -1,11 +1,12 @@
 -- The grammar: which tokens derive which tree (Python Language Reference 3.14, 6, 7, 8 and 10).
 -- Each rule stands in the line above its production, in the notation of the reference.
-use Rattle.std.specs.Prelude.{◌≡◌, ℕ, zero, suc, ◌+◌, ◌-◌, ◌*◌, ◌<◌, ◌≤◌, max, ℤ, pos, Bool, true, false, ◌&&◌, ◌||◌, List, [], ◌∷◌, ◌++◌, length, flat_map, chars, ◌⊎◌, Option, Some, None, option_map, option_and_then, nat_eq, nat_le, if◌then◌else◌}
+use Rattle.std.specs.Prelude.{◌≡◌, ℕ, zero, suc, ◌+◌, ◌<◌, ◌≤◌, max, Bool, true, false, List, [], ◌∷◌, ◌++◌, length, flat_map, ◌⊎◌, Some}
 use Rattle.si_semantics.specs.Value.{Text, Nothing, Truth, Int, Str, Provided}
 use Rattle.si_semantics.specs.Tree.{BinaryOperator, Add, Subtract, Multiply, FloorDivide, Modulo, Power, BitOr, BitXor, BitAnd, ShiftLeft, ShiftRight, UnaryOperator, ComparisonOperator, BooleanOperator, Expr, Constant, Name, Unary, Binary, Call, Boolean, Compare, Conditional, Exprs, NoExprs, MoreExprs, Comparisons, NoComparisons, MoreComparisons, Stmt, Evaluate, Assign, Augment, Pass, If, While, Break, Continue, Stmts, NoStmts, MoreStmts}
 use Rattle.si_semantics.specs.Tree as tree
 use Rattle.si_semantics.specs.Tokens.{Symbol, Keyword, TokenKind, Token}
 use Rattle.si_semantics.specs.Tokens as token
+pub use Rattle.si_semantics.specs.Literals.{value_of_int, value_of_str}
 
 -- ---- terminals
 
@@ -34,52 +35,6 @@ terminal token.End text = ENDMARKER
 
 abbrev pub terminal_of : Token → Terminal
 terminal_of t = terminal t.kind t.text
-
--- ---- literals
-
--- the greatest value of an integer literal (this project's own)
-abbrev pub max_int : ℕ
-max_int = 9223372036854775807
-
--- the number that decimal digits (48 to 57) write when they follow those of n
-abbrev pub number_after : ℕ → List ℕ → Option ℕ
-number_after n [] = Some n
-number_after n (c ∷ cs) = if nat_le 48 c && nat_le c 57 then number_after (n * 10 + (c - 48)) cs else None
-
-abbrev pub in_range : Option ℕ → Option ℤ
-in_range None = None
-in_range (Some n) = if nat_le n max_int then Some (pos n) else None
-
--- the value of an integer literal (2.4.4), which has a digit
-abbrev pub value_of_int : List ℕ → Option ℤ
-value_of_int digits = if nat_eq (length digits) 0 then None else in_range (number_after 0 digits)
-
--- what an escape stands for, by the character behind its backslash: `\\`, `\'` and `\"` for that one, `\n` (110) for LF (2.4.1.1)
-abbrev pub escape_of : ℕ → Option ℕ
-escape_of c = if nat_eq c 92 || (nat_eq c 39 || nat_eq c 34) then Some c else (if nat_eq c 110 then Some 10 else None)
-
--- nothing stands behind the quote that ends a literal
-abbrev pub ended : List ℕ → Option Text
-ended [] = Some []
-ended (c ∷ cs) = None
-
--- the text from behind a quote up to that quote again, with its escapes read (2.4.1); a backslash is 92
-abbrev mutual
-  pub unquoted : ℕ → List ℕ → Option Text
-  unquoted quote [] = None
-  unquoted quote (c ∷ cs) = if nat_eq c quote then ended cs else (if nat_eq c 92 then escaped quote cs else option_map (λ text. c ∷ text) (unquoted quote cs))
-
-  pub escaped : ℕ → List ℕ → Option Text
-  escaped quote [] = None
-  escaped quote (c ∷ cs) = option_and_then (λ d. option_map (λ text. d ∷ text) (unquoted quote cs)) (escape_of c)
-
-abbrev pub quoted : List ℕ → Option Text
-quoted [] = None
-quoted (quote ∷ cs) = unquoted quote cs
-
--- the value of a str literal, by its bytes
-abbrev pub value_of_str : List ℕ → Option Text
-value_of_str literal = quoted (chars literal)
 
 -- ---- precedence (6.17)
 

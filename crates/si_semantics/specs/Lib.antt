@@ -5,12 +5,16 @@ pub mod Text
 pub mod World
 pub mod Operations
 pub mod Meaning
+pub mod Scope
 pub mod Life
 pub mod Machine
 pub mod Shows
 pub mod Report
 pub mod Cases
 pub mod Laws
+pub mod Literals
+pub mod LiteralCases
 pub mod Grammar
 pub mod Words
 pub mod Layout
+pub mod LayoutCases

@@ -1,8 +1,9 @@
 -- The words of a text, blanks, comments and line ends among them (Python Language Reference 3.14, "Lexical analysis").
--- A byte stands for its code. Which letters, numbers, literals and escapes there are is this project's own choice among
--- Python's, and so is the range of integers.
-use Rattle.std.specs.Prelude.{◌≡◌, ℕ, ◌+◌, ◌-◌, ◌*◌, ◌<◌, ◌==◌, ◌&&◌, ◌||◌, not, List, [], ◌∷◌, ◌++◌, ◌⊎◌, length, Bool, true, false, Option, Some, None, nat_le, codes, if◌then◌else◌}
-use Rattle.std.specs.List.{AllByRecursion, list_all}
+-- A byte stands for its code. Which letters, numbers and literals there are is this project's own choice among Python's.
+use Rattle.std.specs.Prelude.{◌≡◌, ℕ, ◌+◌, ◌<◌, ◌==◌, ◌&&◌, ◌||◌, not, List, [], ◌∷◌, ◌++◌, ◌⊎◌, length, drop, Bool, true, false, Option, Some, None, nat_le, codes, if◌then◌else◌}
+use Rattle.std.specs.List.{AllByRecursion}
+use Rattle.std.specs.Option.{is_some}
+use Rattle.si_semantics.specs.Literals.{value_of_int, is_quote, is_prefix, unprefixed, quotes_at}
 use Rattle.si_semantics.specs.Tokens as tokens
 use Rattle.si_semantics.specs.Tokens.{Symbol, Keyword}
 
@@ -27,20 +28,9 @@ is_tab b = b == 9
 abbrev pub is_hash : ℕ → Bool
 is_hash b = b == 35
 
-abbrev pub is_quote : ℕ → Bool
-is_quote b = (b == 39) || (b == 34)
-
 -- what may stand in a comment: all but line ends and NUL
 abbrev pub in_comment : ℕ → Bool
 in_comment b = not ((b == 10) || ((b == 13) || (b == 0)))
-
--- what stands for itself in a literal between these quotes
-abbrev pub is_plain : ℕ → ℕ → Bool
-is_plain quote b = in_comment b && not ((b == quote) || (b == 92))
-
--- what may follow a backslash: `\`, the quotes and `n`
-abbrev pub is_escape : ℕ → Bool
-is_escape b = (b == 92) || ((b == 39) || ((b == 34) || (b == 110)))
 
 -- ---- spellings
 
@@ -106,17 +96,35 @@ abbrev pub IsRun : (ℕ → Bool) → (ℕ → Bool) → List ℕ → Type 0
 IsRun first p [] = ⊥
 IsRun first p (b ∷ bs) = (first b ≡ true) × each p bs
 
--- What follows the open quote, up to the closed one. In an escape it is what follows the backslash.
-abbrev pub IsBody : ℕ → Bool → List ℕ → Type 0
-IsBody quote escaped [] = ⊥
-IsBody quote false (b ∷ bs) =
-    ((b ≡ quote) × (bs ≡ [])) ⊎ (((b ≡ 92) × IsBody quote true bs) ⊎ ((is_plain quote b ≡ true) × IsBody quote false bs))
-IsBody quote true (b ∷ bs) = (is_escape b ≡ true) × IsBody quote false bs
+-- what stands for itself between so many quotes: all but NUL, and between one and one no line end
+abbrev pub is_plain : ℕ → ℕ → Bool
+is_plain count b = if count == 1 then in_comment b else not (b == 0)
 
--- a str literal with its quotes ("String and Bytes literals"); those in three quotes are no words
-abbrev pub IsText : List ℕ → Type 0
-IsText [] = ⊥
-IsText (quote ∷ bs) = (is_quote quote ≡ true) × IsBody quote false bs
+-- What follows the open quotes, up to the closed ones, of which there are as many (count). So many closed ones stand in
+-- a row just before (row), or an escaped CR does (joins), to which an LF belongs. A backslash (92) takes the next
+-- character with it.
+abbrev mutual
+  pub is_body : ℕ → ℕ → ℕ → Bool → List ℕ → Bool
+  is_body count quote row joins [] = row == count
+  is_body count quote row joins (b ∷ bs) =
+      not (row == count)
+      && (if b == quote then is_body count quote (row + 1) false bs
+      else (if b == 92 then is_escaped count quote bs
+      else (is_plain count b || (joins && (b == 10))) && is_body count quote 0 false bs))
+
+  pub is_escaped : ℕ → ℕ → List ℕ → Bool
+  is_escaped count quote [] = false
+  is_escaped count quote (b ∷ bs) = not (b == 0) && is_body count quote 0 (b == 13) bs
+
+-- a literal without prefix
+abbrev pub is_quoted : List ℕ → Bool
+is_quoted [] = false
+is_quoted (quote ∷ bs) =
+    is_quote quote && is_body (quotes_at (quote ∷ bs)) quote 0 false (drop (quotes_at (quote ∷ bs)) (quote ∷ bs))
+
+-- a str literal with its prefix and quotes ("String and Bytes literals")
+abbrev pub is_text : List ℕ → Bool
+is_text w = is_quoted (unprefixed w)
 
 abbrev pub IsIn : List (List ℕ) → List ℕ → Type 0
 IsIn [] w = ⊥
@@ -129,8 +137,8 @@ line_ends = (10 ∷ []) ∷ (13 ∷ 10 ∷ []) ∷ (13 ∷ []) ∷ []
 -- which bytes are a word
 abbrev pub IsWord : Sort → List ℕ → Type 0
 IsWord Name w = IsRun begins_name continues_name w
-IsWord Int w = IsRun is_digit is_digit w
-IsWord Text w = IsText w
+IsWord Int w = IsRun is_digit continues_name w
+IsWord Text w = is_text w ≡ true
 IsWord Operator w = (s : Symbol) × (spelled symbols w ≡ Some s)
 IsWord Spaces w = IsRun is_space is_space w
 IsWord Tabs w = IsRun is_tab is_tab w
@@ -143,20 +151,19 @@ IsLongest w rest = (more after : List ℕ) (k : Sort) → 0 < length more → re
 
 -- ---- what is refused
 
--- the number that these digits write behind n
-abbrev pub decimal_from : ℕ → List ℕ → ℕ
-decimal_from n [] = n
-decimal_from n (d ∷ ds) = decimal_from (n * 10 + (d - 48)) ds
-
--- A number has no zero before other digits ("Integer literals"), and is at most 9223372036854775807.
+-- A number has a value ("Integer literals").
 abbrev pub is_number : List ℕ → Bool
-is_number [] = false
-is_number (d ∷ ds) = if d == 48 then list_all (λ b. b == 48) ds else nat_le (decimal_from 0 (d ∷ ds)) 9223372036854775807
+is_number w = is_some (value_of_int w)
 
--- no letter, digit, `_` or point follows
+-- no point follows
 abbrev pub is_apart : List ℕ → Bool
 is_apart [] = true
-is_apart (b ∷ bs) = not (continues_name b || (b == 46))
+is_apart (b ∷ bs) = not (b == 46)
+
+-- a letter before a quote is a prefix
+abbrev pub is_prefixing : List ℕ → List ℕ → Bool
+is_prefixing (p ∷ []) (b ∷ bs) = is_prefix p && is_quote b
+is_prefixing _ _ = false
 
 -- Behind two quotes no third one follows: three always open a literal in three quotes.
 abbrev pub is_closed : List ℕ → List ℕ → Bool
@@ -165,8 +172,9 @@ is_closed _ _ = true
 
 -- whether a word may stand before the rest
 abbrev pub is_allowed : Sort → List ℕ → List ℕ → Bool
+is_allowed Name w rest = not (is_prefixing w rest)
 is_allowed Int w rest = is_number w && is_apart rest
-is_allowed Text w rest = is_closed w rest
+is_allowed Text w rest = is_closed (unprefixed w) rest
 is_allowed _ w rest = true
 
 -- ---- a text

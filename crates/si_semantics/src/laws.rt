@@ -1,16 +1,34 @@
 // Laws of lives and of courses, for those who build on them.
 
 ghost use Rattle.si_semantics.specs.Cases.{Cases};
+ghost use Rattle.si_semantics.specs.LiteralCases.{LiteralCases};
+ghost use Rattle.si_semantics.specs.LayoutCases.{LayoutCases};
 ghost use Rattle.si_semantics.specs.Laws.{Binding, OneLife, LivesGrow, GoneStays, AnswersWait, OnePieceALine, OneMoment};
+ghost use Rattle.si_semantics.specs.Scope.{LeftByExceptions};
 
 /// The worked cases: what scripts print and how they end.
 pub fn worked_cases()
     ensures { Cases }
 {}
 
+/// The worked cases of literals: their values, and which are none.
+pub fn worked_literals()
+    ensures { LiteralCases }
+{}
+
+/// The worked cases of the layout: what tokens lines make, and which blocks they open and close.
+pub fn worked_layout()
+    ensures { LayoutCases }
+{}
+
 /// A name that was bound has its value, and every other has what it had.
 pub fn binding()
     ensures { Binding }
+{}
+
+/// A text whose `break` and `continue` stand in loops is left by an exception, if it is left at all.
+pub fn left_by_exceptions()
+    ensures { LeftByExceptions }
 {}
 
 /// The same text and the same answers give one life: one that is not cut is the same where a loop may have more turns.

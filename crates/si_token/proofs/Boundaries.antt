@@ -1,13 +1,16 @@
 -- A word ends beside an ASCII byte, so no character is split there.
-use Rattle.std.proofs.Common.{◌≡◌, ℕ, zero, suc, ◌+◌, ◌<◌, ◌≤◌, List, [], ◌∷◌, ◌++◌, ⊎_elim, length, take, drop, get_or, Bool, true, false, refl, sym, ap, subst, arith, IsUtf8, Some}
-use Rattle.std.specs.Prelude.{◌||◌, nat_lt}
+use Rattle.std.proofs.Common.{◌≡◌, ℕ, zero, suc, ◌+◌, ◌<◌, ◌≤◌, List, [], ◌∷◌, ◌++◌, ⊎_elim, length, take, drop, get_or, Bool, true, false, refl, sym, ap, subst, arith, IsUtf8, Some, ◌∙◌}
+use Rattle.std.specs.Prelude.{◌||◌, ◌&&◌, ◌==◌, not, nat_lt, if◌then◌else◌}
 use Rattle.std.specs.Str.{IsCharBoundary}
 use Rattle.std.proofs.lemmas.Str.{IsCharBoundary-end, IsCharBoundary-before_ascii, IsCharBoundary-after_ascii}
 use Rattle.std.proofs.lemmas.Bool.Decides.{nat_tests}
+use Rattle.std.proofs.lemmas.Bool.{eqb-true}
 use Rattle.std.proofs.Math.Seq.{drop-cons}
 use Rattle.std.proofs.str.Laws.{order}
 use Rattle.si_semantics.specs.Tokens.{Symbol}
-use Rattle.si_semantics.specs.Words.{Sort, Name, Int, Text, Operator, Spaces, Tabs, Comment, LineEnd, is_digit, begins_name, continues_name, is_space, is_tab, is_hash, is_quote, in_comment, spelled, symbols, line_ends, each, IsRun, IsBody, IsText, IsIn, IsWord}
+use Rattle.si_semantics.specs.Literals.{is_quote, is_prefix}
+use Rattle.si_semantics.specs.Words.{Sort, Name, Int, Text, Operator, Spaces, Tabs, Comment, LineEnd, is_digit, begins_name, continues_name, is_space, is_tab, is_hash, in_comment, is_plain, is_body, is_escaped, is_quoted, is_text, spelled, symbols, line_ends, each, IsRun, IsIn, IsWord}
+use Rattle.si_token.proofs.Texts.{and_both, drop_none}
 use Rattle.si_token.proofs.Runs.{Found, spelled_test}
 
 -- the last byte, or 0
@@ -28,8 +31,8 @@ run_last first p small is (b ∷ w) h = each_last p small (b ∷ w) (is b h.0, h
 small_name : (b : ℕ) → continues_name b ≡ true → b < 128
 small_name b h = grind (arith, nat_tests)
 
-small_digit : (b : ℕ) → is_digit b ≡ true → b < 128
-small_digit b h = grind (arith, nat_tests)
+digit_in : (b : ℕ) → is_digit b ≡ true → continues_name b ≡ true
+digit_in b h = grind (arith, nat_tests)
 
 small_space : (b : ℕ) → is_space b ≡ true → b < 128
 small_space b h = grind (arith, nat_tests)
@@ -47,18 +50,61 @@ name_in : (b : ℕ) → begins_name b ≡ true → continues_name b ≡ true
 name_in b h = ap (λ x. x || is_digit b) h
 
 -- a body ends in its quote
-body_last : (q : ℕ) (e : Bool) (w : List ℕ) → IsBody q e w → last w ≡ q
-body_last q true [] h = absurd h
-body_last q false [] h = absurd h
-body_last q true (b ∷ []) h = absurd h.1
-body_last q true (b ∷ (c ∷ w)) h = body_last q false (c ∷ w) h.1
-body_last q false (b ∷ []) h = ⊎_elim (λ c. c.0) (λ g. ⊎_elim (λ c. absurd c.1) (λ c. absurd c.1) g) h
-body_last q false (b ∷ (c ∷ w)) h = ⊎_elim (λ x. let bad : c ∷ w ≡ [] = x.1 in cc) (λ g. ⊎_elim (λ x. body_last q true (c ∷ w) x.1) (λ x. body_last q false (c ∷ w) x.1) g) h
+body_last : (count q : ℕ) → (0 == count) ≡ false → (w : List ℕ) → ((row : ℕ) (joins : Bool) → 0 < length w → is_body count q row joins w ≡ true → last w ≡ q) × (is_escaped count q w ≡ true → last w ≡ q)
+body_last count q none [] = (λ row joins pos h. absurd (omega (arith, pos)), λ h. let bad : false ≡ true = h in cc)
+body_last count q none (b ∷ []) =
+    (λ row joins pos h. one row (row == count) (b == q) (b == 92) (is_plain count b || (joins && (b == 10))) refl h, λ h. let bad = sym none ∙ (and_both (not (b == 0)) (0 == count) h).1 in cc)
+  where
+    one : (row : ℕ) (over closes escapes stands : Bool) → (b == q) ≡ closes → (not over && (if closes then row + 1 == count else (if escapes then false else stands && (0 == count)))) ≡ true → b ≡ q
+    one row true closes escapes stands e h = cc
+    one row false true escapes stands e h = eqb-true b q e
+    one row false false true stands e h = cc
+    one row false false false true e h = let bad = sym none ∙ h in cc
+    one row false false false false e h = cc
+body_last count q none (b ∷ (c ∷ w)) =
+    let go = body_last count q none (c ∷ w) in
+    let pos : 0 < length (c ∷ w) = omega arith in (
+      λ row joins some h. more row (row == count) (b == q) (b == 92) (is_plain count b || (joins && (b == 10))) (λ row. go.0 row false pos) go.1 h,
+      λ h. go.0 0 (b == 13) pos (and_both (not (b == 0)) _ h).1,
+    )
+  where
+    more : (row : ℕ) (over closes escapes stands : Bool) → ((row : ℕ) → is_body count q row false (c ∷ w) ≡ true → last (c ∷ w) ≡ q) → (is_escaped count q (c ∷ w) ≡ true → last (c ∷ w) ≡ q)
+        → (not over && (if closes then is_body count q (row + 1) false (c ∷ w) else (if escapes then is_escaped count q (c ∷ w) else stands && is_body count q 0 false (c ∷ w)))) ≡ true → last (c ∷ w) ≡ q
+    more row true closes escapes stands go behind h = cc
+    more row false true escapes stands go behind h = go (row + 1) h
+    more row false false true stands go behind h = behind h
+    more row false false false true go behind h = go 0 h
+    more row false false false false go behind h = cc
 
-text_last : (w : List ℕ) → IsText w → last w < 128
-text_last [] h = absurd h
-text_last (q ∷ []) h = absurd h.1
-text_last (q ∷ (b ∷ w)) h = let l = body_last q false (b ∷ w) h.1 in let s = small_quote q h.0 in omega (arith, l, s)
+quoted_last : (w : List ℕ) → is_quoted w ≡ true → last w < 128
+quoted_last [] h = let bad : false ≡ true = h in cc
+quoted_last (q ∷ []) h = let bad : false ≡ true = (and_both (is_quote q) false h).1 in cc
+quoted_last (q ∷ (a ∷ [])) h =
+    let p = and_both (is_quote q) (is_body 1 q 0 false (a ∷ [])) h in
+    let l = (body_last 1 q refl (a ∷ [])).0 0 false (omega arith) p.1 in let s = small_quote q p.0 in omega (arith, l, s)
+quoted_last (q ∷ (a ∷ (b ∷ v))) h = by ((q == a) && (a == b)) h
+  where
+    three : (v : List ℕ) → is_quote q ≡ true → is_body 3 q 0 false v ≡ true → last (q ∷ a ∷ b ∷ v) < 128
+    three [] i h = let bad : false ≡ true = h in cc
+    three (c ∷ v) i h = let l = (body_last 3 q refl (c ∷ v)).0 0 false (omega arith) h in let s = small_quote q i in omega (arith, l, s)
+
+    by : (t : Bool) → (is_quote q && is_body (if t then 3 else 1) q 0 false (drop (if t then 3 else 1) (q ∷ a ∷ b ∷ v))) ≡ true → last (q ∷ a ∷ b ∷ v) < 128
+    by true h = let p = and_both (is_quote q) _ h in three v p.0 (sym (ap (is_body 3 q 0 false) (drop_none v)) ∙ p.1)
+    by false h =
+        let p = and_both (is_quote q) (is_body 1 q 0 false (a ∷ b ∷ v)) h in
+        let l = (body_last 1 q refl (a ∷ b ∷ v)).0 0 false (omega arith) p.1 in let s = small_quote q p.0 in omega (arith, l, s)
+
+text_last : (w : List ℕ) → is_text w ≡ true → last w < 128
+text_last [] h = let bad : false ≡ true = h in cc
+text_last (b ∷ w) h = by (is_prefix b) h
+  where
+    behind : (w : List ℕ) → is_quoted w ≡ true → last (b ∷ w) < 128
+    behind [] h = let bad : false ≡ true = h in cc
+    behind (c ∷ w) h = quoted_last (c ∷ w) h
+
+    by : (t : Bool) → is_quoted (if t then w else b ∷ w) ≡ true → last (b ∷ w) < 128
+    by true h = behind w h
+    by false h = quoted_last (b ∷ w) h
 
 abbrev ends_small : List ℕ → Bool
 ends_small w = nat_lt (last w) 128
@@ -82,7 +128,7 @@ no_comment _ = Unit {0}
 
 word_last : (k : Sort) (w : List ℕ) → no_comment k → IsWord k w → last w < 128
 word_last Name w u h = run_last begins_name continues_name small_name name_in w h
-word_last Int w u h = run_last is_digit is_digit small_digit (λ b e. e) w h
+word_last Int w u h = run_last is_digit continues_name small_name digit_in w h
 word_last Text w u h = text_last w h
 word_last Operator w u h = symbol_last w h.0 h.1
 word_last Spaces w u h = run_last is_space is_space small_space (λ b e. e) w h

@@ -1,7 +1,10 @@
-pub mod Decimals
+pub mod Digits
+pub mod Texts
 pub mod Runs
 pub mod Spellings
 pub mod Boundaries
+pub mod Lines
 pub mod Steps
-pub mod Loop
 pub mod Slices
+pub mod Added
+pub mod Loop

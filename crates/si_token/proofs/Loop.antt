@@ -1,17 +1,22 @@
 -- One turn of the loop over a text.
-use Rattle.std.proofs.Common.{◌≡◌, ℕ, ◌+◌, ◌<◌, List, [], ◌∷◌, ◌++◌, length, map, refl, sym, ap, ◌∙◌, subst, arith, append_assoc, Option, Some, None, Bool, true, false}
-use Rattle.std.specs.Prelude.{◌==◌, ◌||◌, nat_lt, if◌then◌else◌}
+use Rattle.std.proofs.Common.{◌≡◌, ℕ, ◌+◌, ◌<◌, List, [], ◌∷◌, ◌++◌, length, map, replicate, reverse, refl, sym, ap, ◌∙◌, arith, append_assoc, Option, Some, None, Bool, true, false}
+use Rattle.std.specs.Prelude.{◌==◌, nat_lt}
 use Rattle.std.specs.Option.{option_map, option_to_list}
 use Rattle.std.proofs.lemmas.List.{map-append}
 use Rattle.std.proofs.lemmas.Bool.Decides.{nat_tests}
 use Rattle.std.proofs.lemmas.Bool.{eqb-true}
 use Rattle.si_semantics.specs.Tokens as tokens
-use Rattle.si_semantics.specs.Tokens.{Symbol, TokenKind}
-use Rattle.si_semantics.specs.Words.{Sort, Name, Int, Text, Operator, Spaces, Tabs, Comment, LineEnd, spelled, symbols}
-use Rattle.si_semantics.specs.Layout.{Place, laid, line_start, token, behind, behind_token, with_token, with_line_end, with_operator, missing_newline, ending}
+use Rattle.si_semantics.specs.Tokens.{TokenKind}
+use Rattle.si_semantics.specs.Words.{Sort, Name, Int, Text, Operator, Spaces, Tabs, Comment, LineEnd}
+use Rattle.si_semantics.specs.Layout.{token, empty_tokens}
+use Rattle.si_semantics.specs.Layout.{kind_of as word_kind}
 use Rattle.si_token.specs.declared.token.Token.{Token}
 use Rattle.si_token.specs.declared.token.TokenKind.TheVariants as kind
-use Rattle.si_token.specs.Views.{token_of, kind_of}
+use Rattle.si_token.specs.Views.{Place, token_of, kind_of}
+use Rattle.si_token.specs.Laying.{laid, before_word, stepped, with_line_end, missing_newline, Adds}
+use Rattle.si_token.proofs.Lines.{end_laid, with_before}
+use Rattle.si_token.proofs.Steps.{all_ending}
+use Rattle.si_token.proofs.Added.{adds_tokens, dedents_of}
 use Rattle.si_token.specs.Spans.{IsPart}
 
 pub some_rest : (rest : List ℕ) → (length rest == 0) ≡ false → 0 < length rest
@@ -29,53 +34,67 @@ list_of (Some t) = refl
 pub kept : (items new : List Token) (made : Option Token) → new ≡ items ++ option_to_list made → map token_of items ++ option_to_list (option_map token_of made) ≡ map token_of new
 kept items new made e = sym (ap (map token_of) e ∙ map-append token_of items (option_to_list made) ∙ ap (λ l. map token_of items ++ l) (list_of made))
 
-abbrev Goes : Place → List ℕ → Option (List tokens.Token × Place) → Type 0
-Goes p w None = Unit {0}
-Goes p w (Some r) = r.1.at ≡ p.at + length w
+-- ---- where the bytes of a word end
 
-token_goes : (p : Place) (k : TokenKind) (w : List ℕ) → Goes p w (with_token p k w)
-token_goes p k w = by (p.begun || (p.column == 0))
-  where
-    by : (t : Bool) → Goes p w (if t then Some (token p k w ∷ [], behind_token p w) else None)
-    by true = refl
-    by false = tt
-
-operator_goes : (p : Place) (o : Option Symbol) (w : List ℕ) → Goes p w (with_operator p o w)
-operator_goes p None w = tt
-operator_goes p (Some s) w = token_goes p (tokens.Sign s) w
-
-abbrev GoesTo : Place → List ℕ → List tokens.Token × Place → Type 0
-GoesTo p w r = r.1.at ≡ p.at + length w
-
-end_goes : (p : Place) (w : List ℕ) → GoesTo p w (with_line_end p w)
+end_goes : (p : Place) (w : List ℕ) → (with_line_end p w).1.at ≡ p.at + length w
 end_goes p w = by (nat_lt 0 p.brackets)
   where
-    by : (t : Bool) → GoesTo p w (if t then ([], behind p w) else (if p.begun then token p tokens.Newline w ∷ [] else [], line_start (p.at + length w)))
+    by : (t : Bool) → (end_laid p w t).1.at ≡ p.at + length w
     by true = refl
     by false = refl
 
-goes : (p : Place) (k : Sort) (w : List ℕ) → Goes p w (laid p k w)
-goes p Spaces w = refl
-goes p Tabs w = refl
-goes p Comment w = refl
-goes p LineEnd w = end_goes p w
-goes p Name w = token_goes p _ w
-goes p Int w = token_goes p _ w
-goes p Text w = token_goes p _ w
-goes p Operator w = operator_goes p (spelled symbols w) w
-
 -- behind a word stand its bytes
-pub laid_at : (p : Place) (k : Sort) (w : List ℕ) (ts : List tokens.Token) (q : Place) → Some (ts, q) ≡ laid p k w → q.at ≡ p.at + length w
-laid_at p k w ts q h = subst (Goes p w) (sym h) (goes p k w)
+pub laid_at : (p : Place) (k : Option TokenKind) (s : Sort) (w : List ℕ) → (laid p k s w).1.at ≡ p.at + length w
+laid_at p (Some k) s w = refl
+laid_at p None Spaces w = refl
+laid_at p None Tabs w = refl
+laid_at p None LineEnd w = end_goes p w
+laid_at p None Comment w = refl
+laid_at p None Name w = refl
+laid_at p None Int w = refl
+laid_at p None Text w = refl
+laid_at p None Operator w = refl
 
-pub end_is : (t : Token) (p : Place) (rest : List ℕ) → t.kind ≡ kind.End → IsPart p.at rest t → rest ≡ [] → token_of t ≡ token p tokens.End []
-end_is t p rest k part e = λ i. record { kind = kind_of (k i); text = (part.text ∙ e) i; start = part.start i }
+-- ---- a turn
 
--- the tokens with the end
-pub ended : (items new last : List Token) (missing : Option Token) (t : Token) (p : Place) → option_to_list (option_map token_of missing) ≡ missing_newline p → token_of t ≡ token p tokens.End []
-    → new ≡ items ++ option_to_list missing → last ≡ new ++ t ∷ [] → map token_of last ≡ map token_of items ++ ending p
-ended items new last missing t p m e n l =
-    ap (map token_of) l ∙ map-append token_of new (t ∷ [])
-    ∙ (λ i. sym (kept items new missing n) i ++ e i ∷ [])
-    ∙ (λ i. (map token_of items ++ m i) ++ token p tokens.End [] ∷ [])
-    ∙ append_assoc (map token_of items) (missing_newline p) (token p tokens.End [] ∷ [])
+-- a step, by the token that the word may be
+abbrev step_by : Place → List ℕ → Sort → List ℕ → Option TokenKind → Option (List tokens.Token × Place × List ℕ)
+step_by p blocks s w k = with_before p.at (laid p k s w) (before_word p blocks k)
+
+-- what stands before a word, and the token that it makes
+pub turned : (items between new : List Token) (made : Option Token) (p q : Place) (k : Option TokenKind) (s : Sort) (w : List ℕ) (blocks open_blocks : List ℕ) (kinds : List TokenKind) → k ≡ word_kind s w
+    → before_word p blocks k ≡ Some (kinds, open_blocks) → (option_to_list (option_map token_of made), q) ≡ laid p k s w → Adds p.at kinds items between → new ≡ between ++ option_to_list made
+    → (stepped p blocks s w ≡ Some (empty_tokens p.at kinds ++ option_to_list (option_map token_of made), q, open_blocks))
+    × (map token_of items ++ (empty_tokens p.at kinds ++ option_to_list (option_map token_of made)) ≡ map token_of new)
+turned items between new made p q k s w blocks open_blocks kinds is before l adds n = (
+  ap (step_by p blocks s w) (sym is) ∙ ap (with_before p.at (laid p k s w)) before ∙ ap (λ (r : List tokens.Token × Place). Some (empty_tokens p.at kinds ++ r.0, r.1, open_blocks)) (sym l),
+  sym (append_assoc (map token_of items) (empty_tokens p.at kinds) (option_to_list (option_map token_of made)))
+      ∙ ap (λ l. l ++ option_to_list (option_map token_of made)) (sym (adds_tokens p.at kinds items between adds))
+      ∙ kept between new made n,
+)
+
+pub not_turned : (p : Place) (k : Option TokenKind) (s : Sort) (w : List ℕ) (blocks : List ℕ) → k ≡ word_kind s w → before_word p blocks k ≡ None → stepped p blocks s w ≡ None
+not_turned p k s w blocks is before = ap (step_by p blocks s w) (sym is) ∙ ap (with_before p.at (laid p k s w)) before
+
+-- ---- the end
+
+pub end_is : (t : Token) (at : ℕ) → t.kind ≡ kind.End → IsPart at [] t → token_of t ≡ token at [] tokens.End
+end_is t at k part = λ i. record { kind = kind_of (k i); text = part.text i; start = part.start i }
+
+-- the tokens with those at the end
+pub ended : (items new between last : List Token) (missing : Option Token) (t : Token) (p : Place) (blocks : List ℕ) → option_to_list (option_map token_of missing) ≡ missing_newline p → token_of t ≡ token p.at [] tokens.End
+    → new ≡ items ++ option_to_list missing → Adds p.at (replicate (length blocks) tokens.Dedent) new between → last ≡ between ++ t ∷ []
+    → map token_of last ≡ map token_of items ++ all_ending p (reverse blocks)
+ended items new between last missing t p blocks m e n adds l =
+    ap (map token_of) l ∙ map-append token_of between (t ∷ [])
+    ∙ (λ i. all_new i ++ e i ∷ [])
+    ∙ append_assoc (map token_of items ++ missing_newline p) closes (token p.at [] tokens.End ∷ [])
+    ∙ append_assoc (map token_of items) (missing_newline p) (closes ++ token p.at [] tokens.End ∷ [])
+  where
+    closes : List tokens.Token
+    closes = empty_tokens p.at (map (λ c. tokens.Dedent) (reverse blocks))
+
+    all_new : map token_of between ≡ (map token_of items ++ missing_newline p) ++ closes
+    all_new =
+        adds_tokens p.at (replicate (length blocks) tokens.Dedent) new between adds
+        ∙ (λ i. (sym (kept items new missing n) ∙ ap (λ l. map token_of items ++ l) m) i ++ dedents_of p.at blocks i)

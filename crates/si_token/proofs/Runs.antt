@@ -1,35 +1,22 @@
 -- The word at the front: what `word_at` gives is the longest word there, and a longest word there is given.
-use Rattle.std.proofs.Common.{◌≡◌, ℕ, zero, suc, ◌+◌, ◌<◌, ◌≤◌, List, [], ◌∷◌, ◌++◌, ◌⊎◌, inl, inr, ⊎_elim, length, take, drop, get_or, Bool, true, false, refl, sym, ap, ◌∙◌, subst, arith, Option, Some, None, append_assoc}
+use Rattle.std.proofs.Common.{◌≡◌, ℕ, zero, suc, ◌+◌, ◌<◌, ◌≤◌, List, [], ◌∷◌, ◌++◌, ◌⊎◌, inl, inr, ⊎_elim, length, take, drop, Bool, true, false, refl, sym, ap, ◌∙◌, subst, arith, Option, Some, None, append_assoc}
 use Rattle.std.specs.Prelude.{◌||◌, ◌&&◌, ◌==◌, not, if◌then◌else◌, nat_le}
 use Rattle.std.specs.List.{list_all, prefix_len}
 use Rattle.std.proofs.lemmas.Bool.Decides.{nat_tests}
 use Rattle.std.proofs.lemmas.Bool.{eqb-true}
 use Rattle.si_semantics.specs.Tokens.{Symbol}
-use Rattle.si_semantics.specs.Words.{Sort, Name, Int, Text, Operator, Spaces, Tabs, Comment, LineEnd, is_digit, begins_name, continues_name, is_space, is_tab, is_hash, is_quote, in_comment, is_plain, is_escape, same, spelled, symbols, line_ends, each, IsRun, IsBody, IsIn, IsWord, IsLongest, is_allowed}
-use Rattle.si_token.specs.Reading.{then_read, sort_at, add_one, body_length, some_if, symbol_length, line_end_length, length_of, if_allowed, word_at}
+use Rattle.si_semantics.specs.Literals.{is_quote, is_prefix}
+use Rattle.si_semantics.specs.Words.{Sort, Name, Int, Text, Operator, Spaces, Tabs, Comment, LineEnd, is_digit, begins_name, continues_name, is_space, is_tab, is_hash, in_comment, is_quoted, is_text, is_prefixing, same, spelled, symbols, line_ends, each, IsRun, IsIn, IsWord, IsLongest, is_allowed}
+use Rattle.si_token.specs.Reading.{then_read, sort_of_byte, sort_at, text_length, some_if, symbol_length, line_end_length, length_of, if_allowed, word_at}
+use Rattle.si_token.proofs.Texts.{if_true, if_false, and_both, some_inj, text_found, text_reaches, text_is}
 
 -- ---- tests
-
-if_true : {A : Type 0} (b : Bool) (x y : A) → b ≡ true → (if b then x else y) ≡ x
-if_true true x y h = refl
-if_true false x y h = cc
-
-if_false : {A : Type 0} (b : Bool) (x y : A) → b ≡ false → (if b then x else y) ≡ y
-if_false false x y h = refl
-if_false true x y h = cc
-
-and_both : (p q : Bool) → (p && q) ≡ true → (p ≡ true) × (q ≡ true)
-and_both true q h = (refl, h)
-and_both false q h = cc
 
 or_true : (p q : Bool) → p ≡ true → (p || q) ≡ true
 or_true p q h = ap (λ x. x || q) h
 
 eq_refl : (b : ℕ) → (b == b) ≡ true
 eq_refl b = grind (arith, nat_tests)
-
-some_inj : {A : Type 0} (x y : A) → ◌≡◌ {A = Option A} (Some x) (Some y) → x ≡ y
-some_inj x y h = cc
 
 -- ---- runs
 
@@ -60,91 +47,6 @@ run_most p [] rest h = omega arith
 run_most p (b ∷ w) rest h =
     let e = if_true (p b) (1 + prefix_len p (w ++ rest)) 0 h.0 in
     let m = run_most p w rest h.1 in omega (arith, e, m)
-
--- ---- literals
-
-add_one_some : (o : Option ℕ) (n : ℕ) → o ≡ Some n → add_one o ≡ Some (suc n)
-add_one_some o n h = ap add_one h
-
--- what add_one comes from
-from_add_one : (o : Option ℕ) (n : ℕ) → add_one o ≡ Some n → (m : ℕ) × (o ≡ Some m) × (n ≡ suc m)
-from_add_one None n h = cc
-from_add_one (Some m) n h = (m, refl, let e : suc m ≡ n = cc in sym e)
-
-backslash_apart : (q : ℕ) → is_quote q ≡ true → (92 == q) ≡ false
-backslash_apart q h = grind (arith, nat_tests)
-
-plain_apart : (q b : ℕ) → is_plain q b ≡ true → ((b == q) ≡ false) × ((b == 92) ≡ false)
-plain_apart q b h = (grind (arith, nat_tests), grind (arith, nat_tests))
-
-plain_in_comment : (q b : ℕ) → is_plain q b ≡ true → in_comment b ≡ true
-plain_in_comment q b h = (and_both (in_comment b) (not ((b == q) || (b == 92))) h).0
-
-is_plain_by : (q b : ℕ) → (b == q) ≡ false → (b == 92) ≡ false → in_comment b ≡ true → is_plain q b ≡ true
-is_plain_by q b e f g = by (in_comment b) (b == q) (b == 92) g e f
-  where
-    by : (c t u : Bool) → c ≡ true → t ≡ false → u ≡ false → (c && not (t || u)) ≡ true
-    by true false false g e f = refl
-    by true false true g e f = cc
-    by true true u g e f = cc
-    by false t u g e f = cc
-
--- a body at the front is what is found, whatever follows it
-body_found : (q : ℕ) → is_quote q ≡ true → (e : Bool) (w rest : List ℕ) → IsBody q e w → body_length q e (w ++ rest) ≡ Some (length w)
-body_found q i true [] rest h = absurd h
-body_found q i false [] rest h = absurd h
-body_found q i true (b ∷ w) rest h =
-    if_true (is_escape b) (add_one (body_length q false (w ++ rest))) None h.0 ∙ add_one_some _ (length w) (body_found q i false w rest h.1)
-body_found q i false (b ∷ w) rest h =
-    ⊎_elim
-    (λ c. if_true (b == q) (Some 1) _ (ap (λ x. x == q) c.0 ∙ eq_refl q) ∙ ap (λ l. Some (suc (length l))) (sym c.1))
-    (λ g.
-    ⊎_elim
-    (λ c. if_false (b == q) (Some 1) _ (ap (λ x. x == q) c.0 ∙ backslash_apart q i)
-    ∙ if_true (b == 92) (add_one (body_length q true (w ++ rest))) _ (ap (λ x. x == 92) c.0)
-    ∙ add_one_some _ (length w) (body_found q i true w rest c.1))
-    (λ c. let a = plain_apart q b c.0 in
-    if_false (b == q) (Some 1) _ a.0
-    ∙ if_false (b == 92) (add_one (body_length q true (w ++ rest))) _ a.1
-    ∙ if_true (in_comment b) (add_one (body_length q false (w ++ rest))) None (plain_in_comment q b c.0)
-    ∙ add_one_some _ (length w) (body_found q i false w rest c.1))
-    g)
-    h
-
--- what is found is a body
-abbrev FoundBody : ℕ → Bool → List ℕ → ℕ → Type 0
-FoundBody q e bs n = IsBody q e (take n bs) × (n ≤ length bs)
-
-abbrev unescaped : ℕ → ℕ → List ℕ → Bool → Bool → Bool → Option ℕ
-unescaped q b bs t u v = if t then Some 1 else (if u then add_one (body_length q true bs) else (if v then add_one (body_length q false bs) else None))
-
-some_one : (n : ℕ) → ◌≡◌ {A = Option ℕ} (Some 1) (Some n) → n ≡ 1
-some_one n h = let e : 1 ≡ n = cc in sym e
-
-body_is : (q : ℕ) (e : Bool) (bs : List ℕ) (n : ℕ) → body_length q e bs ≡ Some n → FoundBody q e bs n
-body_is q true [] n h = cc
-body_is q false [] n h = cc
-body_is q true (b ∷ bs) n h = by (body_is q false bs) (is_escape b) refl h
-  where
-    by : ((m : ℕ) → body_length q false bs ≡ Some m → FoundBody q false bs m) → (t : Bool) → is_escape b ≡ t → (if t then add_one (body_length q false bs) else None) ≡ Some n → FoundBody q true (b ∷ bs) n
-    by go false e h = cc
-    by go true e h =
-        let m = from_add_one (body_length q false bs) n h in
-        let r = go m.0 m.1 in
-        subst (FoundBody q true (b ∷ bs)) (sym m.2) ((e, r.0), omega (arith, r.1))
-body_is q false (b ∷ bs) n h = by (λ e. body_is q e bs) (b == q) (b == 92) (in_comment b) refl refl refl h
-  where
-    by : ((e : Bool) (m : ℕ) → body_length q e bs ≡ Some m → FoundBody q e bs m) → (t u v : Bool) → (b == q) ≡ t → (b == 92) ≡ u → in_comment b ≡ v → unescaped q b bs t u v ≡ Some n → FoundBody q false (b ∷ bs) n
-    by go true u v e f g h = subst (FoundBody q false (b ∷ bs)) (sym (some_one n h)) (inl (eqb-true b q e, refl), omega arith)
-    by go false true v e f g h =
-        let m = from_add_one (body_length q true bs) n h in
-        let r = go true m.0 m.1 in
-        subst (FoundBody q false (b ∷ bs)) (sym m.2) (inr (inl (eqb-true b 92 f, r.0)), omega (arith, r.1))
-    by go false false true e f g h =
-        let m = from_add_one (body_length q false bs) n h in
-        let r = go false m.0 m.1 in
-        subst (FoundBody q false (b ∷ bs)) (sym m.2) (inr (inr (is_plain_by q b e f g, r.0)), omega (arith, r.1))
-    by go false false false e f g h = cc
 
 -- ---- symbols
 
@@ -186,7 +88,7 @@ is_operator _ = false
 
 abbrev begins_operator : List ℕ → Bool
 begins_operator [] = false
-begins_operator (b ∷ bs) = is_operator (sort_at b)
+begins_operator (b ∷ bs) = is_operator (sort_of_byte b)
 
 symbols_begin : (w : List ℕ) (s : Symbol) → spelled symbols w ≡ Some s → begins_operator w ≡ true
 unfolding symbols
@@ -286,24 +188,25 @@ line_end_reaches w rest h =
 
 -- ---- the first byte says the sort
 
+-- the first byte is one of the sort
 abbrev pub BeginsSort : Sort → List ℕ → Type 0
 BeginsSort k [] = ⊥
-BeginsSort k (b ∷ bs) = sort_at b ≡ k
+BeginsSort k (b ∷ bs) = sort_of_byte b ≡ k
 
-name_first : (b : ℕ) → begins_name b ≡ true → sort_at b ≡ Name
+name_first : (b : ℕ) → begins_name b ≡ true → sort_of_byte b ≡ Name
 name_first b h = if_true (begins_name b) Name _ h
 
-digit_first : (b : ℕ) → is_digit b ≡ true → sort_at b ≡ Int
+digit_first : (b : ℕ) → is_digit b ≡ true → sort_of_byte b ≡ Int
 digit_first b h =
     let n : begins_name b ≡ false = grind (arith, nat_tests) in if_false (begins_name b) Name _ n ∙ if_true (is_digit b) Int _ h
 
-at_byte : (b c : ℕ) (k : Sort) → (b == c) ≡ true → sort_at c ≡ k → sort_at b ≡ k
-at_byte b c k h e = ap sort_at (eqb-true b c h) ∙ e
+at_byte : (b c : ℕ) (k : Sort) → (b == c) ≡ true → sort_of_byte c ≡ k → sort_of_byte b ≡ k
+at_byte b c k h e = ap sort_of_byte (eqb-true b c h) ∙ e
 
-quote_first : (b : ℕ) → is_quote b ≡ true → sort_at b ≡ Text
+quote_first : (b : ℕ) → is_quote b ≡ true → sort_of_byte b ≡ Text
 quote_first b h = by (b == 39) refl h
   where
-    by : (t : Bool) → (b == 39) ≡ t → (t || (b == 34)) ≡ true → sort_at b ≡ Text
+    by : (t : Bool) → (b == 39) ≡ t → (t || (b == 34)) ≡ true → sort_of_byte b ≡ Text
     by true e h = at_byte b 39 Text e refl
     by false e h = at_byte b 34 Text h refl
 
@@ -319,26 +222,97 @@ is_operator_is LineEnd h = cc
 
 operator_first : (w : List ℕ) → begins_operator w ≡ true → BeginsSort Operator w
 operator_first [] h = let bad : false ≡ true = h in cc
-operator_first (b ∷ w) h = is_operator_is (sort_at b) h
+operator_first (b ∷ w) h = is_operator_is (sort_of_byte b) h
 
 end_first : (w : List ℕ) → IsIn line_ends w → BeginsSort LineEnd w
 end_first w h = ⊎_elim (λ e. subst (BeginsSort LineEnd) (sym e) refl) (λ g. ⊎_elim (λ e. subst (BeginsSort LineEnd) (sym e) refl) (λ g. ⊎_elim (λ e. subst (BeginsSort LineEnd) (sym e) refl) (λ bad. absurd bad) g) g) h
 
-pub sort_first : (k : Sort) (w : List ℕ) → IsWord k w → BeginsSort k w
-sort_first Name [] h = absurd h
-sort_first Name (b ∷ w) h = name_first b h.0
-sort_first Int [] h = absurd h
-sort_first Int (b ∷ w) h = digit_first b h.0
-sort_first Text [] h = absurd h
-sort_first Text (b ∷ w) h = quote_first b h.0
-sort_first Operator w h = operator_first w (symbols_begin w h.0 h.1)
-sort_first Spaces [] h = absurd h
-sort_first Spaces (b ∷ w) h = at_byte b 32 Spaces h.0 refl
-sort_first Tabs [] h = absurd h
-sort_first Tabs (b ∷ w) h = at_byte b 9 Tabs h.0 refl
-sort_first Comment [] h = absurd h
-sort_first Comment (b ∷ w) h = at_byte b 35 Comment h.0 refl
-sort_first LineEnd w h = end_first w h
+-- ---- a word says what sort stands at the front
+
+-- a byte that begins no name is no prefix
+no_prefix : (b : ℕ) → (sort_of_byte b ≡ Name → ⊥) → is_prefix b ≡ false
+no_prefix b differs = by (is_prefix b) refl
+  where
+    by : (t : Bool) → is_prefix b ≡ t → is_prefix b ≡ false
+    by false e = e
+    by true e = let n : begins_name b ≡ true = grind (arith, nat_tests) in absurd (differs (name_first b n))
+
+-- the sort is that of the first byte, where it is no prefix
+by_byte : (b : ℕ) (rest : List ℕ) → is_prefix b ≡ false → sort_at (b ∷ rest) ≡ sort_of_byte b
+by_byte b [] e = refl
+by_byte b (c ∷ rest) e = ap (λ t. if t && is_quote c then Text else sort_of_byte b) e
+
+other_sort : (k : Sort) (w rest : List ℕ) → (k ≡ Name → ⊥) → BeginsSort k w → sort_at (w ++ rest) ≡ k
+other_sort k [] rest differs h = absurd h
+other_sort k (b ∷ w) rest differs h = by_byte b (w ++ rest) (no_prefix b (λ e. differs (sym h ∙ e))) ∙ h
+
+quote_in_name : (c : ℕ) → continues_name c ≡ true → is_quote c ≡ false
+quote_in_name c h = grind (arith, nat_tests)
+
+not_true : (t : Bool) → not t ≡ true → t ≡ false
+not_true false h = refl
+not_true true h = cc
+
+name_sort : (w rest : List ℕ) → IsRun begins_name continues_name w → is_prefixing w rest ≡ false → sort_at (w ++ rest) ≡ Name
+name_sort [] rest h a = absurd h
+name_sort (b ∷ []) [] h a = name_first b h.0
+name_sort (b ∷ []) (c ∷ rest) h a = if_false (is_prefix b && is_quote c) Text _ a ∙ name_first b h.0
+name_sort (b ∷ (c ∷ w)) rest h a =
+    ap (λ t. if is_prefix b && t then Text else sort_of_byte b) (quote_in_name c h.1.0) ∙ none (is_prefix b) ∙ name_first b h.0
+  where
+    none : (t : Bool) → (if t && false then Text else sort_of_byte b) ≡ sort_of_byte b
+    none true = refl
+    none false = refl
+
+-- a quote stands in front of a literal without prefix
+quoted_first : (w : List ℕ) → is_quoted w ≡ true → BeginsSort Text w
+quoted_first [] h = let bad : false ≡ true = h in cc
+quoted_first (q ∷ w) h = quote_first q (and_both (is_quote q) _ h).0
+
+quote_no_name : (q : ℕ) → is_quote q ≡ true → begins_name q ≡ false
+quote_no_name q h = grind (arith, nat_tests)
+
+text_sort : (w rest : List ℕ) → is_text w ≡ true → sort_at (w ++ rest) ≡ Text
+text_sort [] rest h = let bad : false ≡ true = h in cc
+text_sort (b ∷ w) rest h = by (is_prefix b) refl h
+  where
+    prefixed : (w : List ℕ) → is_prefix b ≡ true → is_quoted w ≡ true → sort_at (b ∷ (w ++ rest)) ≡ Text
+    prefixed [] e h = let bad : false ≡ true = h in cc
+    prefixed (q ∷ w) e h = let t : (is_prefix b && is_quote q) ≡ true = ap (λ t. t && is_quote q) e ∙ (and_both (is_quote q) _ h).0 in if_true (is_prefix b && is_quote q) Text _ t
+
+    by : (t : Bool) → is_prefix b ≡ t → is_quoted (if t then w else b ∷ w) ≡ true → sort_at (b ∷ (w ++ rest)) ≡ Text
+    by true e h = prefixed w e h
+    by false e h = by_byte b (w ++ rest) e ∙ quoted_first (b ∷ w) h
+
+-- a name that is a prefix before a quote is no word there
+abbrev Stands : Sort → List ℕ → List ℕ → Type 0
+Stands Name w rest = is_prefixing w rest ≡ false
+Stands _ w rest = Unit {0}
+
+pub sort_word : (k : Sort) (w rest : List ℕ) → IsWord k w → Stands k w rest → sort_at (w ++ rest) ≡ k
+sort_word Name w rest h a = name_sort w rest h a
+sort_word Text w rest h a = text_sort w rest h
+sort_word Int [] rest h a = absurd h
+sort_word Int (b ∷ w) rest h a = other_sort Int (b ∷ w) rest (λ e. cc) (digit_first b h.0)
+sort_word Operator w rest h a = other_sort Operator w rest (λ e. cc) (operator_first w (symbols_begin w h.0 h.1))
+sort_word Spaces [] rest h a = absurd h
+sort_word Spaces (b ∷ w) rest h a = other_sort Spaces (b ∷ w) rest (λ e. cc) (at_byte b 32 Spaces h.0 refl)
+sort_word Tabs [] rest h a = absurd h
+sort_word Tabs (b ∷ w) rest h a = other_sort Tabs (b ∷ w) rest (λ e. cc) (at_byte b 9 Tabs h.0 refl)
+sort_word Comment [] rest h a = absurd h
+sort_word Comment (b ∷ w) rest h a = other_sort Comment (b ∷ w) rest (λ e. cc) (at_byte b 35 Comment h.0 refl)
+sort_word LineEnd w rest h a = other_sort LineEnd w rest (λ e. cc) (end_first w h)
+
+pub nonempty : (k : Sort) (w : List ℕ) → IsWord k w → 0 < length w
+nonempty k (b ∷ w) h = omega arith
+nonempty Name [] h = absurd h
+nonempty Int [] h = absurd h
+nonempty Text [] h = let bad : false ≡ true = h in cc
+nonempty Operator [] h = absurd (operator_first [] (symbols_begin [] h.0 h.1))
+nonempty Spaces [] h = absurd h
+nonempty Tabs [] h = absurd h
+nonempty Comment [] h = absurd h
+nonempty LineEnd [] h = absurd (end_first [] h)
 
 -- ---- the sort of a byte says what it is
 
@@ -366,12 +340,21 @@ tested false false false false false true g = refl
 tested false false false false false false true = refl
 tested false false false false false false false = tt
 
-test_of : (k : Sort) (b : ℕ) → sort_at b ≡ k → Tested k (begins_name b) (is_digit b) (is_quote b) (is_space b) (is_tab b) (is_hash b) ((b == 10) || (b == 13))
+test_of : (k : Sort) (b : ℕ) → sort_of_byte b ≡ k → Tested k (begins_name b) (is_digit b) (is_quote b) (is_space b) (is_tab b) (is_hash b) ((b == 10) || (b == 13))
 test_of k b h =
     subst (λ k. Tested k (begins_name b) (is_digit b) (is_quote b) (is_space b) (is_tab b) (is_hash b) ((b == 10) || (b == 13))) h
     (tested (begins_name b) (is_digit b) (is_quote b) (is_space b) (is_tab b) (is_hash b) ((b == 10) || (b == 13)))
 
 -- ---- what is found is a word
+
+-- the first byte says the sort, but of a literal
+byte_of : (k : Sort) (b : ℕ) (bs : List ℕ) → (Text ≡ k → ⊥) → sort_at (b ∷ bs) ≡ k → sort_of_byte b ≡ k
+byte_of k b [] differs h = h
+byte_of k b (c ∷ bs) differs h = by (is_prefix b && is_quote c) h
+  where
+    by : (t : Bool) → (if t then Text else sort_of_byte b) ≡ k → sort_of_byte b ≡ k
+    by true h = absurd (differs h)
+    by false h = h
 
 abbrev pub Front : Sort → List ℕ → ℕ → Type 0
 Front k bs n = IsWord k (take n bs) × (0 < n) × (n ≤ length bs)
@@ -387,19 +370,18 @@ run_front first p b bs n f h e =
 hash_in : (b : ℕ) → is_hash b ≡ true → in_comment b ≡ true
 hash_in b h = ap in_comment (eqb-true b 35 h)
 
-pub front : (k : Sort) (b : ℕ) (bs : List ℕ) (n : ℕ) → sort_at b ≡ k → length_of k (b ∷ bs) ≡ Some n → Front k (b ∷ bs) n
-front Name b bs n s h = let t = test_of Name b s in run_front begins_name continues_name b bs n t (or_true (begins_name b) (is_digit b) t) h
-front Int b bs n s h = let t = test_of Int b s in run_front is_digit is_digit b bs n t t h
-front Spaces b bs n s h = let t = test_of Spaces b s in run_front is_space is_space b bs n t t h
-front Tabs b bs n s h = let t = test_of Tabs b s in run_front is_tab is_tab b bs n t t h
-front Comment b bs n s h = let t = test_of Comment b s in run_front is_hash in_comment b bs n t (hash_in b t) h
+digit_in : (b : ℕ) → is_digit b ≡ true → continues_name b ≡ true
+digit_in b h = grind (arith, nat_tests)
+
+pub front : (k : Sort) (b : ℕ) (bs : List ℕ) (n : ℕ) → sort_at (b ∷ bs) ≡ k → length_of k (b ∷ bs) ≡ Some n → Front k (b ∷ bs) n
+front Name b bs n s h = let t = test_of Name b (byte_of Name b bs (λ e. cc) s) in run_front begins_name continues_name b bs n t (or_true (begins_name b) (is_digit b) t) h
+front Int b bs n s h = let t = test_of Int b (byte_of Int b bs (λ e. cc) s) in run_front is_digit continues_name b bs n t (digit_in b t) h
+front Spaces b bs n s h = let t = test_of Spaces b (byte_of Spaces b bs (λ e. cc) s) in run_front is_space is_space b bs n t t h
+front Tabs b bs n s h = let t = test_of Tabs b (byte_of Tabs b bs (λ e. cc) s) in run_front is_tab is_tab b bs n t t h
+front Comment b bs n s h = let t = test_of Comment b (byte_of Comment b bs (λ e. cc) s) in run_front is_hash in_comment b bs n t (hash_in b t) h
 front Operator b bs n s h = symbol_front (b ∷ bs) n h
-front LineEnd b bs n s h = subst (Front LineEnd (b ∷ bs)) (some_inj _ n h) (line_end_front b bs (is_line_end b (test_of LineEnd b s)))
-front Text b bs n s h =
-    let t = test_of Text b s in
-    let m = from_add_one (body_length b false bs) n h in
-    let r = body_is b false bs m.0 m.1 in
-    subst (Front Text (b ∷ bs)) (sym m.2) ((t, r.0), omega arith, omega (arith, r.1))
+front LineEnd b bs n s h = subst (Front LineEnd (b ∷ bs)) (some_inj _ n h) (line_end_front b bs (is_line_end b (test_of LineEnd b (byte_of LineEnd b bs (λ e. cc) s))))
+front Text b bs n s h = text_is (b ∷ bs) n h
 
 -- ---- a word at the front is found, or a longer one
 
@@ -407,23 +389,70 @@ run_reaches : (first p : ℕ → Bool) (w rest : List ℕ) → ((b : ℕ) → fi
 run_reaches first p [] rest i h = absurd h
 run_reaches first p (b ∷ w) rest i h = run_most p (b ∷ w) rest (i b h.0, h.1)
 
-pub nonempty : (k : Sort) (w : List ℕ) → IsWord k w → 0 < length w
-nonempty k w h = by w (sort_first k w h)
-  where
-    by : (w : List ℕ) → BeginsSort k w → 0 < length w
-    by [] h = absurd h
-    by (b ∷ w) h = omega arith
+-- behind two quotes another may stand: then three open a longer literal, or none
+abbrev Reaches : Sort → List ℕ → List ℕ → Type 0
+Reaches Text w rest = (n : ℕ) → text_length (w ++ rest) ≡ Some n → length w ≤ n
+Reaches k w rest = AtLeast (length_of k (w ++ rest)) (length w)
 
-reaches : (k : Sort) (w rest : List ℕ) → IsWord k w → AtLeast (length_of k (w ++ rest)) (length w)
+reaches : (k : Sort) (w rest : List ℕ) → IsWord k w → Reaches k w rest
 reaches Name w rest h = (prefix_len continues_name (w ++ rest), refl, run_reaches begins_name continues_name w rest (λ b t. or_true (begins_name b) (is_digit b) t) h)
-reaches Int w rest h = (prefix_len is_digit (w ++ rest), refl, run_reaches is_digit is_digit w rest (λ b t. t) h)
+reaches Int w rest h = (prefix_len continues_name (w ++ rest), refl, run_reaches is_digit continues_name w rest digit_in h)
 reaches Spaces w rest h = (prefix_len is_space (w ++ rest), refl, run_reaches is_space is_space w rest (λ b t. t) h)
 reaches Tabs w rest h = (prefix_len is_tab (w ++ rest), refl, run_reaches is_tab is_tab w rest (λ b t. t) h)
 reaches Comment w rest h = (prefix_len in_comment (w ++ rest), refl, run_reaches is_hash in_comment w rest hash_in h)
 reaches Operator w rest h = symbol_reaches w rest h.0 h.1
 reaches LineEnd w rest h = (line_end_length (w ++ rest), refl, line_end_reaches w rest h)
-reaches Text [] rest h = absurd h
-reaches Text (q ∷ w) rest h = (suc (length w), ap add_one (body_found q h.0 false w rest h.1), omega arith)
+reaches Text w rest h = λ n e. text_reaches w rest n h e
+
+-- no shorter one is found
+no_shorter : (k : Sort) (w rest : List ℕ) (n : ℕ) → IsWord k w → length_of k (w ++ rest) ≡ Some n → length w ≤ n
+no_shorter k w rest n h e = by k h (reaches k w rest h) e
+  where
+    least : (o : Option ℕ) → AtLeast o (length w) → o ≡ Some n → length w ≤ n
+    least o r e = let s : r.0 ≡ n = some_inj r.0 n (sym r.1 ∙ e) in let l = r.2 in omega (arith, s, l)
+
+    by : (k : Sort) → IsWord k w → Reaches k w rest → length_of k (w ++ rest) ≡ Some n → length w ≤ n
+    by Text h r e = r n e
+    by Name h r e = least (length_of Name (w ++ rest)) r e
+    by Int h r e = least (length_of Int (w ++ rest)) r e
+    by Operator h r e = least (length_of Operator (w ++ rest)) r e
+    by Spaces h r e = least (length_of Spaces (w ++ rest)) r e
+    by Tabs h r e = least (length_of Tabs (w ++ rest)) r e
+    by Comment h r e = least (length_of Comment (w ++ rest)) r e
+    by LineEnd h r e = least (length_of LineEnd (w ++ rest)) r e
+
+-- one is found where the word may stand there
+some_found : (k : Sort) (w rest : List ℕ) → IsWord k w → is_allowed k w rest ≡ true → AtLeast (length_of k (w ++ rest)) (length w)
+some_found Text w rest h a = (length w, text_found w rest h a, omega arith)
+some_found Name w rest h a = reaches Name w rest h
+some_found Int w rest h a = reaches Int w rest h
+some_found Operator w rest h a = reaches Operator w rest h
+some_found Spaces w rest h a = reaches Spaces w rest h
+some_found Tabs w rest h a = reaches Tabs w rest h
+some_found Comment w rest h a = reaches Comment w rest h
+some_found LineEnd w rest h a = reaches LineEnd w rest h
+
+stands : (k : Sort) (w rest : List ℕ) → is_allowed k w rest ≡ true → Stands k w rest
+stands Name w rest a = not_true (is_prefixing w rest) a
+stands Int w rest a = tt
+stands Text w rest a = tt
+stands Operator w rest a = tt
+stands Spaces w rest a = tt
+stands Tabs w rest a = tt
+stands Comment w rest a = tt
+stands LineEnd w rest a = tt
+
+long_stands : (k : Sort) (w rest : List ℕ) → 1 < length w → Stands k w rest
+long_stands Name [] rest h = refl
+long_stands Name (b ∷ []) rest h = absurd (omega (arith, h))
+long_stands Name (b ∷ (c ∷ w)) rest h = refl
+long_stands Int w rest h = tt
+long_stands Text w rest h = tt
+long_stands Operator w rest h = tt
+long_stands Spaces w rest h = tt
+long_stands Tabs w rest h = tt
+long_stands Comment w rest h = tt
+long_stands LineEnd w rest h = tt
 
 -- ---- the word at the front
 
@@ -472,39 +501,34 @@ pub record Found (bs : List ℕ) (k : Sort) (n : ℕ) : Type 0 where
   pub longest : IsLongest (take n bs) (drop n bs)
   pub allowed : is_allowed k (take n bs) (drop n bs) ≡ true
 
-same_first : (k j : Sort) (v w : List ℕ) (b : ℕ) (x y : List ℕ) → (v ++ x) ≡ b ∷ y → BeginsSort j v → sort_at b ≡ k → j ≡ k
-same_first k j [] w b x y e h s = absurd h
-same_first k j (c ∷ v) w b x y e h s = let i : c ≡ b = cc in sym h ∙ ap sort_at i ∙ s
-
 append_length : (x y : List ℕ) → length (x ++ y) ≡ length x + length y
 append_length [] y = omega arith
 append_length (a ∷ x) y = let e = append_length x y in omega (arith, e)
 
-longest_front : (k : Sort) (b : ℕ) (bs : List ℕ) (n : ℕ) → sort_at b ≡ k → length_of k (b ∷ bs) ≡ Some n → n ≤ length (b ∷ bs) → IsLongest (take n (b ∷ bs)) (drop n (b ∷ bs))
-longest_front k b bs n s h le more after j pos e w =
+longest_front : (k : Sort) (b : ℕ) (bs : List ℕ) (n : ℕ) → sort_at (b ∷ bs) ≡ k → length_of k (b ∷ bs) ≡ Some n → 0 < n → n ≤ length (b ∷ bs) → IsLongest (take n (b ∷ bs)) (drop n (b ∷ bs))
+longest_front k b bs n s h some le more after j pos e w =
     let whole : b ∷ bs ≡ (take n (b ∷ bs) ++ more) ++ after = split_at n (b ∷ bs) ∙ ap (λ l. take n (b ∷ bs) ++ l) e ∙ sym (append_assoc (take n (b ∷ bs)) more after) in
-    let same : j ≡ k = same_first k j (take n (b ∷ bs) ++ more) [] b after bs (sym whole) (sort_first j (take n (b ∷ bs) ++ more) w) s in
-    let r = reaches j (take n (b ∷ bs) ++ more) after w in
-    let found : ◌≡◌ {A = Option ℕ} (Some r.0) (Some n) = sym r.1 ∙ ap (λ l. length_of j l) (sym whole) ∙ ap (λ x. length_of x (b ∷ bs)) same ∙ h in
-    let is : r.0 ≡ n = some_inj r.0 n found in
     let l = append_length (take n (b ∷ bs)) more in
     let t = take_length n (b ∷ bs) le in
-    absurd (omega (arith, l, t, pos, is, r.2))
+    let same : j ≡ k = sym (sort_word j (take n (b ∷ bs) ++ more) after w (long_stands j (take n (b ∷ bs) ++ more) after (omega (arith, l, t, pos, some)))) ∙ sym (ap sort_at whole) ∙ s in
+    let found : length_of j ((take n (b ∷ bs) ++ more) ++ after) ≡ Some n = ap (λ l. length_of j l) (sym whole) ∙ ap (λ x. length_of x (b ∷ bs)) same ∙ h in
+    let r = no_shorter j (take n (b ∷ bs) ++ more) after n w found in
+    absurd (omega (arith, l, t, pos, r))
 
 pub word_found : (bs : List ℕ) (k : Sort) (n : ℕ) → word_at bs ≡ Some (k, n) → Found bs k n
 word_found [] k n h = cc
 word_found (b ∷ bs) k n h =
-    let r = then_some (length_of (sort_at b) (b ∷ bs)) _ (k, n) h in
-    let c = cond_some (is_allowed (sort_at b) (take r.0 (b ∷ bs)) (drop r.0 (b ∷ bs))) (sort_at b, r.0) (k, n) r.2 in
-    let f = front (sort_at b) b bs r.0 refl r.1 in
-    let found : Found (b ∷ bs) (sort_at b) r.0 = record { word = f.0; some = f.1; within = f.2; longest = longest_front (sort_at b) b bs r.0 refl r.1 f.2; allowed = c.0 } in
+    let r = then_some (length_of (sort_at (b ∷ bs)) (b ∷ bs)) _ (k, n) h in
+    let c = cond_some (is_allowed (sort_at (b ∷ bs)) (take r.0 (b ∷ bs)) (drop r.0 (b ∷ bs))) (sort_at (b ∷ bs), r.0) (k, n) r.2 in
+    let f = front (sort_at (b ∷ bs)) b bs r.0 refl r.1 in
+    let found : Found (b ∷ bs) (sort_at (b ∷ bs)) r.0 = record { word = f.0; some = f.1; within = f.2; longest = longest_front (sort_at (b ∷ bs)) b bs r.0 refl r.1 f.1 f.2; allowed = c.0 } in
     subst (λ x. Found (b ∷ bs) x.0 x.1) c.1 found
 
 pub word_only : (w rest : List ℕ) (k : Sort) → IsWord k w → IsLongest w rest → is_allowed k w rest ≡ true → word_at (w ++ rest) ≡ Some (k, length w)
-word_only [] rest k h l a = absurd (sort_first k [] h)
+word_only [] rest k h l a = absurd (let some = nonempty k [] h in omega (arith, some))
 word_only (b ∷ w) rest k h l a =
-    let s : sort_at b ≡ k = sort_first k (b ∷ w) h in
-    let r = reaches k (b ∷ w) rest h in
+    let s : sort_at (b ∷ (w ++ rest)) ≡ k = sort_word k (b ∷ w) rest h (stands k (b ∷ w) rest a) in
+    let r = some_found k (b ∷ w) rest h a in
     let f = front k b (w ++ rest) r.0 s r.1 in
     let is : r.0 ≡ length (b ∷ w) = ⊎_elim
     (λ le. omega (arith, le, r.2))
@@ -522,6 +546,6 @@ word_only (b ∷ w) rest k h l a =
     le_or a b false e = inr (grind (arith, nat_tests))
 
 -- a length that is found lies within the bytes
-pub length_within : (bs : List ℕ) (k : Sort) (n : ℕ) → 0 < length bs → k ≡ sort_at (get_or bs 0 0) → length_of k bs ≡ Some n → n ≤ length bs
+pub length_within : (bs : List ℕ) (k : Sort) (n : ℕ) → 0 < length bs → k ≡ sort_at bs → length_of k bs ≡ Some n → n ≤ length bs
 length_within [] k n pos s h = absurd (omega (arith, pos))
 length_within (b ∷ bs) k n pos s h = (front k b bs n (sym s) h).2

@@ -52,7 +52,7 @@ one_more : (low : ℕ) (ts : List Token) (high : ℕ) (t : Token) (more : ℕ) �
 one_more low [] high t more h start end le = (omega (arith, h, start), omega (arith, start, end, le), omega (arith, end))
 one_more low (u ∷ ts) high t more h start end le = (h.0, h.1, one_more u.span.end ts high t more h.2 start end le)
 
-parts_push : (source word after : List ℕ) (items : List Token) (at : ℕ) (t : Token) → drop at source ≡ word ++ after → IsPart at word t → AreParts source items at → AreParts source (items ++ t ∷ []) (at + length word)
+pub parts_push : (source word after : List ℕ) (items : List Token) (at : ℕ) (t : Token) → drop at source ≡ word ++ after → IsPart at word t → AreParts source items at → AreParts source (items ++ t ∷ []) (at + length word)
 parts_push source word after items at t h p before = record {
   slices = All-push (IsSliceOf source) items t before.slices (part_slice source word after at t h p);
   order = one_more 0 items at t (at + length word) before.order p.start p.end (omega arith);
@@ -81,12 +81,3 @@ parts_first source = record { slices = λ k d h. absurd (omega (arith, h)); orde
 pub at_first : (source : List ℕ) → drop 0 source ≡ source
 at_first [] = refl
 at_first (b ∷ source) = refl
-
--- the end: perhaps one token, and the last, both empty
-pub parts_ended : (source : List ℕ) (items new last : List Token) (at : ℕ) (missing : Option Token) (t : Token) → drop at source ≡ [] → at ≡ length source → IfSome missing (IsPart at []) → IsPart at [] t
-    → new ≡ items ++ option_to_list missing → last ≡ new ++ t ∷ [] → AreParts source items at → AreParts source last (length source)
-parts_ended source items new last at missing t h whole m e n l before =
-    let zero : at + length {A = ℕ} [] ≡ at = omega arith in
-    let first : AreParts source new at = subst (AreParts source new) zero (parts_kept source [] [] items new at missing h m n before) in
-    let second : AreParts source (new ++ t ∷ []) at = subst (AreParts source (new ++ t ∷ [])) zero (parts_push source [] [] new at t h e first) in
-    subst (AreParts source last) whole (subst (λ x. AreParts source x at) (sym l) second)

@@ -1,6 +1,6 @@
 -- The counts of a place are small.
 use Rattle.std.specs.Prelude.{◌+◌, ◌≤◌}
-use Rattle.si_token.specs.declared.scan.Place.{Place}
+use Rattle.si_token.specs.declared.layout.Place.{Place}
 
 -- no count is larger than the number of bytes before
 pub record IsWithin (p : Place) : Type 0 where

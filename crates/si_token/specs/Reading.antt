@@ -1,17 +1,16 @@
 -- The word at the front as a function on lists, which the code computes.
-use Rattle.std.specs.Prelude.{ℕ, suc, ◌+◌, ◌==◌, ◌&&◌, ◌||◌, List, [], ◌∷◌, Bool, true, false, Option, Some, None, take, drop, if◌then◌else◌}
+use Rattle.std.specs.Prelude.{ℕ, suc, ◌+◌, ◌==◌, ◌&&◌, ◌||◌, List, [], ◌∷◌, Bool, false, Option, Some, None, take, drop, if◌then◌else◌}
 use Rattle.std.specs.List.{prefix_len}
-use Rattle.si_semantics.specs.Tokens.{Token}
-use Rattle.si_semantics.specs.Layout.{Place, Lays}
-use Rattle.si_semantics.specs.Words.{Sort, Name, Int, Text, Operator, Spaces, Tabs, Comment, LineEnd, is_digit, begins_name, continues_name, is_space, is_tab, is_hash, is_quote, in_comment, is_escape, symbols, spelled, is_allowed, Word, IsCut}
+use Rattle.si_semantics.specs.Literals.{is_quote, is_prefix, quotes_at}
+use Rattle.si_semantics.specs.Words.{Sort, Name, Int, Text, Operator, Spaces, Tabs, Comment, LineEnd, is_digit, begins_name, continues_name, is_space, is_tab, is_hash, is_plain, in_comment, symbols, spelled, is_allowed}
 
 abbrev pub then_read : {A B : Type 0} → Option A → (A → Option B) → Option B
 then_read None f = None
 then_read (Some x) f = f x
 
--- what sort of word a byte begins
-abbrev pub sort_at : ℕ → Sort
-sort_at b =
+-- what sort of word a byte begins that is no prefix
+abbrev pub sort_of_byte : ℕ → Sort
+sort_of_byte b =
     if begins_name b then Name
     else (if is_digit b then Int
     else (if is_quote b then Text
@@ -20,6 +19,12 @@ sort_at b =
     else (if is_hash b then Comment
     else (if (b == 10) || (b == 13) then LineEnd
     else Operator))))))
+
+-- what sort of word stands at the front
+abbrev pub sort_at : List ℕ → Sort
+sort_at [] = Operator
+sort_at (b ∷ []) = sort_of_byte b
+sort_at (b ∷ (c ∷ bs)) = if is_prefix b && is_quote c then Text else sort_of_byte b
 
 abbrev pub add_one : Option ℕ → Option ℕ
 add_one None = None
@@ -30,18 +35,28 @@ abbrev pub plus : ℕ → Option ℕ → Option ℕ
 plus n None = None
 plus n (Some m) = Some (n + m)
 
--- the length of what follows an open quote
-abbrev pub body_length : ℕ → Bool → List ℕ → Option ℕ
-body_length q escaped [] = None
-body_length q false (b ∷ bs) =
-    if b == q then Some 1
-    else (if b == 92 then add_one (body_length q true bs)
-    else (if in_comment b then add_one (body_length q false bs) else None))
-body_length q true (b ∷ bs) = if is_escape b then add_one (body_length q false bs) else None
+-- the length of what follows the open quotes (see `is_body`)
+abbrev mutual
+  pub body_length : ℕ → ℕ → ℕ → Bool → List ℕ → Option ℕ
+  body_length count quote row joins [] = if row == count then Some 0 else None
+  body_length count quote row joins (b ∷ bs) =
+      if row == count then Some 0
+      else (if b == quote then add_one (body_length count quote (row + 1) false bs)
+      else (if b == 92 then add_one (escaped_length count quote bs)
+      else (if is_plain count b || (joins && (b == 10)) then add_one (body_length count quote 0 false bs) else None)))
+
+  pub escaped_length : ℕ → ℕ → List ℕ → Option ℕ
+  escaped_length count quote [] = None
+  escaped_length count quote (b ∷ bs) = if b == 0 then None else add_one (body_length count quote 0 (b == 13) bs)
+
+abbrev pub quoted_length : List ℕ → Option ℕ
+quoted_length [] = None
+quoted_length (quote ∷ bs) =
+    if is_quote quote then plus (quotes_at (quote ∷ bs)) (body_length (quotes_at (quote ∷ bs)) quote 0 false (drop (quotes_at (quote ∷ bs)) (quote ∷ bs))) else None
 
 abbrev pub text_length : List ℕ → Option ℕ
 text_length [] = None
-text_length (q ∷ bs) = add_one (body_length q false bs)
+text_length (b ∷ bs) = if is_prefix b then plus 1 (quoted_length bs) else quoted_length (b ∷ bs)
 
 abbrev pub some_if : {A : Type 0} → Option A → ℕ → Option ℕ → Option ℕ
 some_if None n o = o
@@ -62,7 +77,7 @@ line_end_length (a ∷ (b ∷ bs)) = if (a == 13) && (b == 10) then 2 else 1
 
 abbrev pub length_of : Sort → List ℕ → Option ℕ
 length_of Name bs = Some (prefix_len continues_name bs)
-length_of Int bs = Some (prefix_len is_digit bs)
+length_of Int bs = Some (prefix_len continues_name bs)
 length_of Text bs = text_length bs
 length_of Operator bs = symbol_length bs
 length_of Spaces bs = Some (prefix_len is_space bs)
@@ -76,8 +91,4 @@ if_allowed k bs n = if is_allowed k (take n bs) (drop n bs) then Some (k, n) els
 -- the word at the front: its sort and its length
 abbrev pub word_at : List ℕ → Option (Sort × ℕ)
 word_at [] = None
-word_at (b ∷ bs) = then_read (length_of (sort_at b) (b ∷ bs)) (if_allowed (sort_at b) (b ∷ bs))
-
--- the tokens of the rest of a text, from a place on
-abbrev pub Reads : Place → List Token → List ℕ → Type 0
-Reads p ts bs = (ws : List Word) × IsCut ws bs × Lays p ws ts
+word_at (b ∷ bs) = then_read (length_of (sort_at (b ∷ bs)) (b ∷ bs)) (if_allowed (sort_at (b ∷ bs)) (b ∷ bs))

@@ -1,10 +1,9 @@
 -- What the types of this crate stand for in the definitions.
-use Rattle.std.specs.Prelude.{ℕ, List, Option}
+use Rattle.std.specs.Prelude.{ℕ, List, Bool, Option}
 use Rattle.std.specs.Borrow.{Bor}
 use Rattle.std.specs.Option.{option_map, option_to_list}
 use Rattle.si_semantics.specs.Tokens as tokens
 use Rattle.si_semantics.specs.Words as words
-use Rattle.si_semantics.specs.Layout as layout
 use Rattle.si_token.specs.declared.token.Symbol.{Symbol}
 use Rattle.si_token.specs.declared.token.Symbol.TheVariants as symbol
 use Rattle.si_token.specs.declared.token.Keyword.{Keyword}
@@ -12,7 +11,7 @@ use Rattle.si_token.specs.declared.token.Keyword.TheVariants as keyword
 use Rattle.si_token.specs.declared.token.TokenKind.{TokenKind}
 use Rattle.si_token.specs.declared.token.TokenKind.TheVariants as kind
 use Rattle.si_token.specs.declared.token.Token.{Token}
-use Rattle.si_token.specs.declared.scan.Place.{Place}
+use Rattle.si_token.specs.declared.layout.Place as code
 use Rattle.si_token.specs.declared.words.Sort.{Sort}
 use Rattle.si_token.specs.declared.words.Sort.TheVariants as sort
 
@@ -124,11 +123,19 @@ sort_of sort.LineEnd = words.LineEnd
 abbrev pub word_of : Sort × ℕ → words.Sort × ℕ
 word_of w = (sort_of w.0, w.1)
 
-abbrev pub place_of : Place → layout.Place
-place_of p = record { at = p.at; begun = p.begun; column = p.column; brackets = p.brackets }
+-- where a reader of words stands, without the line
+pub record Place : Type 0 where
+  pub at : ℕ
+  pub begun : Bool
+  pub column : ℕ
+  pub has_tab : Bool
+  pub brackets : ℕ
+
+abbrev pub place_of : code.Place → Place
+place_of p = record { at = p.at; begun = p.begun; column = p.column; has_tab = p.has_tab; brackets = p.brackets }
 
 -- the token that a word makes, where it makes one, and the place behind the word
-abbrev pub laid_of : Option Token × Place → List tokens.Token × layout.Place
+abbrev pub laid_of : Option Token × code.Place → List tokens.Token × Place
 laid_of r = (option_to_list (option_map token_of r.0), place_of r.1)
 
 -- an entry of a table of keywords

@@ -1,8 +1,9 @@
-// Texts and their tokens, as Python's own `tokenize` gives them, but for blank lines, comments and CR.
+// Texts and their tokens, as Python's own `tokenize` gives them, but for blank lines, comments, CR, tabs before a line's
+// first token, and the text of an INDENT.
 
-use crate::token::TokenKind::{End, Int, Name, Newline, Str};
+use crate::token::TokenKind::{Dedent, End, Indent, Int, Name, Newline, Str};
 use crate::token::{Keyword, Symbol, TokenKind};
-use crate::{TokenFault, tokens};
+use crate::{TokenFault, int_value, tokens};
 use std::process::Abort;
 
 fn expect(rt: &(impl Abort + AllocGlobal), text: &str, wanted: &[(TokenKind, &str)]) {
@@ -158,18 +159,130 @@ fn literals(rt: HostRuntime) {
 }
 
 #[test]
+fn numbers(rt: HostRuntime) {
+    expect(
+        &rt,
+        "1_0 0x_Ff 0O17 0b1_0 0_0+0",
+        &[
+            (Int, "1_0"),
+            (Int, "0x_Ff"),
+            (Int, "0O17"),
+            (Int, "0b1_0"),
+            (Int, "0_0"),
+            (sign(Symbol::Plus), "+"),
+            (Int, "0"),
+            (Newline, ""),
+            (End, ""),
+        ],
+    );
+}
+
+#[test]
+fn texts(rt: HostRuntime) {
+    expect(
+        &rt,
+        r#"r'\'' R"\""U'a'u"" b'c' ru'd'"#,
+        &[
+            (Str, r"r'\''"),
+            (Str, r#"R"\"""#),
+            (Str, "U'a'"),
+            (Str, "u\"\""),
+            (Name, "b"),
+            (Str, "'c'"),
+            (Name, "ru"),
+            (Str, "'d'"),
+            (Newline, ""),
+            (End, ""),
+        ],
+    );
+    expect(
+        &rt,
+        "'''a\r\n''\\'\n''' \"\"\"b'\"\"\" ''''c'''r''''''",
+        &[
+            (Str, "'''a\r\n''\\'\n'''"),
+            (Str, "\"\"\"b'\"\"\""),
+            (Str, "''''c'''"),
+            (Str, "r''''''"),
+            (Newline, ""),
+            (End, ""),
+        ],
+    );
+    expect(
+        &rt,
+        "'a\\\r\nb\\\nc\\\r'",
+        &[(Str, "'a\\\r\nb\\\nc\\\r'"), (Newline, ""), (End, "")],
+    );
+}
+
+#[test]
+fn values_of_numbers(rt: HostRuntime) {
+    let known = [
+        ("0", 0),
+        ("00_0", 0),
+        ("12_345", 12_345),
+        ("0xFf_e", 4094),
+        ("0X_7f", 127),
+        ("0o17", 15),
+        ("0O_7_7", 63),
+        ("0B1_01", 5),
+        ("9223372036854775807", i64::MAX),
+        ("0x7fff_ffff_ffff_ffff", i64::MAX),
+    ];
+    for (literal, value) in known {
+        assert_eq!(rt; int_value(literal.as_bytes()), Some(value), "{literal:?}");
+    }
+    for literal in [
+        "",
+        "_1",
+        "1_",
+        "1__0",
+        "01",
+        "0_1",
+        "0x",
+        "0x_",
+        "0_x1",
+        "0x__1",
+        "0b2",
+        "0o8",
+        "0xg",
+        "1a",
+        "0x10000000000000000",
+        "9223372036854775808",
+    ] {
+        assert_eq!(rt; int_value(literal.as_bytes()), None, "{literal:?}");
+    }
+}
+
+#[test]
 fn refused(rt: HostRuntime) {
     for text in [
         "1a",
         "1.",
-        "1_0",
+        "1_",
+        "1__0",
         "007",
+        "0_7",
+        "0x",
+        "0x_",
+        "0b2",
+        "0o_8",
+        "1if",
+        "0x1g",
+        "0x8000_0000_0000_0000",
         "9223372036854775808",
         "'a",
         "'a\n'",
-        "'\\t'",
         "'a\\",
         "'''a'",
+        "r'''a'",
+        "''''a'",
+        "'''a''''",
+        "'a\r'",
+        "'a\\\n\n'",
+        "'a\\\r\n\n'",
+        "r'a\\'",
+        "u'a",
+        "'''a\u{0}'''",
         "\"\"\"",
         "!",
         "$",
@@ -183,12 +296,84 @@ fn refused(rt: HostRuntime) {
         "'\u{0}'",
         "é",
         "x\u{c}",
-        " x",
         "\tx",
+        "  \tx",
+        "\t  x",
         "1é",
     ] {
         expect_refused(&rt, text, 1);
     }
-    expect_refused(&rt, "x\r\n#\r  y", 3);
+    expect_refused(&rt, "x\r\n#\r \ty", 3);
     expect_refused(&rt, "(\n\n$)", 3);
+    // a line at the column of no open block
+    expect_refused(&rt, "  x\n y", 2);
+    expect_refused(&rt, "if x:\n    y\n  else:\n    z\n", 3);
+}
+
+#[test]
+fn nested_blocks(rt: HostRuntime) {
+    expect(
+        &rt,
+        "if x:\n  if y:\n     z\nx\n",
+        &[
+            (TokenKind::Keyword(Keyword::If), "if"),
+            (Name, "x"),
+            (sign(Symbol::Colon), ":"),
+            (Newline, "\n"),
+            (Indent, ""),
+            (TokenKind::Keyword(Keyword::If), "if"),
+            (Name, "y"),
+            (sign(Symbol::Colon), ":"),
+            (Newline, "\n"),
+            (Indent, ""),
+            (Name, "z"),
+            (Newline, "\n"),
+            (Dedent, ""),
+            (Dedent, ""),
+            (Name, "x"),
+            (Newline, "\n"),
+            (End, ""),
+        ],
+    );
+    expect(
+        &rt,
+        " a\n  b\n c\n   d",
+        &[
+            (Indent, ""),
+            (Name, "a"),
+            (Newline, "\n"),
+            (Indent, ""),
+            (Name, "b"),
+            (Newline, "\n"),
+            (Dedent, ""),
+            (Name, "c"),
+            (Newline, "\n"),
+            (Indent, ""),
+            (Name, "d"),
+            (Newline, ""),
+            (Dedent, ""),
+            (Dedent, ""),
+            (End, ""),
+        ],
+    );
+}
+
+#[test]
+fn lines_of_no_block(rt: HostRuntime) {
+    // blank lines and comments in a block, at any column; line ends, spaces and tabs inside brackets
+    expect(
+        &rt,
+        "  a\n\n#\n      # b\n\t# c\n   \n  (\n1\n\t )\n",
+        &[
+            (Indent, ""),
+            (Name, "a"),
+            (Newline, "\n"),
+            (sign(Symbol::LeftParenthesis), "("),
+            (Int, "1"),
+            (sign(Symbol::RightParenthesis), ")"),
+            (Newline, "\n"),
+            (Dedent, ""),
+            (End, ""),
+        ],
+    );
 }

@@ -98,7 +98,9 @@ pub enum TokenKind {
     Keyword(Keyword),
     /// The end of a line that has tokens. Its text is the line end, and empty where the text ends without one.
     Newline,
+    /// A block begins. Its text is empty, and it stands where the first token of its line does.
     Indent,
+    /// A block ends. Its text is empty, and it stands where an `Indent` would, or at the end of the text.
     Dedent,
     /// The end of the text. Its text is empty.
     End,

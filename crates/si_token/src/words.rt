@@ -1,16 +1,15 @@
 // The word at the front of a text.
 
-ghost use Rattle.std.specs.Prelude.{◌≡◌, ◌||◌, ◌==◌, ◌-◌, not, nat_le};
-ghost use Rattle.std.specs.List.{prefix_len, list_all};
+ghost use Rattle.std.specs.Prelude.{◌≡◌, ◌<◌, ◌≤◌, ◌==◌, length, IfSome, false};
+ghost use Rattle.std.specs.List.{prefix_len};
 ghost use Rattle.std.specs.Option.{option_map};
-ghost use Rattle.si_semantics.specs.Words.{continues_name, begins_name, in_comment, is_digit, is_escape, is_number, is_apart, is_closed, is_allowed, decimal_from};
-ghost use Rattle.si_token.specs.Reading.{sort_at, text_length, line_end_length, length_of, word_at};
+ghost use Rattle.si_semantics.specs.Literals.{is_quote, is_prefix, unprefixed, quotes_at};
+ghost use Rattle.si_semantics.specs.Words.{continues_name, begins_name, in_comment, is_digit, is_plain, is_number, is_apart, is_prefixing, is_closed, is_allowed};
+ghost use Rattle.si_token.specs.Reading.{sort_of_byte, sort_at, body_length, quoted_length, text_length, line_end_length, length_of, word_at};
 ghost use Rattle.si_token.specs.Views.{sort_of, word_of};
 
+use crate::numbers::int_value;
 use crate::symbols::symbol_length;
-
-/// The greatest value of an integer literal.
-pub const MAX_INT: u64 = 9_223_372_036_854_775_807;
 
 /// What a word of a text is.
 #[derive(Clone, Copy, Debug, PartialEq, Eq)]
@@ -38,7 +37,7 @@ fn is_digit(b: u8) -> bool
     b.is_ascii_digit()
 }
 
-// What a name may hold behind its first byte.
+// What a name or a number may hold behind its first byte.
 fn continues_name(b: u8) -> bool
     ensures { result ≡ continues_name b }
 {
@@ -52,16 +51,29 @@ fn in_comment(b: u8) -> bool
     b != b'\n' && b != b'\r' && b != 0
 }
 
-// What may follow a backslash.
-fn is_escape(b: u8) -> bool
-    ensures { result ≡ is_escape b }
+fn is_quote(b: u8) -> bool
+    ensures { result ≡ is_quote b }
 {
-    matches!(b, b'\\' | b'\'' | b'"' | b'n')
+    b == b'\'' || b == b'"'
 }
 
-// The sort of the words that begin with this byte.
-fn sort_at(first: u8) -> Sort
-    ensures { sort_of result ≡ sort_at first }
+// A prefix of a literal.
+fn is_prefix(b: u8) -> bool
+    ensures { result ≡ is_prefix b }
+{
+    matches!(b, b'r' | b'R' | b'u' | b'U')
+}
+
+// What stands for itself between so many quotes.
+fn is_plain(count: usize, b: u8) -> bool
+    ensures { result ≡ is_plain count b }
+{
+    if count == 1 { in_comment(b) } else { b != 0 }
+}
+
+// The sort of the words that begin with this byte, where it is no prefix.
+fn sort_of_byte(first: u8) -> Sort
+    ensures { sort_of result ≡ sort_of_byte first }
 {
     if begins_name(first) {
         Sort::Name
@@ -79,16 +91,22 @@ fn sort_at(first: u8) -> Sort
     }
 }
 
+// The sort of the words at the front.
+fn sort_at(bytes: &[u8]) -> Sort
+    ensures { sort_of result ≡ sort_at bytes.now }
+{
+    match bytes {
+        [] => Sort::Operator,
+        [first, next, ..] if is_prefix(*first) && is_quote(*next) => Sort::Text,
+        [first, ..] => sort_of_byte(*first),
+    }
+}
+
+// The length of a name or a number.
 fn name_length(bytes: &[u8]) -> usize
     ensures { result ≡ prefix_len continues_name bytes.now }
 {
     bytes.iter().take_while(|b| continues_name(**b)).count()
-}
-
-fn digits_length(bytes: &[u8]) -> usize
-    ensures { result ≡ prefix_len is_digit bytes.now }
-{
-    bytes.iter().take_while(|b| is_digit(**b)).count()
 }
 
 fn comment_length(bytes: &[u8]) -> usize
@@ -104,30 +122,71 @@ fn repeated_length(bytes: &[u8], byte: u8) -> usize
     bytes.iter().take_while(|b| **b == byte).count()
 }
 
-// The length of a literal, from its open quote to its closed one.
-fn text_length(bytes: &[u8]) -> Option<usize>
-    ensures { result ≡ text_length bytes.now }
+// How many quotes open a literal.
+fn quotes_at(bytes: &[u8]) -> usize
+    ensures gives { result ≡ quotes_at bytes.now }
+    ensures within { 0 < length bytes.now → result ≤ length bytes.now }
 {
-    let quote = *bytes.first()?;
-    let mut escaped = false;
-    let mut i = 1;
-    while i < bytes.len() {
-        let b = bytes[i];
+    match bytes {
+        [a, b, c, ..] if *a == *b && *b == *c => 3,
+        _ => 1,
+    }
+}
+
+// The length of what follows the open quotes, up to the end of as many closed ones.
+fn body_length(count: usize, quote: u8, bytes: &[u8]) -> Option<usize>
+    ensures gives { result ≡ body_length count quote 0 false bytes.now }
+    ensures within { IfSome result (λ n. n ≤ length bytes.now) }
+{
+    // how many closed quotes stand in a row just before, and whether an escaped CR does
+    let mut row = 0;
+    let mut joins = false;
+    let mut i = 0;
+    while row != count {
+        let b = *bytes.get(i)?;
         i += 1;
-        if escaped {
-            if !is_escape(b) {
+        if b == quote {
+            row += 1;
+            joins = false;
+        } else if b == b'\\' {
+            let next = *bytes.get(i)?;
+            if next == 0 {
                 return None;
             }
-            escaped = false;
-        } else if b == quote {
-            return Some(i);
-        } else if b == b'\\' {
-            escaped = true;
-        } else if !in_comment(b) {
+            i += 1;
+            row = 0;
+            joins = next == b'\r';
+        } else if is_plain(count, b) || joins && b == b'\n' {
+            row = 0;
+            joins = false;
+        } else {
             return None;
         }
     }
-    None
+    Some(i)
+}
+
+// The length of a literal without prefix.
+fn quoted_length(bytes: &[u8]) -> Option<usize>
+    ensures gives { result ≡ quoted_length bytes.now }
+    ensures within { IfSome result (λ n. n ≤ length bytes.now) }
+{
+    let quote = *bytes.first()?;
+    if !is_quote(quote) {
+        return None;
+    }
+    let count = quotes_at(bytes);
+    Some(count + body_length(count, quote, &bytes[count..])?)
+}
+
+// The length of a literal, with its prefix and quotes.
+fn text_length(bytes: &[u8]) -> Option<usize>
+    ensures { result ≡ text_length bytes.now }
+{
+    match bytes {
+        [first, quoted @ ..] if is_prefix(*first) => Some(1 + quoted_length(quoted)?),
+        _ => quoted_length(bytes),
+    }
 }
 
 fn line_end_length(bytes: &[u8]) -> usize
@@ -144,8 +203,7 @@ fn length_of(sort: Sort, bytes: &[u8]) -> Option<usize>
     ensures { result ≡ length_of (sort_of sort) bytes.now }
 {
     match sort {
-        Sort::Name => Some(name_length(bytes)),
-        Sort::Int => Some(digits_length(bytes)),
+        Sort::Name | Sort::Int => Some(name_length(bytes)),
         Sort::Text => text_length(bytes),
         Sort::Operator => symbol_length(bytes),
         Sort::Spaces => Some(repeated_length(bytes, b' ')),
@@ -155,45 +213,40 @@ fn length_of(sort: Sort, bytes: &[u8]) -> Option<usize>
     }
 }
 
-// Whether the value of these decimal digits is at most 9223372036854775807.
-fn fits(digits: &[u8]) -> bool
-    ensures { result ≡ nat_le (decimal_from 0 digits.now) MAX_INT }
+// A number has a value.
+fn is_number(word: &[u8]) -> bool
+    ensures { result ≡ is_number word.now }
 {
-    let mut value = 0u64;
-    for d in digits {
-        let digit = d.saturating_sub(b'0') as u64;
-        if value > (MAX_INT - digit) / 10 {
-            return false;
-        }
-        value = value * 10 + digit;
-    }
-    true
+    int_value(word).is_some()
 }
 
-fn are_zeros(digits: &[u8]) -> bool
-    ensures { result ≡ list_all (λ b. b == 48) digits.now }
-{
-    digits.iter().all(|d| *d == b'0')
-}
-
-// A number has no zero before other digits.
-fn is_number(digits: &[u8]) -> bool
-    ensures { result ≡ is_number digits.now }
-{
-    match digits {
-        [] => false,
-        [b'0', rest @ ..] => are_zeros(rest),
-        _ => fits(digits),
-    }
-}
-
-// No letter, digit, `_` or point follows.
+// No point follows.
 fn is_apart(rest: &[u8]) -> bool
     ensures { result ≡ is_apart rest.now }
 {
     match rest {
-        [next, ..] => !(continues_name(*next) || *next == b'.'),
+        [next, ..] => *next != b'.',
         [] => true,
+    }
+}
+
+// A letter before a quote is a prefix.
+fn is_prefixing(word: &[u8], rest: &[u8]) -> bool
+    ensures { result ≡ is_prefixing word.now rest.now }
+{
+    match (word, rest) {
+        ([letter], [next, ..]) => is_prefix(*letter) && is_quote(*next),
+        _ => false,
+    }
+}
+
+// A literal without its prefix.
+fn unprefixed(word: &[u8]) -> &[u8]
+    ensures { result.now ≡ unprefixed word.now }
+{
+    match word {
+        [first, quoted @ ..] if is_prefix(*first) => quoted,
+        _ => word,
     }
 }
 
@@ -212,8 +265,9 @@ fn is_allowed(sort: Sort, word: &[u8], rest: &[u8]) -> bool
     ensures { result ≡ is_allowed (sort_of sort) word.now rest.now }
 {
     match sort {
+        Sort::Name => !is_prefixing(word, rest),
         Sort::Int => is_number(word) && is_apart(rest),
-        Sort::Text => is_closed(word, rest),
+        Sort::Text => is_closed(unprefixed(word), rest),
         _ => true,
     }
 }
@@ -222,10 +276,10 @@ fn is_allowed(sort: Sort, word: &[u8], rest: &[u8]) -> bool
 pub fn word(bytes: &[u8]) -> Option<(Sort, usize)>
     ensures { option_map word_of result ≡ word_at bytes.now }
 {
-    let [first, ..] = bytes else {
+    if bytes.is_empty() {
         return None;
-    };
-    let sort = sort_at(*first);
+    }
+    let sort = sort_at(bytes);
     let length = length_of(sort, bytes)?;
     let (text, rest) = bytes.split_at(length);
     if is_allowed(sort, text, rest) {

@@ -1,4 +1,4 @@
-use Rattle.std.proofs.Common.{length, ◌+◌, ◌≡◌, map, drop, IsUtf8}
+use Rattle.std.proofs.Common.{length, ◌+◌, ◌≡◌, map, drop, reverse, IsUtf8}
 use Rattle.si_token.specs.Places.{IsWithin}
 use Rattle.si_token.specs.Views.{token_of, place_of}
 use Rattle.si_token.proofs.Slices.{AreParts}
@@ -12,7 +12,7 @@ invariant-loop-rest l = record {
   within : IsWithin l.place;
   left : drop l.place.at l.text ≡ l.rest;
   parts : AreParts l.text l.all.items l.place.at;
-  before : AreBefore (map token_of l.all.items) (place_of l.place) l.rest l.text;
+  before : AreBefore (map token_of l.all.items) (place_of l.place) (reverse l.columns.items) l.rest l.text;
 }
 
 abbrev pub decreases-loop-rest : goal.decreases-loop-rest

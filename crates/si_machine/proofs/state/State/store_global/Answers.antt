@@ -2,17 +2,13 @@ use Rattle.std.proofs.Common.{◌+◌, sym, ap, ◌∙◌, arith}
 use Rattle.si_compile.specs.Views.{text_at}
 use Rattle.si_semantics.specs.Machine as machine
 use Rattle.si_machine.specs.declared.state.State.{State}
-use Rattle.si_machine.proofs.Lines.{local, store_did, slot_there}
+use Rattle.si_machine.proofs.Lines.{local, store_did, store_lacks, slot_there}
 use Rattle.si_machine.specs.States.{line_of}
 use Rattle.si_machine.proofs.state.State.store_global.Goals as goal
 
-pub returns-then-slot-len-clause-did : goal.returns-then-slot-len-clause-did
-returns-then-slot-len-clause-did c = λ h.
-    let lt = slot_there c.args.self.now c.args.slot h.sound c.requires.slot in
-    absurd (omega (arith, lt, c.if-slot-len.true, c.len.ensures, c.args.self.now.globals.ok.0))
-
-pub returns-in-Some-clause-did : goal.returns-in-Some-clause-did
-returns-in-Some-clause-did c = λ h.
+pub returns : goal.returns
+returns c =
+    let h = c.requires.ready in
     let old = c.args.self.now in
     let lt = slot_there old c.args.slot h.sound c.requires.slot in
     let is = c.advance.ensures.state in
@@ -20,3 +16,9 @@ returns-in-Some-clause-did c = λ h.
     (store_did c.args.slot c.in-Some.value c.pop.new.self old c.advance.new.self h.sound c.requires.distinct h.running lt c.in-Some.ensures
     (ap (λ (s : State). s.globals.items) is)
     (is ∙ ap (λ g. let s : State = record old { pc = old.pc + 1; operands = c.pop.new.self; globals = g } in s) (sym (ap (λ (s : State). s.globals) is))))
+
+pub unreachable-requires : goal.unreachable-requires
+unreachable-requires c = store_lacks (text_at c.args.self.now.table.names c.args.slot) c.args.self.now c.in_default.ensures.0 c.requires.open_line
+
+pub index_mut-requires : goal.index_mut-requires
+index_mut-requires c = let lt = slot_there c.args.self.now c.args.slot c.requires.ready.sound c.requires.slot in omega (arith, lt, c.args.self.now.globals.ok.0)

@@ -1,0 +1,43 @@
+-- What a run of interpreter 0 shows (this project's own).
+use Rattle.std.specs.Prelude.{◌≡◌, List, [], ◌∷◌, Option, Some, None, ℕ}
+use Rattle.si_semantics.specs.Tree.{Module, Stmts}
+use Rattle.si_semantics.specs.World.{Answer, Taken, Run}
+use Rattle.si_semantics.specs.Life.{life_of}
+use Rattle.si_semantics.specs.Machine.{Course, Place, Ending}
+use Rattle.si_semantics.specs.Shows.{Shows, joined, standing_of, texts}
+use Rattle.si_parse.specs.Modules.{IsRead}
+use Rattle.si_machine.specs.Outcomes.{outcome_of}
+use Rattle.si_cli.specs.declared.interpreter.Standing.{Standing}
+use Rattle.si_cli.specs.declared.interpreter.Standing.TheVariants.{Ready, AtEnd, Starved}
+use Rattle.si_cli.specs.declared.interpreter.Solo.{Solo}
+use Rattle.si_cli.specs.Views.{printed_by}
+
+-- what interpreter 0 is given to run: the tree as which the script is read, or none where it isn't read
+abbrev pub IsJob : List ℕ → Option Module → Type 0
+IsJob script (Some m) = IsRead script m.body
+IsJob script None = (body : Stmts) → IsRead script body → ⊥
+
+-- how it stands, by its place: at the end of its run, or at an instruction
+abbrev pub Stands : Standing → Place → Type 0
+Stands (AtEnd outcome) place = place ≡ Ending (outcome_of outcome)
+Stands Ready place = standing_of place ≡ None
+Stands Starved place = standing_of place ≡ None
+
+-- interpreter 0 shows its life under these answers: at a moment that shows it, it has run so many lines, has printed
+-- this, and stands so
+pub record ShowsLife (answers : List Answer) (solo : Solo) : Type 0 where
+  pub moment : Course
+  pub shows : Shows (λ n. life_of n answers) moment
+  pub printed : printed_by solo ≡ joined (texts moment.printed)
+  pub lines : moment.lines ≡ solo.locals
+  pub stands : Stands solo.standing moment.place
+
+-- the one answer of a life that is given a text to run, by its tree, or one that isn't read
+abbrev pub one_run : Option Module → List Answer
+one_run job = Taken (Run job) ∷ []
+
+-- the run of a script, be it read or not
+pub record IsRunOf (script : List ℕ) (solo : Solo) : Type 0 where
+  pub job : Option Module
+  pub is : IsJob script job
+  pub shows : ShowsLife (one_run job) solo

@@ -1,0 +1,54 @@
+-- Worked cases: what literals are, computed from the definitions.
+use Rattle.std.specs.Prelude.{◌≡◌, codes, [], ◌∷◌, pos, Some, None, true, false}
+use Rattle.si_semantics.specs.Literals.{value_of_int, value_of_str}
+use Rattle.si_semantics.specs.Words.{is_text}
+
+pub record LiteralCases : Type 0 where
+  pub decimal : value_of_int (codes "1_000_000") ≡ Some (pos 1000000)
+  pub zeros : value_of_int (codes "00_0") ≡ Some (pos 0)
+  pub hexadecimal : value_of_int (codes "0xFf_e") ≡ Some (pos 4094)
+  pub underscore_behind_a_prefix : value_of_int (codes "0X_7f") ≡ Some (pos 127)
+  pub octal : value_of_int (codes "0o17") ≡ Some (pos 15)
+  pub binary : value_of_int (codes "0B1_01") ≡ Some (pos 5)
+  pub greatest : value_of_int (codes "0x7fff_ffff_ffff_ffff") ≡ Some (pos 9223372036854775807)
+  pub one_past_the_greatest : value_of_int (codes "9223372036854775808") ≡ None
+  pub leading_zero : value_of_int (codes "007") ≡ None
+  pub two_underscores : value_of_int (codes "1__0") ≡ None
+  pub underscore_at_the_end : value_of_int (codes "1_") ≡ None
+  pub underscore_before_a_prefix : value_of_int (codes "0_x1") ≡ None
+  pub prefix_alone : value_of_int (codes "0x") ≡ None
+  pub prefix_and_underscore : value_of_int (codes "0b_") ≡ None
+  pub digit_past_the_base : value_of_int (codes "0o8") ≡ None
+  pub letter_behind : value_of_int (codes "1if") ≡ None
+  pub text : is_text (codes "'a\\'\"'") ≡ true
+  pub raw_text : is_text (codes "R'\\''") ≡ true
+  pub empty_text : is_text (codes "u\"\"") ≡ true
+  pub three_quotes : is_text (codes "'''a''\n'''") ≡ true
+  pub six_quotes : is_text (codes "''''''") ≡ true
+  pub quote_behind_three : is_text (codes "''''a'''") ≡ true
+  pub escaped_quote_before_three : is_text (codes "r'''\\''''") ≡ true
+  pub escaped_line_end : is_text (codes "'a\\\r\n'") ≡ true
+  pub line_end : is_text (codes "'a\n'") ≡ false
+  pub line_end_behind_an_escaped_one : is_text (codes "'\\\n\n'") ≡ false
+  pub two_texts : is_text (codes "'a''b'") ≡ false
+  pub text_that_is_open : is_text (codes "'a\\'") ≡ false
+  pub three_quotes_open : is_text (codes "'''a'") ≡ false
+  pub quote_behind_a_text : is_text (codes "'''a''''") ≡ false
+  pub two_prefixes : is_text (codes "ru''") ≡ false
+  pub value_in_single_quotes : value_of_str (codes "'it\\'s'") ≡ Some (codes "it's")
+  pub value_in_three_quotes : value_of_str (codes "'''a''\r\nb\r'''") ≡ Some (codes "a''\nb\n")
+  pub value_of_an_empty_text : value_of_str (codes "u\"\"") ≡ Some []
+  pub value_of_six_quotes : value_of_str (codes "\"\"\"\"\"\"") ≡ Some []
+  pub value_of_a_raw_text : value_of_str (codes "r'\\n\\'\\\r\n'") ≡ Some (codes "\\n\\'\\\n")
+  pub value_of_letter_escapes : value_of_str (codes "'\\\\\\'\\\"\\a\\b\\f\\n\\r\\t\\v'") ≡ Some (92 ∷ 39 ∷ 34 ∷ 7 ∷ 8 ∷ 12 ∷ 10 ∷ 13 ∷ 9 ∷ 11 ∷ [])
+  pub value_of_an_escaped_line_end : value_of_str (codes "'a\\\r\nb\\\nc'") ≡ Some (codes "abc")
+  pub value_of_octal_escapes : value_of_str (codes "'\\0\\18\\377\\1234'") ≡ Some (0 ∷ 1 ∷ 56 ∷ 255 ∷ 83 ∷ 52 ∷ [])
+  pub value_of_hexadecimal_escapes : value_of_str (codes "'\\x41f\\u20aC0\\U0010ffff1'") ≡ Some (65 ∷ 102 ∷ 8364 ∷ 48 ∷ 1114111 ∷ 49 ∷ [])
+  pub unknown_escapes_stay : value_of_str (codes "'\\q\\8\\('") ≡ Some (codes "\\q\\8\\(")
+  pub octal_too_large : value_of_str (codes "'\\400'") ≡ None
+  pub one_hexadecimal_digit : value_of_str (codes "'\\x4g'") ≡ None
+  pub three_hexadecimal_digits : value_of_str (codes "'\\u123'") ≡ None
+  pub seven_hexadecimal_digits : value_of_str (codes "'\\U0010fff'") ≡ None
+  pub surrogate : value_of_str (codes "'\\ud800'") ≡ None
+  pub past_the_characters : value_of_str (codes "'\\U00110000'") ≡ None
+  pub named_character : value_of_str (codes "'\\N{DIGIT ONE}'") ≡ None

@@ -1,0 +1,7 @@
+use Rattle.std.proofs.Common.{replicate}
+use Rattle.si_semantics.specs.Tokens.{Dedent}
+use Rattle.si_token.specs.Laying.{Adds}
+use Rattle.si_token.proofs.layout.dedents.Given as goal
+
+abbrev pub invariant-loop : goal.invariant-loop
+invariant-loop l = Adds l.place.at (replicate l.counter Dedent) l.fn.all.items l.all.items
