@@ -4,8 +4,9 @@
 // is none (or where memory is refused).
 //
 // In reading order: `syntax` has the trees, `fault` why a text is refused, `literal` the values of literals,
-// `lookahead` the token at a place, `precedence` what continues an expression, `expression` reads an expression by precedence climbing, `statement` lines of
-// statements, and `parser` a whole text.
+// `lookahead` the token at a place, `precedence` what continues an expression and how tightly, `expression` reads an
+// expression by precedence climbing, `statement` small statements and lines, `block` compound statements and their
+// suites, and `parser` a whole text.
 #![tactic(auto)]
 
 pub mod block;

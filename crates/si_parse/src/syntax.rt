@@ -88,7 +88,8 @@ pub enum Stmt {
     /// `NAME op= expr`.
     Augment(String, BinaryOperator, Expr),
     Pass,
-    /// The test and the suite of an `if`, those of each `elif`, and the suite of the `else`, which is empty where there is none.
+    /// The test and the suite of an `if`, those of each `elif`, and the suite of the `else`, which is empty where there
+    /// is none.
     If(Expr, Vec<Stmt>, Vec<(Expr, Vec<Stmt>)>, Vec<Stmt>),
     /// The test and the suite.
     While(Expr, Vec<Stmt>),

@@ -231,9 +231,7 @@ fn texts_outside_the_grammar_are_refused(rt: HostRuntime) -> Result<(), Fail> {
 #[test]
 fn texts_without_tokens_are_refused(rt: HostRuntime) -> Result<(), Fail> {
     let alloc = rt.alloc();
-    for text in [
-        "1a", "1if", "007", "'a", "'a\n'", "\"a'", "'\\t'", "'''a'''", "x $ y", "x\u{0}",
-    ] {
+    for text in ["1a", "1if", "007", "'a", "'a\n'", "\"a'", "x $ y", "x\u{0}"] {
         assert!(rt; is_refused(alloc, text), "{text:?}");
     }
     Ok(())
@@ -246,5 +244,159 @@ fn a_hundred_deep_is_read_and_no_deeper(rt: HostRuntime) -> Result<(), Fail> {
     assert!(rt; is_refused(alloc, sum_of(alloc, 100)?.as_str()));
     assert!(rt; parse(alloc, bracketed(alloc, 99)?.as_str()).is_ok());
     assert!(rt; is_refused(alloc, bracketed(alloc, 100)?.as_str()));
+    Ok(())
+}
+
+#[test]
+fn operators_bind_as_in_python(rt: HostRuntime) -> Result<(), Fail> {
+    let alloc = rt.alloc();
+    for (text, tree) in [
+        (
+            "1 | 2 ^ 3 & 4 << 5 + ~6",
+            "Binary(BitOr, Int(1), Binary(BitXor, Int(2), Binary(BitAnd, Int(3), Binary(ShiftLeft, Int(4), Binary(Add, Int(5), Unary(Invert, Int(6)))))))",
+        ),
+        (
+            "1 >> 2 << 3",
+            "Binary(ShiftLeft, Binary(ShiftRight, Int(1), Int(2)), Int(3))",
+        ),
+        (
+            "not a or b and not c == d",
+            "Boolean(Or, Unary(Not, Name(\"a\")), [Boolean(And, Name(\"b\"), [Unary(Not, Compare(Name(\"c\"), [(Equal, Name(\"d\"))]))])])",
+        ),
+        (
+            "(a or b) or c or d",
+            "Boolean(Or, Boolean(Or, Name(\"a\"), [Name(\"b\")]), [Name(\"c\"), Name(\"d\")])",
+        ),
+        (
+            "a < b | 1 >= c is not None is True != d",
+            "Compare(Name(\"a\"), [(Less, Binary(BitOr, Name(\"b\"), Int(1))), (GreaterEqual, Name(\"c\")), (IsNot, Nothing), (Is, Truth(true)), (NotEqual, Name(\"d\"))])",
+        ),
+        (
+            "a if b or c else d if False else e",
+            "Conditional(Boolean(Or, Name(\"b\"), [Name(\"c\")]), Name(\"a\"), Conditional(Truth(false), Name(\"d\"), Name(\"e\")))",
+        ),
+    ] {
+        let wanted = format!(in alloc; "[Evaluate({tree})]")?;
+        assert_eq!(rt; shown(alloc, text)?.as_str(), wanted.as_str(), "{text:?}");
+    }
+    Ok(())
+}
+
+#[test]
+fn other_expressions_are_refused(rt: HostRuntime) -> Result<(), Fail> {
+    let alloc = rt.alloc();
+    for text in [
+        "1 + not x",
+        "-not x",
+        "a < not b",
+        "not",
+        "x is 1",
+        "x is y",
+        "x is (None)",
+        "x is None + 1",
+        "x is not not None",
+        "x in y",
+        "and x",
+        "a or",
+        "a < > b",
+        "a = b == c = d",
+        "a if b",
+        "a if b else",
+        "a if b if c else d else e",
+        "~",
+        "a ~ b",
+        "True = 1",
+        "f(not)",
+    ] {
+        assert!(rt; is_refused(alloc, text), "{text:?}");
+    }
+    Ok(())
+}
+
+#[test]
+fn statements_of_branches_and_loops(rt: HostRuntime) -> Result<(), Fail> {
+    let alloc = rt.alloc();
+    for (text, trees) in [
+        (
+            "x += 1; (y) **= 2; pass",
+            "Augment(\"x\", Add, Int(1)), Augment(\"y\", Power, Int(2)), Pass",
+        ),
+        (
+            "if a: b",
+            "If(Name(\"a\"), [Evaluate(Name(\"b\"))], [], [])",
+        ),
+        (
+            "if a: b\nelif c: d; pass\nelif e: break\nelse: continue\n",
+            "If(Name(\"a\"), [Evaluate(Name(\"b\"))], [(Name(\"c\"), [Evaluate(Name(\"d\")), Pass]), (Name(\"e\"), [Break])], [Continue])",
+        ),
+        (
+            "while a:\n  if b:\n    break\n\n    # c\n  else: continue\nd",
+            "While(Name(\"a\"), [If(Name(\"b\"), [Break], [], [Continue])]), Evaluate(Name(\"d\"))",
+        ),
+        (
+            "if a:\n if b: c\nelse:\n d",
+            "If(Name(\"a\"), [If(Name(\"b\"), [Evaluate(Name(\"c\"))], [], [])], [], [Evaluate(Name(\"d\"))])",
+        ),
+    ] {
+        let wanted = format!(in alloc; "[{trees}]")?;
+        assert_eq!(rt; shown(alloc, text)?.as_str(), wanted.as_str(), "{text:?}");
+    }
+    Ok(())
+}
+
+#[test]
+fn other_statements_are_refused(rt: HostRuntime) -> Result<(), Fail> {
+    let alloc = rt.alloc();
+    for text in [
+        "x + 1 += 2",
+        "f() += 1",
+        "x += y += 1",
+        "x += ",
+        "pass x",
+        "x = pass",
+        "if a: if b: c",
+        "if a: b else: c",
+        "if a",
+        "if: b",
+        "if a:",
+        "if a:\nb",
+        "if a:\n b\n  c",
+        "else: x",
+        "elif a: b",
+        "if a: b\nelse: c\nelif d: e",
+        "while a: b\nelse: c",
+        "while: a",
+        "while a\n b",
+        " x",
+        "x\n y",
+        "if a:\n  b\n c",
+        "x; if a: b",
+        "if a: b; while c: d",
+    ] {
+        assert!(rt; is_refused(alloc, text), "{text:?}");
+    }
+    Ok(())
+}
+
+// So many `if` in one another, each a column further to the right.
+fn nested(alloc: Global, count: usize) -> Result<String, AllocError> {
+    let mut text = String::new(alloc);
+    for column in 0..count {
+        push_often(&mut text, " ", column)?;
+        text.push_str("if 1:\n")?;
+    }
+    push_often(&mut text, " ", count)?;
+    text.push_str("pass")?;
+    Ok(text)
+}
+
+#[test]
+fn twenty_are_nested_and_no_more(rt: HostRuntime) -> Result<(), Fail> {
+    let alloc = rt.alloc();
+    assert!(rt; parse(alloc, nested(alloc, 20)?.as_str()).is_ok());
+    assert!(rt; is_refused(alloc, nested(alloc, 21)?.as_str()));
+    let mut branches = String::from_str(alloc, "if a: b\n")?;
+    push_often(&mut branches, "elif a: b\n", 100)?;
+    assert!(rt; parse(alloc, branches.as_str()).is_ok());
     Ok(())
 }
