@@ -5,6 +5,7 @@ pub mod Exprs
 pub mod Stmts
 pub mod Tables
 pub mod Life
+pub mod Opened
 pub mod Due
 pub mod Shown
 pub mod Interpreter

@@ -1,6 +1,6 @@
 // What the compiled code does, for those who run it.
 
-ghost use Rattle.si_compile.specs.Correct.{Compiles, Lives};
+ghost use Rattle.si_compile.specs.Correct.{Compiles, Lives, StaysOpen};
 ghost use Rattle.si_compile.specs.Interpreter.{StaysAfter, AfterShows};
 
 /// The code of a text does what its body means, from every state and whatever came before, and takes at most sixteen
@@ -12,6 +12,11 @@ pub fn compiles()
 /// Under any answers a machine that runs compiled code comes to where the life of its meaning ends, within that count.
 pub fn lives()
     ensures { Lives }
+{}
+
+/// However far compiled code runs, it never comes to where an instruction is missing, or lacks an operand.
+pub fn stays_open()
+    ensures { StaysOpen }
 {}
 
 /// An interpreter is at a moment of its course, from its start on, through each line and each answer.

@@ -1,5 +1,5 @@
 // The names of globals, each with its slot.
-ghost use Rattle.std.specs.Prelude.{◌≡◌, ◌≢◌, ℕ, List, [], Some, length, take, slice_get, AllPairs, IfOk, OnOk, OnErr};
+ghost use Rattle.std.specs.Prelude.{◌≡◌, ◌≢◌, ◌≤◌, ◌^◌, ℕ, List, [], Some, length, take, slice_get, AllPairs, IfOk, OnOk, OnErr};
 ghost use Rattle.std.specs.Option.{option_map};
 ghost use Rattle.si_compile.specs.Contents.{Begins};
 ghost use Rattle.si_compile.specs.Names.{with_name};
@@ -40,6 +40,7 @@ impl Names {
     pub(crate) fn len(&self) -> usize
         ensures len { result ≡ length self.now }
         ensures distinct { AllPairs (λ x y. x ≢ y) self.now }
+        ensures few { length self.now ≤ 2 ^ 32 }
     {
         self.set.len()
     }

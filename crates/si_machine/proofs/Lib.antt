@@ -1,3 +1,4 @@
 pub mod Tops
 pub mod Strings
 pub mod Lines
+pub mod Begun

@@ -12,7 +12,8 @@ use Rattle.si_semantics.specs.Tree as tree
 use Rattle.si_semantics.specs.World.{World, Ran, bind, set_global}
 use Rattle.si_semantics.specs.Life as life
 use Rattle.si_semantics.specs.Operations.{operate, operate_unary, call, gave, refused, too_long, found, or_else, load_global, built_in}
-use Rattle.si_semantics.specs.Machine.{Push, LoadGlobal, StoreGlobal, ApplyUnary, ApplyBinary, CallTop, Discard, on_callee, At, Ending, Line, act, goes, yields, stuck}
+use Rattle.si_semantics.specs.Machine.{Push, LoadGlobal, StoreGlobal, ApplyUnary, ApplyBinary, CallTop, Discard, on_callee, At, Ending, Closed, Line, act, goes, yields, stuck}
+use Rattle.si_semantics.proofs.Names.{same_is, same_self, other_is}
 use Rattle.si_compile.specs.Views.{text_at}
 use Rattle.si_machine.specs.declared.value.Value.{Value}
 use Rattle.si_machine.specs.declared.value.Value.TheVariants as value
@@ -30,13 +31,7 @@ use Rattle.si_machine.specs.declared.step.Step.{Step}
 use Rattle.si_machine.specs.declared.step.Step.TheVariants.{Local, Ended, Starved}
 use Rattle.si_machine.specs.Values.{built_in_of, value_of, cell_of, globals_of, Fits, FitsGlobal, Suits, AllSuit}
 use Rattle.si_machine.specs.Causes.{Runs, message_in, threw, not_defined, not_defined_cause}
-use Rattle.si_machine.specs.States.{IsQuiet, Prints, IsSound, Did, place_in, operands_of, world_of, line_of, IsRaised, IsPushed, IsPrinted}
-
--- what prints nothing prints at most once
-pub quiet_prints : (old new : State) (r : Step) → IsQuiet old new r → Prints old new r
-quiet_prints old new Local h = inl h
-quiet_prints old new (Ended o) h = h
-quiet_prints old new Starved h = h
+use Rattle.si_machine.specs.States.{IsSound, IsOpen, Did, place_in, operands_of, world_of, line_of, IsRaised, IsPushed, IsPrinted}
 
 -- refused memory changes nothing that shows
 pub starved_did : (l : Line) (old new : State) → new ≡ record old { standing = standing.Starved } → Did l old new Starved
@@ -44,30 +39,21 @@ starved_did l old new e =
     let P : State → Type 0 = λ s. Did l old s Starved in
     subst P (sym e) (refl, refl)
 
--- the run is closed
-pub closed_did : (old new : State) → IsSound old → new ≡ record old { standing = standing.Idle } → Did (stuck (world_of old)) old new Local
-closed_did old new h e =
-    let P : State → Type 0 = λ s. Did (stuck (world_of old)) old s Local in
-    subst P (sym e) (record {
-      place = refl;
-      world = refl;
-      printed = sym (append-nil (string_bytes old.printed));
-      code = refl;
-      sound = record { operands = h.operands; globals = h.globals; literals = h.literals; slots = h.slots };
-    })
-
 -- a value more on the operands that are left
 pub advanced_did : (u : pure.Value) (v : Value) (rest : List Value) (old new : State) → IsSound old → old.standing ≡ standing.Running → All (Fits (length old.texts)) rest → Fits (length old.texts) v → value_of old.texts v ≡ u → new ≡ record old { pc = old.pc + 1; operands = v ∷ rest } → Did (goes (At (old.pc + 1) (u ∷ map (value_of old.texts) rest) [] []) (world_of old)) old new Local
 advanced_did u v rest old new h run below fits same e =
     let l = goes (At (old.pc + 1) (u ∷ map (value_of old.texts) rest) [] []) (world_of old) in
     let P : State → Type 0 = λ s. Did l old s Local in
-    subst P (sym e) (record {
-      place = ap (λ x. At (old.pc + 1) (x ∷ map (value_of old.texts) rest) [] []) (sym same) ∙ ap (λ st. place_in st (old.pc + 1) (value_of old.texts v ∷ map (value_of old.texts) rest)) (sym run);
-      world = refl;
-      printed = sym (append-nil (string_bytes old.printed));
-      code = refl;
-      sound = record { operands = All-cons (Fits (length old.texts)) v rest fits below; globals = h.globals; literals = h.literals; slots = h.slots };
-    })
+    subst P (sym e) (
+      record {
+        place = ap (λ x. At (old.pc + 1) (x ∷ map (value_of old.texts) rest) [] []) (sym same) ∙ ap (λ st. place_in st (old.pc + 1) (value_of old.texts v ∷ map (value_of old.texts) rest)) (sym run);
+        world = refl;
+        printed = sym (append-nil (string_bytes old.printed));
+        code = refl;
+        sound = record { operands = All-cons (Fits (length old.texts)) v rest fits below; globals = h.globals; literals = h.literals; slots = h.slots };
+      },
+      run,
+    )
 
 pub pushed_did : (u : pure.Value) (v : Value) (old new : State) (r : Step) → IsSound old → old.standing ≡ standing.Running → Fits (length old.texts) v → value_of old.texts v ≡ u → IsPushed v old new r → Did (goes (At (old.pc + 1) (u ∷ operands_of old) [] []) (world_of old)) old new r
 pushed_did u v old new Local h run fits same e = advanced_did u v old.operands old new h run h.operands fits same e
@@ -90,6 +76,7 @@ raised_did cause next ops old new (Ended (Raised kind message)) h e =
         sound = record { operands = h.operands; globals = h.globals; literals = h.literals; slots = h.slots };
       },
       refl,
+      refl,
     )
 raised_did cause next ops old new Starved h e = starved_did (yields (threw old.table.names cause (world_of old)) next ops [] []) old new e
 
@@ -106,6 +93,7 @@ finished_did old new h e =
         sound = record { operands = h.operands; globals = h.globals; literals = h.literals; slots = h.slots };
       },
       refl,
+      refl,
     )
 
 -- the operands without the topmost
@@ -115,13 +103,16 @@ discarded_did v rest old new h run top e =
     let P : State → Type 0 = λ s. Did l old s Local in
     let F = Fits (length old.texts) in
     let A : List Value → Type 0 = λ vs. All F vs in
-    subst P (sym e) (record {
-      place = ap (λ st. place_in st (old.pc + 1) (map (value_of old.texts) rest)) (sym run);
-      world = refl;
-      printed = sym (append-nil (string_bytes old.printed));
-      code = refl;
-      sound = record { operands = All-tail F v rest (subst A top h.operands); globals = h.globals; literals = h.literals; slots = h.slots };
-    })
+    subst P (sym e) (
+      record {
+        place = ap (λ st. place_in st (old.pc + 1) (map (value_of old.texts) rest)) (sym run);
+        world = refl;
+        printed = sym (append-nil (string_bytes old.printed));
+        code = refl;
+        sound = record { operands = All-tail F v rest (subst A top h.operands); globals = h.globals; literals = h.literals; slots = h.slots };
+      },
+      run,
+    )
 
 -- the texts grow, and what fits them stays as it is
 value_stays : (texts more : List pure.Text) (v : Value) → Fits (length texts) v → value_of (texts ++ more) v ≡ value_of texts v
@@ -168,42 +159,21 @@ grown_did v rest more old new h run below fits e =
     let l = goes (At (old.pc + 1) (value_of texts v ∷ map (value_of old.texts) rest) [] []) (world_of old) in
     let P : State → Type 0 = λ s. Did l old s Local in
     let short : length old.table.literals ≤ length old.texts = literals_fit 0 old.table.literals old.texts h.literals in
-    subst P (sym e) (record {
-      place = ap (λ vs. At (old.pc + 1) (value_of texts v ∷ vs) [] []) (sym (values_stay old.texts more rest below)) ∙ ap (λ st. place_in st (old.pc + 1) (value_of texts v ∷ map (value_of texts) rest)) (sym run);
-      world = ap (λ cells. let w : World = record { globals = globals_of old.table.names cells; store = [] } in w) (sym (cells_stay old.texts more old.globals.items h.globals));
-      printed = sym (append-nil (string_bytes old.printed));
-      code = refl;
-      sound = record {
-        operands = All-cons (Fits (length texts)) v rest fits (All-weaker (Fits (length old.texts)) (Fits (length texts)) (λ x k. fits_more old.texts more x k) rest below);
-        globals = All-weaker (FitsGlobal (length old.texts)) (FitsGlobal (length texts)) (λ x k. global_fits_more old.texts more x k) old.globals.items h.globals;
-        literals = take-append-le (length old.table.literals) old.texts more short ∙ h.literals;
-        slots = h.slots;
-      };
-    })
-
--- texts that are tested alike are the same
-and_true : (a b : Bool) → (a && b) ≡ true → (a ≡ true) × (b ≡ true)
-and_true true b e = (refl, e)
-and_true false b e = cc
-
-same_text_true : (x y : pure.Text) → same_text x y ≡ true → x ≡ y
-same_text_true [] [] e = refl
-same_text_true [] (d ∷ ds) e = cc
-same_text_true (c ∷ cs) [] e = cc
-same_text_true (c ∷ cs) (d ∷ ds) e =
-    let p = and_true (nat_eq c d) (same_text cs ds) e in
-    ap (λ k. k ∷ cs) (eqb-true c d p.0) ∙ ap (λ l. d ∷ l) (same_text_true cs ds p.1)
-
-same_text_refl : (x : pure.Text) → same_text x x ≡ true
-same_text_refl [] = refl
-same_text_refl (c ∷ cs) = ap (λ b. b && same_text cs cs) (eq-eqb c c refl) ∙ same_text_refl cs
-
-same_text_other : (x y : pure.Text) → x ≢ y → same_text x y ≡ false
-same_text_other x y h = test (same_text x y) (λ e. h (same_text_true x y e))
-  where
-    test : (b : Bool) → ((b ≡ true) → ⊥) → b ≡ false
-    test true k = absurd (k refl)
-    test false k = refl
+    subst P (sym e) (
+      record {
+        place = ap (λ vs. At (old.pc + 1) (value_of texts v ∷ vs) [] []) (sym (values_stay old.texts more rest below)) ∙ ap (λ st. place_in st (old.pc + 1) (value_of texts v ∷ map (value_of texts) rest)) (sym run);
+        world = ap (λ cells. let w : World = record { globals = globals_of old.table.names cells; store = [] } in w) (sym (cells_stay old.texts more old.globals.items h.globals));
+        printed = sym (append-nil (string_bytes old.printed));
+        code = refl;
+        sound = record {
+          operands = All-cons (Fits (length texts)) v rest fits (All-weaker (Fits (length old.texts)) (Fits (length texts)) (λ x k. fits_more old.texts more x k) rest below);
+          globals = All-weaker (FitsGlobal (length old.texts)) (FitsGlobal (length texts)) (λ x k. global_fits_more old.texts more x k) old.globals.items h.globals;
+          literals = take-append-le (length old.table.literals) old.texts more short ∙ h.literals;
+          slots = h.slots;
+        };
+      },
+      run,
+    )
 
 rest_distinct : (x : pure.Text) (names : List pure.Text) → AllPairs (λ x y. x ≢ y) (x ∷ names) → AllPairs (λ x y. x ≢ y) names
 rest_distinct x names h = λ i j d p q. h (suc i) (suc j) d (omega arith) (omega arith)
@@ -225,13 +195,13 @@ slot_read (x ∷ names) [] texts k g d s e = absurd s
 slot_read (x ∷ names) (h ∷ hs) texts zero g d s e =
     let same : h ≡ g = cc in
     let P : Global → Type 0 = λ v. Suits x v in (
-      ap (λ b. cond b (cell_of texts h) (globals_of names (map (cell_of texts) hs) x)) (same_text_refl x) ∙ ap (cell_of texts) same,
+      ap (λ b. cond b (cell_of texts h) (globals_of names (map (cell_of texts) hs) x)) (same_self x) ∙ ap (cell_of texts) same,
       subst P same s.0,
     )
 slot_read (x ∷ names) (h ∷ hs) texts (suc k) g d s e =
     let r = slot_read names hs texts k g (rest_distinct x names d) s.1 e in
     let p : k < length names = omega (arith, slice_get_within hs k g e, suit_length names hs s.1) in (
-      ap (λ b. cond b (cell_of texts h) (globals_of names (map (cell_of texts) hs) (text_at names k))) (same_text_other x (text_at names k) (first_distinct x names k d p)) ∙ r.0,
+      ap (λ b. cond b (cell_of texts h) (globals_of names (map (cell_of texts) hs) (text_at names k))) (other_is x (text_at names k) (first_distinct x names k d p)) ∙ r.0,
       r.1,
     )
 
@@ -246,7 +216,7 @@ slot_bound (x ∷ names) (c ∷ cells) (suc k) u y d e p =
     let g = globals_of names cells y in
     let tail = slot_bound names cells k u y (rest_distinct x names d) (omega arith) (omega arith) in
     let apart : (same_text x y ≡ true) → same_text z y ≡ false =
-    (λ q. ap (same_text z) (sym (same_text_true x y q)) ∙ same_text_other z x (λ r. first_distinct x names k d (omega arith) (sym r))) in
+    (λ q. ap (same_text z) (sym (same_is x y q)) ∙ other_is z x (λ r. first_distinct x names k d (omega arith) (sym r))) in
     ap (λ t. cond (same_text x y) c t) tail ∙ swap (same_text x y) (same_text z y) c (Some u) g apart
   where
     swap : {A : Type 0} (a b : Bool) (c u g : A) → ((a ≡ true) → b ≡ false) → cond a c (cond b u g) ≡ cond b u (cond a c g)
@@ -283,18 +253,21 @@ stored_did k v rest old new h d run p top items e =
     let P : State → Type 0 = λ s. Did l old s Local in
     let G : List Global → Type 0 = λ gs. All (FitsGlobal (length old.texts)) gs in
     let S : List Global → Type 0 = λ gs. AllSuit names gs in
-    subst P (sym e) (record {
-      place = ap (λ st. place_in st (old.pc + 1) (map (value_of old.texts) rest)) (sym run);
-      world = ap (λ g. let w : World = record { globals = g; store = [] } in w) (sym all);
-      printed = sym (append-nil (string_bytes old.printed));
-      code = refl;
-      sound = record {
-        operands = All-tail F v rest ops;
-        globals = subst G (sym items) (All-set (FitsGlobal (length old.texts)) old.globals.items k (Bound v) (All-head F v rest ops) h.globals);
-        literals = h.literals;
-        slots = subst S (sym items) (suits_set names old.globals.items k v h.slots);
-      };
-    })
+    subst P (sym e) (
+      record {
+        place = ap (λ st. place_in st (old.pc + 1) (map (value_of old.texts) rest)) (sym run);
+        world = ap (λ g. let w : World = record { globals = g; store = [] } in w) (sym all);
+        printed = sym (append-nil (string_bytes old.printed));
+        code = refl;
+        sound = record {
+          operands = All-tail F v rest ops;
+          globals = subst G (sym items) (All-set (FitsGlobal (length old.texts)) old.globals.items k (Bound v) (All-head F v rest ops) h.globals);
+          literals = h.literals;
+          slots = subst S (sym items) (suits_set names old.globals.items k v h.slots);
+        };
+      },
+      run,
+    )
 
 -- the value of a global is put on the operands
 load_found : (x : pure.Text) (u : pure.Value) (w : World) → w.globals x ≡ Some u → load_global x w ≡ gave u w
@@ -356,10 +329,8 @@ unary_raises o x rest cause old new r h top gives e =
     let P : Line → Type 0 = λ l. Did l old new r in
     subst P (sym line) (raised_did cause (old.pc + 1) (map (value_of old.texts) rest) old new r h e)
 
-pub unary_closes : (o : tree.UnaryOperator) (old new : State) → IsSound old → old.operands ≡ [] → new ≡ record old { standing = standing.Idle } → Did (line_of (ApplyUnary o) old) old new Local
-unary_closes o old new h none e =
-    let P : Line → Type 0 = λ l. Did l old new Local in
-    subst P (sym (ap (λ vs. act (ApplyUnary o) (old.pc + 1) (map (value_of old.texts) vs) [] [] (world_of old)) none)) (closed_did old new h e)
+pub unary_lacks : (o : tree.UnaryOperator) (s : State) → s.operands ≡ [] → IsOpen (line_of (ApplyUnary o) s) → ⊥
+unary_lacks o s none h = h (ap (λ vs. (act (ApplyUnary o) (s.pc + 1) (map (value_of s.texts) vs) [] [] (world_of s)).place) none)
 
 -- two operands give way to what an operator gives for them
 binary_line : (o : tree.BinaryOperator) (x y : Value) (rest : List Value) (s : State) (f : Ran) → s.operands ≡ y ∷ x ∷ rest → operate o (value_of s.texts x) (value_of s.texts y) (world_of s) ≡ f → line_of (ApplyBinary o) s ≡ yields f (s.pc + 1) (map (value_of s.texts) rest) [] []
@@ -387,12 +358,10 @@ binary_raises o x y rest cause old new r h top gives e =
     let P : Line → Type 0 = λ l. Did l old new r in
     subst P (sym (binary_line o x y rest old (threw old.table.names cause w) top (gives old.table.names w))) (raised_did cause (old.pc + 1) (map (value_of old.texts) rest) old new r h e)
 
-pub binary_closes : (o : tree.BinaryOperator) (old new : State) → IsSound old → length old.operands < 2 → new ≡ record old { standing = standing.Idle } → Did (line_of (ApplyBinary o) old) old new Local
-binary_closes o old new h few e =
-    let P : Line → Type 0 = λ l. Did l old new Local in
-    subst P (sym (short old.operands few)) (closed_did old new h e)
+pub binary_lacks : (o : tree.BinaryOperator) (s : State) → length s.operands < 2 → IsOpen (line_of (ApplyBinary o) s) → ⊥
+binary_lacks o s few h = h (short s.operands few)
   where
-    short : (vs : List Value) → length vs < 2 → act (ApplyBinary o) (old.pc + 1) (map (value_of old.texts) vs) [] [] (world_of old) ≡ stuck (world_of old)
+    short : (vs : List Value) → length vs < 2 → (act (ApplyBinary o) (s.pc + 1) (map (value_of s.texts) vs) [] [] (world_of s)).place ≡ Closed
     short [] p = refl
     short (v ∷ []) p = refl
     short (v ∷ u ∷ vs) p = absurd (omega arith)
@@ -402,20 +371,16 @@ discard_did v rest old new h run top e =
     let P : Line → Type 0 = λ l. Did l old new Local in
     subst P (sym (ap (λ vs. act Discard (old.pc + 1) (map (value_of old.texts) vs) [] [] (world_of old)) top)) (discarded_did v rest old new h run top e)
 
-pub discard_closes : (old new : State) → IsSound old → old.operands ≡ [] → new ≡ record old { standing = standing.Idle } → Did (line_of Discard old) old new Local
-discard_closes old new h none e =
-    let P : Line → Type 0 = λ l. Did l old new Local in
-    subst P (sym (ap (λ vs. act Discard (old.pc + 1) (map (value_of old.texts) vs) [] [] (world_of old)) none)) (closed_did old new h e)
+pub discard_lacks : (s : State) → s.operands ≡ [] → IsOpen (line_of Discard s) → ⊥
+discard_lacks s none h = h (ap (λ vs. (act Discard (s.pc + 1) (map (value_of s.texts) vs) [] [] (world_of s)).place) none)
 
 pub store_did : (k : ℕ) (v : Value) (rest : List Value) (old new : State) → IsSound old → AllPairs (λ x y. x ≢ y) old.table.names → old.standing ≡ standing.Running → k < length old.globals.items → old.operands ≡ v ∷ rest → new.globals.items ≡ slice_set old.globals.items k (Bound v) → new ≡ record old { pc = old.pc + 1; operands = rest; globals = new.globals } → Did (line_of (StoreGlobal (text_at old.table.names k)) old) old new Local
 store_did k v rest old new h d run p top items e =
     let P : Line → Type 0 = λ l. Did l old new Local in
     subst P (sym (ap (λ vs. act (StoreGlobal (text_at old.table.names k)) (old.pc + 1) (map (value_of old.texts) vs) [] [] (world_of old)) top)) (stored_did k v rest old new h d run p top items e)
 
-pub store_closes : (x : pure.Text) (old new : State) → IsSound old → old.operands ≡ [] → new ≡ record old { standing = standing.Idle } → Did (line_of (StoreGlobal x) old) old new Local
-store_closes x old new h none e =
-    let P : Line → Type 0 = λ l. Did l old new Local in
-    subst P (sym (ap (λ vs. act (StoreGlobal x) (old.pc + 1) (map (value_of old.texts) vs) [] [] (world_of old)) none)) (closed_did old new h e)
+pub store_lacks : (x : pure.Text) (s : State) → s.operands ≡ [] → IsOpen (line_of (StoreGlobal x) s) → ⊥
+store_lacks x s none h = h (ap (λ vs. (act (StoreGlobal x) (s.pc + 1) (map (value_of s.texts) vs) [] [] (world_of s)).place) none)
 
 -- a literal is put on the operands
 pub literal_did : (place : ℕ) (old new : State) (r : Step) → IsSound old → old.standing ≡ standing.Running → place < length old.table.literals → IsPushed (value.Str place) old new r → Did (line_of (Push (pure.Str (text_at old.table.literals place))) old) old new r
@@ -456,13 +421,12 @@ call_raises n f args old new r h top args_are gives e =
     let P : Line → Type 0 = λ l. Did l old new r in
     subst P (sym (call_line n f args old top args_are ∙ ap (λ g. yields g (old.pc + 1) rest [] []) (gives (map (value_of old.texts) args) w))) (raised_did NotCallable (old.pc + 1) rest old new r h e)
 
-pub call_closes : (n : ℕ) (old new : State) → IsSound old → length old.operands ≤ n → new ≡ record old { standing = standing.Idle } → Did (line_of (CallTop n) old) old new Local
-call_closes n old new h few e =
-    let g = value_of old.texts in
-    let w = world_of old in
-    let P : Line → Type 0 = λ l. Did l old new Local in
-    let none : drop n (map g old.operands) ≡ [] = drop_map g n old.operands ∙ ap (map g) (drop_all n old.operands few) in
-    subst P (sym (ap (λ vs. on_callee vs (λ u rest. yields (call u (reverse (take n (map g old.operands))) w) (old.pc + 1) rest [] []) (stuck w)) none)) (closed_did old new h e)
+pub call_lacks : (n : ℕ) (s : State) → length s.operands ≤ n → IsOpen (line_of (CallTop n) s) → ⊥
+call_lacks n s few h =
+    let g = value_of s.texts in
+    let w = world_of s in
+    let none : drop n (map g s.operands) ≡ [] = drop_map g n s.operands ∙ ap (map g) (drop_all n s.operands few) in
+    h (ap (λ vs. (on_callee vs (λ u rest. yields (call u (reverse (take n (map g s.operands))) w) (s.pc + 1) rest [] []) (stuck w)).place) none)
 
 -- a line is printed
 pub print_did : (n : ℕ) (args : List Value) (old mid new : State) (r : Step) → IsSound old → old.standing ≡ standing.Running → drop n old.operands ≡ value.BuiltIn Print ∷ drop (n + 1) old.operands → args ≡ reverse (take n old.operands) → mid ≡ record old { line = mid.line } → string_bytes mid.line ≡ encode_utf8_all (text_line (map (value_of old.texts) args)) → IsPrinted n mid new r → Did (line_of (CallTop n) old) old new r
@@ -483,13 +447,16 @@ print_did n args old mid new Local h run top args_are m line e =
     let P : State → Type 0 = λ s. string_bytes s.printed ≡ string_bytes old.printed ++ encode_utf8_all t → Did l old s Local in
     let Q : Line → Type 0 = λ x. Did x old new Local in
     subst Q (sym (call_line n (value.BuiltIn Print) args old top args_are))
-    (subst P (sym k.0) (λ bytes. record {
-      place = ap (λ st. place_in st (old.pc + 1) (pure.Nothing ∷ map g rest)) (sym run);
-      world = refl;
-      printed = bytes;
-      code = refl;
-      sound = record { operands = All-cons F value.None rest tt (All-drop F (n + 1) old.operands h.operands); globals = h.globals; literals = h.literals; slots = h.slots };
-    }) (k.1 ∙ ap (λ b. string_bytes old.printed ++ b) line))
+    (subst P (sym k.0) (λ bytes. (
+      record {
+        place = ap (λ st. place_in st (old.pc + 1) (pure.Nothing ∷ map g rest)) (sym run);
+        world = refl;
+        printed = bytes;
+        code = refl;
+        sound = record { operands = All-cons F value.None rest tt (All-drop F (n + 1) old.operands h.operands); globals = h.globals; literals = h.literals; slots = h.slots };
+      },
+      run,
+    )) (k.1 ∙ ap (λ b. string_bytes old.printed ++ b) line))
 
 -- a step that is known to be local
 pub local : (l : Line) (old new : State) (r : Step) → r ≡ Local → Did l old new Local → Did l old new r

@@ -1,3 +1,6 @@
 pub mod Values
 pub mod Causes
+pub mod Outcomes
+pub mod Machines
+pub mod Firsts
 pub mod States

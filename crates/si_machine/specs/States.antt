@@ -1,11 +1,10 @@
 -- What a machine's state stands for, and what an instruction makes of it.
-use Rattle.std.specs.Prelude.{◌≡◌, ◌⊎◌, ℕ, ◌+◌, List, [], ◌∷◌, ◌++◌, length, map, take, drop, Option, Some, None, All, slice_get, string_bytes, encode_utf8_all}
+use Rattle.std.specs.Prelude.{Bool, true, false, ◌≡◌, ◌≢◌, ℕ, ◌+◌, List, [], ◌∷◌, ◌++◌, length, map, take, drop, Option, Some, None, All, slice_get, string_bytes, encode_utf8_all}
 use Rattle.si_semantics.specs.Value as pure
-use Rattle.si_semantics.specs.Text.{line_of as text_line}
 use Rattle.si_semantics.specs.World.{World}
-use Rattle.si_semantics.specs.Life as life
-use Rattle.si_semantics.specs.Machine.{Instr, Place, At, Ending, Closed, Line, act, fetched}
-use Rattle.si_compile.specs.Views.{code_of}
+use Rattle.si_semantics.specs.Machine.{Instr, Place, At, Taking, Ending, Closed, Line, act, fetched}
+use Rattle.si_compile.specs.Views.{code_of, table_of}
+use Rattle.si_compile.specs.Correct.{NeverCloses}
 use Rattle.si_machine.specs.declared.value.Value.{Value}
 use Rattle.si_machine.specs.declared.value.Value.TheVariants as value
 use Rattle.si_machine.specs.declared.cause.Cause.{Cause}
@@ -18,11 +17,8 @@ use Rattle.si_machine.specs.declared.step.Step.{Step}
 use Rattle.si_machine.specs.declared.step.Step.TheVariants.{Local, Ended, Starved}
 use Rattle.si_machine.specs.Values.{value_of, cell_of, globals_of, Fits, FitsGlobal, AllSuit}
 use Rattle.si_machine.specs.Causes.{kind_of, message_in}
-
--- how a run ended
-abbrev pub outcome_of : Outcome → life.Outcome
-outcome_of Returned = life.Returned
-outcome_of (Raised kind message) = life.Raised kind message
+use Rattle.si_machine.specs.Outcomes.{outcome_of}
+use Rattle.si_machine.specs.Machines.{Seen, moment_of}
 
 -- the operands
 abbrev pub operands_of : State → List pure.Value
@@ -32,14 +28,30 @@ operands_of s = map (value_of s.texts) s.operands
 abbrev pub world_of : State → World
 world_of s = record { globals = globals_of s.table.names (map (cell_of s.texts) s.globals.items); store = [] }
 
--- where a machine stands
+-- where a machine stands; it waits for a text where nothing runs
 abbrev pub place_in : Standing → ℕ → List pure.Value → Place
 place_in standing.Running pc ops = At pc ops [] []
-place_in standing.Idle pc ops = Closed
-place_in standing.Starved pc ops = Closed
+place_in standing.Starved pc ops = At pc ops [] []
+place_in standing.Idle pc ops = Taking
 
 abbrev pub place_of : State → Place
 place_of s = place_in s.standing s.pc (operands_of s)
+
+abbrev pub is_starved : Standing → Bool
+is_starved standing.Running = false
+is_starved standing.Starved = true
+is_starved standing.Idle = false
+
+-- what is seen of a machine in this state
+abbrev pub seen : State → Seen
+seen s = record {
+  table = table_of s.table;
+  place = place_of s;
+  names = s.table.names;
+  values = map (cell_of s.texts) s.globals.items;
+  printed = string_bytes s.printed;
+  starved = is_starved s.standing;
+}
 
 -- a printed text in UTF-8, or none
 abbrev pub bytes_of : Option pure.Text → List ℕ
@@ -61,6 +73,15 @@ pub record IsSound (s : State) : Type 0 where
   pub literals : take (length s.table.literals) s.texts ≡ s.table.literals
   pub slots : AllSuit s.table.names s.globals.items
 
+-- a line leads to where there is more to do, or the run ends: it lacks nothing
+abbrev pub IsOpen : Line → Type 0
+IsOpen l = l.place ≢ Closed
+
+-- what holds of every machine: its state is sound, and its code never comes to where something is lacking
+pub record IsKept (s : State) : Type 0 where
+  pub sound : IsSound s
+  pub never : NeverCloses (moment_of (seen s))
+
 -- a run is under way, and its state is sound
 pub record IsReady (s : State) : Type 0 where
   pub running : s.standing ≡ standing.Running
@@ -76,8 +97,8 @@ pub record Moves (l : Line) (p : Place) (old new : State) : Type 0 where
 
 -- what a step did: a line, and the run goes on; or a line, with which it ended; or memory was refused, and nothing that shows has changed
 abbrev pub Did : Line → State → State → Step → Type 0
-Did l old new Local = Moves l (place_of new) old new
-Did l old new (Ended o) = Moves l (Ending (outcome_of o)) old new × (new.standing ≡ standing.Idle)
+Did l old new Local = Moves l (place_of new) old new × (new.standing ≡ standing.Running)
+Did l old new (Ended o) = Moves l (Ending (outcome_of o)) old new × (new.standing ≡ standing.Idle) × (string_bytes new.printed ≡ string_bytes old.printed)
 Did l old new Starved = (new ≡ record old { standing = standing.Starved; line = new.line; printed = new.printed }) × (string_bytes new.printed ≡ string_bytes old.printed)
 
 -- an exception leaves the run
@@ -98,19 +119,3 @@ abbrev pub IsPrinted : ℕ → State → State → Step → Type 0
 IsPrinted count old new Local = (new ≡ record old { pc = old.pc + 1; operands = value.None ∷ drop (count + 1) old.operands; printed = new.printed }) × (string_bytes new.printed ≡ string_bytes old.printed ++ string_bytes old.line)
 IsPrinted count old new (Ended o) = ⊥
 IsPrinted count old new Starved = (new ≡ record old { standing = standing.Starved; printed = new.printed }) × (string_bytes new.printed ≡ string_bytes old.printed)
-
--- what was printed stays as it is, and the run goes on, has ended, or stands still for good
-abbrev pub IsQuiet : State → State → Step → Type 0
-IsQuiet old new Local = string_bytes new.printed ≡ string_bytes old.printed
-IsQuiet old new (Ended o) = (string_bytes new.printed ≡ string_bytes old.printed) × (new.standing ≡ standing.Idle)
-IsQuiet old new Starved = (string_bytes new.printed ≡ string_bytes old.printed) × (new.standing ≡ standing.Starved)
-
--- nothing is printed, or one line of some values
-abbrev pub PrintsOnce : List ℕ → List ℕ → Type 0
-PrintsOnce old new = (new ≡ old) ⊎ ((vs : List pure.Value) × (new ≡ old ++ encode_utf8_all (text_line vs)))
-
--- a step prints at most once where the run goes on, and nothing where it ends or memory is refused
-abbrev pub Prints : State → State → Step → Type 0
-Prints old new Local = PrintsOnce (string_bytes old.printed) (string_bytes new.printed)
-Prints old new (Ended o) = (string_bytes new.printed ≡ string_bytes old.printed) × (new.standing ≡ standing.Idle)
-Prints old new Starved = (string_bytes new.printed ≡ string_bytes old.printed) × (new.standing ≡ standing.Starved)

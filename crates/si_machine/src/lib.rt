@@ -11,6 +11,7 @@
 #![tactic(auto)]
 
 mod cause;
+mod first;
 pub mod machine;
 mod operands;
 mod operations;

@@ -1,11 +1,18 @@
 // The machine.
 
-ghost use Rattle.std.specs.Prelude.{◌≡◌, IfErr, OnErr};
+ghost use Rattle.std.specs.Prelude.{◌≡◌, ◌↔◌, [], IsTrue, OnOk, IfErr, OnErr, string_bytes};
+ghost use Rattle.si_semantics.specs.World.{first_world};
+ghost use Rattle.si_semantics.specs.Machine.{start};
+ghost use Rattle.si_compile.specs.Correct.{run_at};
+ghost use Rattle.si_compile.specs.Views.{table_of};
+ghost use Rattle.si_machine.specs.Machines.{IsEntry, Stands, IsRunning, Steps};
 
+use crate::first::first_known;
 use crate::state::{Standing, State};
 use crate::step::Step;
 use si_compile::{CodeTable, Entry};
-use std::alloc::AllocFailed;
+use std::alloc::{AllocFailed, Global};
+use std::marker::Model;
 use std::mem;
 
 /// A machine, which runs the code of one table.
@@ -14,9 +21,22 @@ pub struct Machine {
     state: State,
 }
 
+impl Model for Machine {
+    ghost use Rattle.si_machine.specs.Machines.{Seen};
+    ghost use Rattle.si_machine.specs.States.{seen, IsKept};
+
+    ghost Value = { Seen };
+
+    ghost view = { λ m. seen m.state };
+
+    ghost invariant = { λ m. IsKept m.state };
+}
+
 impl Machine {
     /// A machine with no code, that has printed nothing.
-    pub fn new(alloc: std::alloc::Global) -> Machine {
+    pub fn new(alloc: Global) -> Machine
+        ensures { Stands result (start []) [] }
+    {
         Machine {
             state: State::new(alloc),
         }
@@ -25,44 +45,52 @@ impl Machine {
     /// Begins anew, at an entry of a table: nothing is bound but `__name__`, and nothing was printed. Refused
     /// memory, the table comes back and the machine is as it was.
     pub fn load(&mut self, table: CodeTable, entry: Entry) -> Result<(), AllocFailed<CodeTable>>
+        requires { IsEntry (table_of table, entry.at) }
+        ensures ok { OnOk result (Stands self.new (run_at (table_of table, entry.at) first_world) []) }
         ensures err { OnErr result (self.new ≡ self.old) }
         ensures comes_back { IfErr result (λ e. e.value ≡ table) }
     {
-        let mut state = State::new(self.state.alloc);
-        match state.make_known(&table) {
-            Ok(()) => {
-                state.table = table;
-                state.pc = entry.at;
-                state.standing = Standing::Running;
-                self.state = state;
+        let alloc = self.state.alloc;
+        match first_known(alloc, &table) {
+            Ok(known) => {
+                self.state = State::begun(alloc, table, entry.at, known);
                 Ok(())
             }
             Err(_) => Err(AllocFailed { value: table }),
         }
     }
 
-    /// Whether a run was begun that has not ended. It may then be stepped; a starved machine answers each step
-    /// with `Starved`.
-    pub fn is_running(&self) -> bool {
+    /// Whether a run was begun that has not ended, and memory was not refused.
+    pub fn is_running(&self) -> bool
+        ensures { IsTrue result ↔ IsRunning self.now }
+    {
         match self.state.standing {
-            Standing::Idle => false,
             Standing::Running => true,
-            Standing::Starved => true,
+            Standing::Idle => false,
+            Standing::Starved => false,
         }
     }
 
     /// What was printed, all of it.
-    pub fn printed(&self) -> &str {
+    pub fn printed(&self) -> &str
+        ensures { result.now ≡ self.now.printed }
+    {
         self.state.printed.as_str()
     }
 
     /// The printed text, moved out; what is printed later begins anew.
-    pub fn take_printed(&mut self) -> String {
+    pub fn take_printed(&mut self) -> String
+        ensures taken { string_bytes result ≡ self.old.printed }
+        ensures rest { self.new ≡ record self.old { printed = [] } }
+    {
         mem::replace(&mut self.state.printed, String::new(self.state.alloc))
     }
 
     /// One instruction. A machine that does not run answers `Starved`.
-    pub fn step(&mut self) -> Step {
+    pub fn step(&mut self) -> Step
+        ensures steps { IsRunning self.old → Steps self.old self.new result }
+        ensures stands { ¬ IsRunning self.old → (result ≡ Step.Starved) × (self.new ≡ self.old) }
+    {
         match self.state.standing {
             Standing::Running => self.state.step(),
             _ => Step::Starved,

@@ -40,6 +40,17 @@ impl Texts {
         }
     }
 
+    /// These texts, in their order.
+    pub fn of(alloc: Global, texts: &[Text]) -> Result<Texts, NoMemory>
+        ensures { IfOk result (λ all. all ≡ texts.now) }
+    {
+        let mut all = Texts::new(alloc);
+        for text in texts {
+            all.add(text.clone()?)?;
+        }
+        Ok(all)
+    }
+
     /// The text at a place; the empty text where there is none.
     pub fn at(&self, place: usize) -> &Text
         ensures { result.now ≡ text_at self.now place }

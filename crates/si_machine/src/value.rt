@@ -24,12 +24,3 @@ pub enum Global {
     Provided(BuiltIn),
     Bound(Value),
 }
-
-/// The built-in of a name.
-pub fn built_in(name: &str) -> Option<BuiltIn> {
-    if name == "print" {
-        Some(BuiltIn::Print)
-    } else {
-        None
-    }
-}

@@ -2,38 +2,37 @@ use Rattle.std.proofs.Common.{◌+◌, ◌∷◌, ◌++◌, drop, ap, ◌∙◌,
 use Rattle.si_semantics.specs.Machine as machine
 use Rattle.si_machine.specs.declared.state.State.{State}
 use Rattle.si_machine.specs.declared.value.Value.TheVariants as value
-use Rattle.si_machine.proofs.Lines.{local, call_raises, call_closes, print_did, only_print}
+use Rattle.si_machine.proofs.Lines.{call_raises, print_did, only_print}
 use Rattle.std.specs.Prelude.{encode_utf8_all, map}
 use Rattle.si_semantics.specs.Text.{line_of as text_line}
 use Rattle.si_machine.specs.Values.{value_of}
 use Rattle.si_machine.specs.States.{line_of}
 use Rattle.si_machine.proofs.state.State.call.Goals as goal
 
-pub returns-in-None-clause-did : goal.returns-in-None-clause-did
-returns-in-None-clause-did c = λ h.
-    let old = c.args.self.now in
-    local (line_of (machine.CallTop c.args.count) old) old c.close.new.self c.close.result c.close.ensures.step (call_closes c.args.count old c.close.new.self h.sound c.in-None.ensures c.close.ensures.state)
-
-pub returns-in-Some-None-default-clause-did : goal.returns-in-Some-None-default-clause-did
-returns-in-Some-None-default-clause-did c = λ h.
+pub returns-in-Some-None-default : goal.returns-in-Some-None-default
+returns-in-Some-None-default c =
+    let h = c.requires.ready in
     let old = c.args.self.now in
     let k = c.in-Some-None-default in
     call_raises c.args.count _ _ old c.raise.new.self c.raise.result h.sound (k.ensures.0 ∙ ap (λ f. f ∷ drop (c.args.count + 1) old.operands) k.field-0-0-is) k.ensures.1 (λ vs w. refl) c.raise.ensures.raised
 
-pub returns-in-Some-Int-default-clause-did : goal.returns-in-Some-Int-default-clause-did
-returns-in-Some-Int-default-clause-did c = λ h.
+pub returns-in-Some-Int-default : goal.returns-in-Some-Int-default
+returns-in-Some-Int-default c =
+    let h = c.requires.ready in
     let old = c.args.self.now in
     let k = c.in-Some-Int-default in
     call_raises c.args.count _ _ old c.raise-in-Some-Int-default.new.self c.raise-in-Some-Int-default.result h.sound (k.ensures.0 ∙ ap (λ f. f ∷ drop (c.args.count + 1) old.operands) k.field-0-0-is) k.ensures.1 (λ vs w. refl) c.raise-in-Some-Int-default.ensures.raised
 
-pub returns-in-Some-Str-default-clause-did : goal.returns-in-Some-Str-default-clause-did
-returns-in-Some-Str-default-clause-did c = λ h.
+pub returns-in-Some-Str-default : goal.returns-in-Some-Str-default
+returns-in-Some-Str-default c =
+    let h = c.requires.ready in
     let old = c.args.self.now in
     let k = c.in-Some-Str-default in
     call_raises c.args.count _ _ old c.raise-in-Some-Str-default.new.self c.raise-in-Some-Str-default.result h.sound (k.ensures.0 ∙ ap (λ f. f ∷ drop (c.args.count + 1) old.operands) k.field-0-0-is) k.ensures.1 (λ vs w. refl) c.raise-in-Some-Str-default.ensures.raised
 
-pub returns-in-Ok-clause-did : goal.returns-in-Ok-clause-did
-returns-in-Ok-clause-did c = λ h.
+pub returns-in-Ok : goal.returns-in-Ok
+returns-in-Ok c =
+    let h = c.requires.ready in
     let old = c.args.self.now in
     let k = c.in-Some-BuiltIn-Print-default in
     let mid : State = record old { line = c.write_line.new.line } in

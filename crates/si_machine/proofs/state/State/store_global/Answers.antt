@@ -6,13 +6,9 @@ use Rattle.si_machine.proofs.Lines.{local, store_did, slot_there}
 use Rattle.si_machine.specs.States.{line_of}
 use Rattle.si_machine.proofs.state.State.store_global.Goals as goal
 
-pub returns-then-slot-len-clause-did : goal.returns-then-slot-len-clause-did
-returns-then-slot-len-clause-did c = λ h.
-    let lt = slot_there c.args.self.now c.args.slot h.sound c.requires.slot in
-    absurd (omega (arith, lt, c.if-slot-len.true, c.len.ensures, c.args.self.now.globals.ok.0))
-
-pub returns-in-Some-clause-did : goal.returns-in-Some-clause-did
-returns-in-Some-clause-did c = λ h.
+pub returns : goal.returns
+returns c =
+    let h = c.requires.ready in
     let old = c.args.self.now in
     let lt = slot_there old c.args.slot h.sound c.requires.slot in
     let is = c.advance.ensures.state in
@@ -20,3 +16,6 @@ returns-in-Some-clause-did c = λ h.
     (store_did c.args.slot c.in-Some.value c.pop.new.self old c.advance.new.self h.sound c.requires.distinct h.running lt c.in-Some.ensures
     (ap (λ (s : State). s.globals.items) is)
     (is ∙ ap (λ g. let s : State = record old { pc = old.pc + 1; operands = c.pop.new.self; globals = g } in s) (sym (ap (λ (s : State). s.globals) is))))
+
+pub unreachable-requires : goal.unreachable-requires
+unreachable-requires c = ?
