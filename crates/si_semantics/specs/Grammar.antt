@@ -2,7 +2,7 @@
 -- Each rule stands in the line above its production, in the notation of the reference.
 use Rattle.std.specs.Prelude.{◌≡◌, ℕ, zero, suc, ◌+◌, ◌-◌, ◌*◌, ◌<◌, ◌≤◌, max, ℤ, pos, ◌&&◌, ◌||◌, List, [], ◌∷◌, ◌++◌, length, flat_map, chars, ◌⊎◌, Option, Some, None, option_map, option_and_then, nat_eq, nat_le, if◌then◌else◌}
 use Rattle.si_semantics.specs.Value.{Text, Nothing, Truth, Int, Str, Provided}
-use Rattle.si_semantics.specs.Tree.{BinaryOperator, Add, Subtract, Multiply, FloorDivide, Modulo, Power, BitOr, BitXor, BitAnd, ShiftLeft, ShiftRight, UnaryOperator, Expr, Constant, Name, Unary, Binary, Call, Boolean, Compare, Conditional, Exprs, NoExprs, MoreExprs, Comparisons, NoComparisons, MoreComparisons, Stmt, Evaluate, Assign, Augment, Pass, If, While, Break, Continue, Stmts, NoStmts, MoreStmts}
+use Rattle.si_semantics.specs.Tree.{BinaryOperator, Add, Subtract, Multiply, FloorDivide, Modulo, Power, BitOr, BitXor, BitAnd, ShiftLeft, ShiftRight, UnaryOperator, ComparisonOperator, Expr, Constant, Name, Unary, Binary, Call, Boolean, Compare, Conditional, Exprs, NoExprs, MoreExprs, Comparisons, NoComparisons, MoreComparisons, Stmt, Evaluate, Assign, Augment, Pass, If, While, Break, Continue, Stmts, NoStmts, MoreStmts}
 use Rattle.si_semantics.specs.Tree as tree
 use Rattle.si_semantics.specs.Tokens.{Symbol, Keyword, TokenKind, Token}
 use Rattle.si_semantics.specs.Tokens as token
@@ -182,6 +182,18 @@ abbrev pub exprs_of : List Expr → Exprs
 exprs_of [] = NoExprs
 exprs_of (e ∷ es) = MoreExprs e (exprs_of es)
 
+-- an operator of a comparison, and the operand behind it
+abbrev pub Link : Type 0
+Link = ComparisonOperator × Expr
+
+abbrev pub links_of : Comparisons → List Link
+links_of NoComparisons = []
+links_of (MoreComparisons op e cs) = (op, e) ∷ links_of cs
+
+abbrev pub chain_of : List Link → Comparisons
+chain_of [] = NoComparisons
+chain_of (link ∷ links) = MoreComparisons link.0 link.1 (chain_of links)
+
 -- the text of str literals beside each other (2.4.3)
 abbrev pub Strings : Text → List Terminal → Type 0
 Strings s [] = s ≡ []
@@ -245,6 +257,15 @@ Simple ss ts = (f : List Terminal) × (ts ≡ f ++ NEWLINE ∷ []) × (0 < lengt
 abbrev pub stmts_of : List Stmt → Stmts
 stmts_of [] = NoStmts
 stmts_of (s ∷ ss) = MoreStmts s (stmts_of ss)
+
+-- a test and the suite behind it
+abbrev pub Branch : Type 0
+Branch = Expr × Stmts
+
+-- an `elif` is an `if` of its own, alone in the else suite of the one before it
+abbrev pub elifs_of : List Branch → Stmts → Stmts
+elifs_of [] last = last
+elifs_of (b ∷ more) last = MoreStmts (If b.0 b.1 (elifs_of more last)) NoStmts
 
 -- module: { simple } ENDMARKER
 abbrev pub Derives : Stmts → List Terminal → Type 0
