@@ -41,6 +41,8 @@ fn left_level(operator: BinaryOperator) -> u32
         BinaryOperator::Add | BinaryOperator::Subtract => 14,
         BinaryOperator::Multiply | BinaryOperator::FloorDivide | BinaryOperator::Modulo => 15,
         BinaryOperator::Power => PRIMARY,
+        BinaryOperator::BitOr | BinaryOperator::BitXor | BinaryOperator::BitAnd => 0,
+        BinaryOperator::ShiftLeft | BinaryOperator::ShiftRight => 0,
     }
 }
 
@@ -52,6 +54,8 @@ fn right_level(operator: BinaryOperator) -> u32
         BinaryOperator::Add | BinaryOperator::Subtract => 15,
         BinaryOperator::Multiply | BinaryOperator::FloorDivide | BinaryOperator::Modulo => 16,
         BinaryOperator::Power => FACTOR,
+        BinaryOperator::BitOr | BinaryOperator::BitXor | BinaryOperator::BitAnd => 1,
+        BinaryOperator::ShiftLeft | BinaryOperator::ShiftRight => 1,
     }
 }
 

@@ -18,7 +18,7 @@ pub mod syntax;
 
 pub use fault::ParseFault;
 pub use parser::parse;
-pub use syntax::{BinaryOperator, Expr, Module, Stmt, UnaryOperator};
+pub use syntax::{BinaryOperator, BooleanOperator, ComparisonOperator, Expr, Module, Stmt, UnaryOperator};
 
 #[cfg(test)]
 mod tests;
