@@ -1,15 +1,17 @@
 // From a module to its code.
-ghost use Rattle.std.specs.Prelude.{◌≡◌, map, IfOk, OnOk, OnErr};
-ghost use Rattle.si_semantics.specs.Grammar.{exprs_of};
-ghost use Rattle.si_parse.specs.Trees.{body_of, expr_of, stmt_of};
+ghost use Rattle.std.specs.Prelude.{◌≡◌, ◌+◌, [], ◌∷◌, ◌++◌, length, map, IfOk, OnOk, OnErr};
+ghost use Rattle.si_semantics.specs.Grammar.{chain_of, exprs_of};
+ghost use Rattle.si_semantics.specs.Machine as machine;
+ghost use Rattle.si_parse.specs.Trees.{body_of, boolean_of, expr_of, stmt_of};
 ghost use Rattle.si_parse.specs.Modules.{tree_of};
-ghost use Rattle.si_compile.specs.Code.{compiled, expr_code, exprs_code, module_code, stmt_code};
+ghost use Rattle.si_compile.specs.Code.{chain_code, compiled, expr_code, exprs_code, loop_code, module_code, operands_code, stmt_code, stmts_code};
 ghost use Rattle.si_compile.specs.Contents.{Extends};
+ghost use Rattle.si_compile.specs.Jumps.{branch_front, link_of};
 ghost use Rattle.si_compile.specs.Views.{Gains, table_of};
 
 use crate::instr::Instr;
 use crate::table::{CodeTable, Entry};
-use si_parse::{Expr, Module, Stmt};
+use si_parse::{BooleanOperator, ComparisonOperator, Expr, Module, Stmt};
 use si_plain::NoMemory;
 use std::alloc::AllocError;
 
@@ -48,12 +50,23 @@ fn emit_body(table: &mut CodeTable, body: &[Stmt]) -> Result<(), NoMemory>
     ensures ok { OnOk result (Gains table.old table.new (module_code (body_of body.now))) }
     ensures extends { Extends table.old table.new }
 {
-    for stmt in body {
-        emit_stmt(table, stmt)?;
-    }
+    emit_suite(table, body)?;
     table.put(Instr::Finish)
 }
 
+// Statements one after another.
+#[cycle(stmts)]
+fn emit_suite(table: &mut CodeTable, body: &[Stmt]) -> Result<(), NoMemory>
+    ensures ok { OnOk result (Gains table.old table.new (stmts_code (body_of body.now))) }
+    ensures extends { Extends table.old table.new }
+{
+    for stmt in body {
+        emit_stmt(table, stmt)?;
+    }
+    Ok(())
+}
+
+#[cycle(stmts)]
 fn emit_stmt(table: &mut CodeTable, stmt: &Stmt) -> Result<(), NoMemory>
     ensures ok { OnOk result (Gains table.old table.new (stmt_code (stmt_of stmt.now))) }
     ensures extends { Extends table.old table.new }
@@ -67,7 +80,61 @@ fn emit_stmt(table: &mut CodeTable, stmt: &Stmt) -> Result<(), NoMemory>
             emit_expr(table, expr)?;
             table.put_store(name.as_str())
         }
+        Stmt::Augment(name, operator, expr) => {
+            table.put_load(name.as_str())?;
+            emit_expr(table, expr)?;
+            table.put(Instr::Binary(*operator))?;
+            table.put_store(name.as_str())
+        }
+        Stmt::Pass => Ok(()),
+        Stmt::If(test, body, elifs, last) => {
+            let end = emit_branch(table, test, body)?;
+            let mut ends = Vec::new(table.allocator());
+            for (test, body) in elifs {
+                ends.push(emit_branch(table, test, body)?)?;
+            }
+            emit_suite(table, last)?;
+            table.aim_all(&ends)?;
+            table.aim(end)
+        }
+        Stmt::While(test, body) => emit_while(table, test, body),
+        Stmt::Break => table.put(Instr::Break),
+        Stmt::Continue => table.put(Instr::Continue),
     }
+}
+
+// A test, its suite and the jump behind that, which isn't aimed yet: it leads past what follows. Says where that jump is.
+#[cycle(stmts)]
+fn emit_branch(table: &mut CodeTable, test: &Expr, body: &[Stmt]) -> Result<usize, NoMemory>
+    ensures ok { OnOk result (Gains table.old table.new (branch_front (expr_code (expr_of test.now)) (stmts_code (body_of body.now)) ++ machine.Jump 0 ∷ [])) }
+    ensures at { IfOk result (λ at. at + 1 ≡ length table.new.lines) }
+    ensures extends { Extends table.old table.new }
+{
+    emit_expr(table, test)?;
+    let skip = table.len();
+    table.put(Instr::JumpIfFalse(0))?;
+    emit_suite(table, body)?;
+    let end = table.len();
+    table.put(Instr::Jump(0))?;
+    table.aim(skip)?;
+    Ok(end)
+}
+
+#[cycle(stmts)]
+fn emit_while(table: &mut CodeTable, test: &Expr, body: &[Stmt]) -> Result<(), NoMemory>
+    ensures ok { OnOk result (Gains table.old table.new (loop_code (expr_code (expr_of test.now)) (stmts_code (body_of body.now)) [])) }
+    ensures extends { Extends table.old table.new }
+{
+    let start = table.len();
+    emit_expr(table, test)?;
+    let skip = table.len();
+    table.put(Instr::JumpIfFalse(0))?;
+    let enter = table.len();
+    table.put_enter(start)?;
+    emit_suite(table, body)?;
+    table.put(Instr::Continue)?;
+    table.aim(skip)?;
+    table.aim(enter)
 }
 
 #[cycle(exprs)]
@@ -78,6 +145,8 @@ fn emit_expr(table: &mut CodeTable, expr: &Expr) -> Result<(), NoMemory>
     match expr {
         Expr::Name(name) => table.put_load(name.as_str()),
         Expr::Int(value) => table.put(Instr::PushInt(*value)),
+        Expr::Nothing => table.put(Instr::PushNone),
+        Expr::Truth(value) => table.put(Instr::PushTruth(*value)),
         Expr::Str(literal) => table.put_literal(literal),
         Expr::Unary(operator, operand) => {
             emit_expr(table, operand)?;
@@ -94,6 +163,25 @@ fn emit_expr(table: &mut CodeTable, expr: &Expr) -> Result<(), NoMemory>
             emit_exprs(table, arguments)?;
             table.put(Instr::Call(count))
         }
+        Expr::Boolean(operator, first, others) => {
+            emit_expr(table, first)?;
+            emit_operands(table, *operator, others)
+        }
+        Expr::Compare(first, links) => {
+            emit_expr(table, first)?;
+            emit_chain(table, links)
+        }
+        Expr::Conditional(test, value, other) => {
+            emit_expr(table, test)?;
+            let skip = table.len();
+            table.put(Instr::JumpIfFalse(0))?;
+            emit_expr(table, value)?;
+            let end = table.len();
+            table.put(Instr::Jump(0))?;
+            table.aim(skip)?;
+            emit_expr(table, other)?;
+            table.aim(end)
+        }
     }
 }
 
@@ -107,6 +195,43 @@ fn emit_exprs(table: &mut CodeTable, exprs: &[Expr]) -> Result<(), NoMemory>
         emit_expr(table, expr)?;
     }
     Ok(())
+}
+
+// The operands of `and` or `or` behind the first.
+#[cycle(exprs)]
+fn emit_operands(table: &mut CodeTable, operator: BooleanOperator, operands: &[Expr]) -> Result<(), NoMemory>
+    ensures ok { OnOk result (Gains table.old table.new (operands_code (boolean_of operator) (exprs_of (map expr_of operands.now)))) }
+    ensures extends { Extends table.old table.new }
+{
+    let mut jumps = Vec::new(table.allocator());
+    for operand in operands {
+        jumps.push(table.len())?;
+        table.put(Instr::JumpOrDiscard(operator, 0))?;
+        emit_expr(table, operand)?;
+    }
+    table.aim_all(&jumps)
+}
+
+// The operators and operands of a chain of comparisons behind the first operand.
+#[cycle(exprs)]
+fn emit_chain(table: &mut CodeTable, links: &[(ComparisonOperator, Expr)]) -> Result<(), NoMemory>
+    ensures ok { OnOk result (Gains table.old table.new (chain_code (chain_of (map link_of links.now)))) }
+    ensures extends { Extends table.old table.new }
+{
+    let Some(((operator, last), others)) = links.split_last() else {
+        return Ok(());
+    };
+    let mut jumps = Vec::new(table.allocator());
+    for (operator, operand) in others {
+        emit_expr(table, operand)?;
+        table.put(Instr::KeepRight)?;
+        table.put(Instr::Compare(*operator))?;
+        jumps.push(table.len())?;
+        table.put(Instr::EndChain(0))?;
+    }
+    emit_expr(table, last)?;
+    table.put(Instr::Compare(*operator))?;
+    table.aim_all(&jumps)
 }
 
 #[cfg(test)]

@@ -1,4 +1,7 @@
 // The instructions of the machine.
+ghost use Rattle.std.specs.Prelude.{◌≡◌, List, ℕ};
+ghost use Rattle.si_compile.specs.Views.{instr_of};
+ghost use Rattle.si_compile.specs.Jumps.{aimed};
 
 use si_parse::{BinaryOperator, BooleanOperator, ComparisonOperator, UnaryOperator};
 
@@ -47,4 +50,20 @@ pub enum Instr {
     Discard,
     /// The run has come to its end.
     Finish,
+}
+
+impl Instr {
+    // The same jump, so far; another instruction as it is.
+    pub(crate) fn aimed(self, ahead: u32) -> Instr
+        ensures { (literals names : List (List ℕ)) → instr_of literals names result ≡ aimed ahead (instr_of literals names self) }
+    {
+        match self {
+            Instr::EndChain(_) => Instr::EndChain(ahead),
+            Instr::JumpOrDiscard(operator, _) => Instr::JumpOrDiscard(operator, ahead),
+            Instr::JumpIfFalse(_) => Instr::JumpIfFalse(ahead),
+            Instr::Jump(_) => Instr::Jump(ahead),
+            Instr::EnterLoop(back, _) => Instr::EnterLoop(back, ahead),
+            other => other,
+        }
+    }
 }
