@@ -10,4 +10,5 @@ pub mod Due
 pub mod Shown
 pub mod Interpreter
 pub mod Codes
+pub mod Jumped
 pub mod Emitted

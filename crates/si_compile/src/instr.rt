@@ -1,5 +1,6 @@
 // The instructions of the machine.
 ghost use Rattle.std.specs.Prelude.{◌≡◌, List, ℕ};
+ghost use Rattle.si_compile.specs.Contents.{Resolves};
 ghost use Rattle.si_compile.specs.Views.{instr_of};
 ghost use Rattle.si_compile.specs.Jumps.{aimed};
 
@@ -55,7 +56,8 @@ pub enum Instr {
 impl Instr {
     // The same jump, so far; another instruction as it is.
     pub(crate) fn aimed(self, ahead: u32) -> Instr
-        ensures { (literals names : List (List ℕ)) → instr_of literals names result ≡ aimed ahead (instr_of literals names self) }
+        ensures is { (literals names : List (List ℕ)) → instr_of literals names result ≡ aimed ahead (instr_of literals names self) }
+        ensures resolves { (literals slots : ℕ) → Resolves literals slots self → Resolves literals slots result }
     {
         match self {
             Instr::EndChain(_) => Instr::EndChain(ahead),
