@@ -12,3 +12,5 @@ pub mod Interpreter
 pub mod Codes
 pub mod Jumped
 pub mod Emitted
+pub mod Branches
+pub mod Forms
