@@ -205,7 +205,11 @@ fn emit_exprs(table: &mut CodeTable, exprs: &[Expr]) -> Result<(), NoMemory>
 
 // The operands of `and` or `or` behind the first.
 #[cycle(exprs)]
-fn emit_operands(table: &mut CodeTable, operator: BooleanOperator, operands: &[Expr]) -> Result<(), NoMemory>
+fn emit_operands(
+    table: &mut CodeTable,
+    operator: BooleanOperator,
+    operands: &[Expr],
+) -> Result<(), NoMemory>
     ensures ok { OnOk result (Gains table.old table.new (operands_code (boolean_of operator) (exprs_of (map expr_of operands.now)))) }
     ensures extends { Extends table.old table.new }
 {
@@ -337,7 +341,7 @@ mod tests {
 
     // The name alone, as a suite.
     fn suite(alloc: Global, text: &str) -> Result<Vec<Stmt>, AllocError> {
-        vec![in alloc; Stmt::Evaluate(name(alloc, text)?)]
+        Ok(vec![in alloc; Stmt::Evaluate(name(alloc, text)?)]?)
     }
 
     // `if a: b`, `elif c: d`, `else: e`
@@ -345,7 +349,12 @@ mod tests {
     fn each_branch_leads_past_the_others(rt: HostRuntime) -> Result<(), Fail> {
         let alloc = rt.alloc();
         let elifs = vec![in alloc; (name(alloc, "c")?, suite(alloc, "d")?)]?;
-        let branches = Stmt::If(name(alloc, "a")?, suite(alloc, "b")?, elifs, suite(alloc, "e")?);
+        let branches = Stmt::If(
+            name(alloc, "a")?,
+            suite(alloc, "b")?,
+            elifs,
+            suite(alloc, "e")?,
+        );
         let code = [
             Instr::LoadGlobal(0),
             Instr::JumpIfFalse(3),
@@ -395,7 +404,7 @@ mod tests {
         let links = vec![in alloc;
             (ComparisonOperator::Less, Expr::Int(1)),
             (ComparisonOperator::LessEqual, Expr::Int(2)),
-            (ComparisonOperator::NotEqual, Expr::Nothing)
+            (ComparisonOperator::NotEqual, Expr::Nothing),
         ]?;
         let chain = Expr::Compare(Box::new(alloc, name(alloc, "a")?)?, links);
         let code = [
@@ -422,14 +431,22 @@ mod tests {
     fn operands_that_may_be_passed_over(rt: HostRuntime) -> Result<(), Fail> {
         let alloc = rt.alloc();
         let others = vec![in alloc; name(alloc, "b")?, Expr::Truth(true)]?;
-        let either = Expr::Boolean(BooleanOperator::Or, Box::new(alloc, name(alloc, "a")?)?, others);
+        let either = Expr::Boolean(
+            BooleanOperator::Or,
+            Box::new(alloc, name(alloc, "a")?)?,
+            others,
+        );
         let value = Expr::Conditional(
             Box::new(alloc, name(alloc, "c")?)?,
             Box::new(alloc, either)?,
             Box::new(alloc, Expr::Truth(false))?,
         );
         let first = Stmt::Assign(String::from_str(alloc, "x")?, value);
-        let second = Stmt::Augment(String::from_str(alloc, "x")?, BinaryOperator::Add, Expr::Int(1));
+        let second = Stmt::Augment(
+            String::from_str(alloc, "x")?,
+            BinaryOperator::Add,
+            Expr::Int(1),
+        );
         let code = [
             Instr::LoadGlobal(0),
             Instr::JumpIfFalse(6),

@@ -68,16 +68,16 @@ pub emit_stmt-returns-in_ok-aim_all-in-If-clause-extends : goal.emit_stmt-return
 emit_stmt-returns-in_ok-aim_all-in-If-clause-extends t c =
     let tested = c.in_ok-emit_expr-in-If.ensures.extends in
     let others = c.in_ok-aim_all-in-If.ensures.extends c.emit_branch.new.table
-        (subst (AllByRecursion (λ at. length c.emit_branch.new.table.lines ≤ at)) (sym c.deref-in-If-2.ensures.value) c.loop-test.invariant.behind)
-        (Extends-trans _ _ _ c.loop-test.invariant.extends c.in_ok-emit_suite-in-If.ensures.extends) in
+    (subst (AllByRecursion (λ at. length c.emit_branch.new.table.lines ≤ at)) (sym c.deref-in-If-2.ensures.value) c.loop-test.invariant.behind)
+    (Extends-trans _ _ _ c.loop-test.invariant.extends c.in_ok-emit_suite-in-If.ensures.extends) in
     branch_stays (stmts_code (body_of c.deref.result.now)) c.aim.ensures.extends c.in_ok-end-in-If.ensures.at c.in_ok-end-in-If.ensures.ok tested
     (Extends-trans _ _ _ (Extends-trans _ _ _ tested c.in_ok-end-in-If.ensures.extends) others)
 
 pub emit_stmt-returns-in_err-aim_all-in-If-clause-extends : goal.emit_stmt-returns-in_err-aim_all-in-If-clause-extends
 emit_stmt-returns-in_err-aim_all-in-If-clause-extends t c =
     let others = c.aim_all.ensures.extends c.emit_branch.new.table
-        (subst (AllByRecursion (λ at. length c.emit_branch.new.table.lines ≤ at)) (sym c.deref-in-If-2.ensures.value) c.loop-test.invariant.behind)
-        (Extends-trans _ _ _ c.loop-test.invariant.extends c.in_ok-emit_suite-in-If.ensures.extends) in
+    (subst (AllByRecursion (λ at. length c.emit_branch.new.table.lines ≤ at)) (sym c.deref-in-If-2.ensures.value) c.loop-test.invariant.behind)
+    (Extends-trans _ _ _ c.loop-test.invariant.extends c.in_ok-emit_suite-in-If.ensures.extends) in
     Extends-trans _ _ _ (Extends-trans _ _ _ c.in_ok-emit_expr-in-If.ensures.extends c.in_ok-end-in-If.ensures.extends) others
 
 pub emit_branch-returns-in_err-aim-clause-extends : goal.emit_branch-returns-in_err-aim-clause-extends
@@ -114,5 +114,5 @@ emit_turn-returns-in_err-aim-clause-extends t c =
 pub emit_turn-returns-clause-extends : goal.emit_turn-returns-clause-extends
 emit_turn-returns-clause-extends t c =
     let once = front_stays c.in_ok-aim.ensures.extends _ c.len-skip.ensures (Extends-same c.args.table.now)
-        (Extends-trans _ _ _ c.in_ok-put.ensures.extends (Extends-trans _ _ _ c.in_ok-put_enter.ensures.extends (Extends-trans _ _ _ c.in_ok-emit_suite.ensures.extends c.in_ok-put-2.ensures.extends))) in
+    (Extends-trans _ _ _ c.in_ok-put.ensures.extends (Extends-trans _ _ _ c.in_ok-put_enter.ensures.extends (Extends-trans _ _ _ c.in_ok-emit_suite.ensures.extends c.in_ok-put-2.ensures.extends))) in
     front_stays c.aim-2.ensures.extends _ c.len-enter.ensures c.in_ok-put.ensures.extends once
