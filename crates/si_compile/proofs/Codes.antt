@@ -7,7 +7,7 @@ use Rattle.std.proofs.lemmas.List.Sums.{fold-append}
 use Rattle.si_semantics.specs.Value.{Text, Str}
 use Rattle.si_semantics.specs.Machine as machine
 use Rattle.si_compile.specs.declared.instr.Instr.{Instr}
-use Rattle.si_compile.specs.declared.instr.Instr.TheVariants.{PushInt, PushLiteral, LoadGlobal, StoreGlobal, Unary, Binary, Call, Discard, Finish}
+use Rattle.si_compile.specs.declared.instr.Instr.TheVariants.{PushInt, PushNone, PushTruth, PushLiteral, LoadGlobal, StoreGlobal, Unary, Binary, Compare, KeepRight, EndChain, JumpOrDiscard, JumpIfFalse, Jump, EnterLoop, Break, Continue, Call, Discard, Finish}
 use Rattle.si_compile.specs.Contents.{Contents, IsSound, Resolves, Begins}
 use Rattle.si_compile.specs.Views.{text_at, instr_of, code_of, literal_of, global_of, Gains}
 use Rattle.si_compile.specs.Names.{with_name}
@@ -21,11 +21,22 @@ text_at-more old new place h within =
 module _ (literals more_literals names more_names : List Text) (h : Begins literals more_literals) (k : Begins names more_names) where
   instr_of-more : (i : Instr) → Resolves (length literals) (length names) i → instr_of more_literals more_names i ≡ instr_of literals names i
   instr_of-more (PushInt n) r = refl
+  instr_of-more PushNone r = refl
+  instr_of-more (PushTruth b) r = refl
   instr_of-more (PushLiteral place) r = ap (λ t. machine.Push (Str t)) (text_at-more literals more_literals place h r)
   instr_of-more (LoadGlobal slot) r = ap machine.LoadGlobal (text_at-more names more_names slot k r)
   instr_of-more (StoreGlobal slot) r = ap machine.StoreGlobal (text_at-more names more_names slot k r)
   instr_of-more (Unary o) r = refl
   instr_of-more (Binary o) r = refl
+  instr_of-more (Compare o) r = refl
+  instr_of-more KeepRight r = refl
+  instr_of-more (EndChain n) r = refl
+  instr_of-more (JumpOrDiscard o n) r = refl
+  instr_of-more (JumpIfFalse n) r = refl
+  instr_of-more (Jump n) r = refl
+  instr_of-more (EnterLoop back ahead) r = refl
+  instr_of-more Break r = refl
+  instr_of-more Continue r = refl
   instr_of-more (Call n) r = refl
   instr_of-more Discard r = refl
   instr_of-more Finish r = refl

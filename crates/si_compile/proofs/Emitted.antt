@@ -12,16 +12,18 @@ use Rattle.si_parse.specs.declared.syntax.Expr.TheOpen.{Expr-F}
 use Rattle.si_parse.specs.declared.syntax.Expr.TheVariants.{rolls-Unary, rolls-Binary, rolls-Call}
 use Rattle.si_parse.specs.declared.syntax.Expr.TheViews as views
 use Rattle.si_parse.specs.declared.syntax.Stmt.{Stmt}
-use Rattle.si_parse.specs.declared.syntax.Stmt.TheVariants.{Evaluate, Assign}
-use Rattle.si_parse.specs.Trees.{binary_of, unary_of, expr_of, stmt_of, body_of, view_step}
-use Rattle.si_compile.specs.Code.{count, expr_code, exprs_code, stmt_code, stmts_code, module_code}
+use Rattle.si_parse.specs.declared.syntax.Stmt.TheFolds.{fold-roll-Stmt}
+use Rattle.si_parse.specs.declared.syntax.Stmt.TheOpen.{Stmt-F}
+use Rattle.si_parse.specs.declared.syntax.Stmt.TheVariants.{Evaluate, Assign, Augment, rolls-Evaluate, rolls-Assign, rolls-Augment}
+use Rattle.si_parse.specs.Trees.{binary_of, unary_of, expr_of, stmt_of, stmt_step, body_of, view_step}
+use Rattle.si_compile.specs.Code.{count, expr_code, exprs_code, stmt_code, stmts_code}
 use Rattle.si_compile.specs.Contents.{Contents}
 use Rattle.si_compile.specs.Views.{Gains}
 use Rattle.si_compile.proofs.Codes.{Gains-nil, Gains-append}
 
 -- ---- expressions
 
-abbrev Code : Expr → List machine.Instr
+abbrev pub Code : Expr → List machine.Instr
 Code e = expr_code (expr_of e)
 
 unary_is : (o : UnaryOperator) (a : Box Expr Global) → expr_of (views.Unary o a) ≡ tree.Unary (unary_of o) (expr_of a.value)
@@ -39,10 +41,10 @@ call_is : (f : Box Expr Global) (args : Vec Expr Global) → expr_of (views.Call
 call_is f args = ap expr_of (sym (rolls-Call f args)) ∙ fold-roll-Expr tree.Expr view_step (Expr-F.Call f args)
 
 -- the parts are seen behind their boxes
-at_value : {a b : Contents} (x y : Expr) → x ≡ y → Gains a b (Code x) → Gains a b (Code y)
+pub at_value : {a b : Contents} (x y : Expr) → x ≡ y → Gains a b (Code x) → Gains a b (Code y)
 at_value {a} {b} x y e h = subst (λ z. Gains a b (Code z)) e h
 
-at_tree : {a b : Contents} (e view : Expr) (t : tree.Expr) → e ≡ view → expr_of view ≡ t → Gains a b (expr_code t) → Gains a b (Code e)
+pub at_tree : {a b : Contents} (e view : Expr) (t : tree.Expr) → e ≡ view → expr_of view ≡ t → Gains a b (expr_code t) → Gains a b (Code e)
 at_tree {a} {b} e view t is sees h = subst (λ c. Gains a b (expr_code c)) (sym (ap expr_of is ∙ sees)) h
 
 pub unary_gains : {t0 t1 t2 : Contents} (o : UnaryOperator) (a : Box Expr Global) (x e : Expr) → e ≡ views.Unary o a → x ≡ a.value → Gains t0 t1 (Code x) → Gains t1 t2 (machine.ApplyUnary (unary_of o) ∷ []) → Gains t0 t2 (Code e)
@@ -63,7 +65,7 @@ call_gains {t0} {t1} {t2} {t3} f args x e es n is at all many h k l =
 
 -- ---- one of several, and then the rest
 
-rest_is : {A : Type 0} (xs : List A) (i : ℕ) (x : A) → i < length xs → get_or xs i x ≡ x → drop i xs ≡ x ∷ drop (i + 1) xs
+pub rest_is : {A : Type 0} (xs : List A) (i : ℕ) (x : A) → i < length xs → get_or xs i x ≡ x → drop i xs ≡ x ∷ drop (i + 1) xs
 rest_is xs i x lt at = drop-cons xs i x lt ∙ ap (λ y. y ∷ drop (suc i) xs) at ∙ ap (λ k. x ∷ drop k xs) (sym (add-one i))
 
 pub next_expr : {t0 t1 t2 : Contents} (es : List Expr) (i : ℕ) (e : Expr) → i < length es → get_or es i e ≡ e
@@ -81,24 +83,43 @@ last_expr {t0} {t1} es i le before =
 
 -- ---- statements
 
+pub at_stmt : {a b : Contents} (s view : Stmt) (t : tree.Stmt) → s ≡ view → stmt_of view ≡ t → Gains a b (stmt_code t) → Gains a b (stmt_code (stmt_of s))
+at_stmt {a} {b} s view t is sees h = subst (λ c. Gains a b (stmt_code c)) (sym (ap stmt_of is ∙ sees)) h
+
+evaluate_is : (e : Expr) → stmt_of (Evaluate e) ≡ tree.Evaluate (expr_of e)
+evaluate_is e = ap stmt_of (sym (rolls-Evaluate e)) ∙ fold-roll-Stmt tree.Stmt stmt_step (Stmt-F.Evaluate e)
+
+assign_is : (x : String Global) (e : Expr) → stmt_of (Assign x e) ≡ tree.Assign (string_bytes x) (expr_of e)
+assign_is x e = ap stmt_of (sym (rolls-Assign x e)) ∙ fold-roll-Stmt tree.Stmt stmt_step (Stmt-F.Assign x e)
+
+augment_is : (x : String Global) (o : BinaryOperator) (e : Expr) → stmt_of (Augment x o e) ≡ tree.Augment (string_bytes x) (binary_of o) (expr_of e)
+augment_is x o e = ap stmt_of (sym (rolls-Augment x o e)) ∙ fold-roll-Stmt tree.Stmt stmt_step (Stmt-F.Augment x o e)
+
 pub evaluate_gains : {t0 t1 t2 : Contents} (e : Expr) (s : Stmt) → s ≡ Evaluate e → Gains t0 t1 (Code e) → Gains t1 t2 (machine.Discard ∷ []) → Gains t0 t2 (stmt_code (stmt_of s))
-evaluate_gains {t0} {t1} {t2} e s is h k = subst (λ s. Gains t0 t2 (stmt_code (stmt_of s))) (sym is) (Gains-append t0 t1 t2 _ _ h k)
+evaluate_gains {t0} {t1} {t2} e s is h k = at_stmt s (Evaluate e) (tree.Evaluate (expr_of e)) is (evaluate_is e) (Gains-append t0 t1 t2 _ _ h k)
 
 pub assign_gains : {t0 t1 t2 : Contents} (x : String Global) (e : Expr) (name : List ℕ) (s : Stmt) → s ≡ Assign x e → name ≡ string_bytes x → Gains t0 t1 (Code e) → Gains t1 t2 (machine.StoreGlobal name ∷ []) → Gains t0 t2 (stmt_code (stmt_of s))
 assign_gains {t0} {t1} {t2} x e name s is named h k =
-    subst (λ s. Gains t0 t2 (stmt_code (stmt_of s))) (sym is) (Gains-append t0 t1 t2 _ _ h (subst (λ y. Gains t1 t2 (machine.StoreGlobal y ∷ [])) named k))
+    at_stmt s (Assign x e) (tree.Assign (string_bytes x) (expr_of e)) is (assign_is x e)
+    (Gains-append t0 t1 t2 _ _ h (subst (λ y. Gains t1 t2 (machine.StoreGlobal y ∷ [])) named k))
+
+pub augment_gains : {t0 t1 t2 t3 t4 : Contents} (x : String Global) (o : BinaryOperator) (e : Expr) (read name : List ℕ) (s : Stmt) → s ≡ Augment x o e → read ≡ string_bytes x → name ≡ string_bytes x
+    → Gains t0 t1 (machine.LoadGlobal read ∷ []) → Gains t1 t2 (Code e) → Gains t2 t3 (machine.ApplyBinary (binary_of o) ∷ []) → Gains t3 t4 (machine.StoreGlobal name ∷ []) → Gains t0 t4 (stmt_code (stmt_of s))
+augment_gains {t0} {t1} {t2} {t3} {t4} x o e read name s is reads named h0 h1 h2 h3 =
+    let load = subst (λ y. Gains t0 t1 (machine.LoadGlobal y ∷ [])) reads h0 in
+    let store = subst (λ y. Gains t3 t4 (machine.StoreGlobal y ∷ [])) named h3 in
+    at_stmt s (Augment x o e) (tree.Augment (string_bytes x) (binary_of o) (expr_of e)) is (augment_is x o e)
+    (Gains-append t0 t1 t4 _ _ load (Gains-append t1 t2 t4 _ _ h1 (Gains-append t2 t3 t4 _ _ h2 store)))
 
 pub next_stmt : {t0 t1 t2 : Contents} (ss : List Stmt) (i : ℕ) (s : Stmt) → i < length ss → get_or ss i s ≡ s
-    → ((end : Contents) → Gains t1 end (module_code (body_of (drop i ss))) → Gains t0 end (module_code (body_of ss)))
+    → ((end : Contents) → Gains t1 end (stmts_code (body_of (drop i ss))) → Gains t0 end (stmts_code (body_of ss)))
     → Gains t1 t2 (stmt_code (stmt_of s))
-    → (end : Contents) → Gains t2 end (module_code (body_of (drop (i + 1) ss))) → Gains t0 end (module_code (body_of ss))
+    → (end : Contents) → Gains t2 end (stmts_code (body_of (drop (i + 1) ss))) → Gains t0 end (stmts_code (body_of ss))
 next_stmt {t0} {t1} {t2} ss i s lt at before here end rest =
-    let whole : module_code (body_of (drop i ss)) ≡ stmt_code (stmt_of s) ++ module_code (body_of (drop (i + 1) ss)) =
-    ap (λ l. module_code (body_of l)) (rest_is ss i s lt at) ∙ append_assoc (stmt_code (stmt_of s)) (stmts_code (body_of (drop (i + 1) ss))) (machine.Finish ∷ []) in
-    before end (subst (Gains t1 end) (sym whole) (Gains-append t1 t2 end _ _ here rest))
+    before end (subst (λ l. Gains t1 end (stmts_code (body_of l))) (sym (rest_is ss i s lt at)) (Gains-append t1 t2 end _ _ here rest))
 
-pub finish_gains : {t0 t1 t2 : Contents} (ss : List Stmt) (i : ℕ) → length ss ≤ i
-    → ((end : Contents) → Gains t1 end (module_code (body_of (drop i ss))) → Gains t0 end (module_code (body_of ss)))
-    → Gains t1 t2 (machine.Finish ∷ []) → Gains t0 t2 (module_code (body_of ss))
-finish_gains {t0} {t1} {t2} ss i le before last =
-    before t2 (subst (λ l. Gains t1 t2 (module_code (body_of l))) (sym (drop_all i ss le)) last)
+pub last_stmt : {t0 t1 : Contents} (ss : List Stmt) (i : ℕ) → length ss ≤ i
+    → ((end : Contents) → Gains t1 end (stmts_code (body_of (drop i ss))) → Gains t0 end (stmts_code (body_of ss)))
+    → Gains t0 t1 (stmts_code (body_of ss))
+last_stmt {t0} {t1} ss i le before =
+    before t1 (subst (λ l. Gains t1 t1 (stmts_code (body_of l))) (sym (drop_all i ss le)) (Gains-nil t1))

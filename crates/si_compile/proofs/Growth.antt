@@ -7,7 +7,7 @@ use Rattle.std.proofs.lemmas.List.{take-append-drop, length-take}
 use Rattle.std.proofs.lemmas.List.Elements.{All-weaker}
 use Rattle.std.proofs.Math.Seq.{take-append_seam}
 use Rattle.si_compile.specs.declared.instr.Instr.{Instr}
-use Rattle.si_compile.specs.declared.instr.Instr.TheVariants.{PushInt, PushLiteral, LoadGlobal, StoreGlobal, Unary, Binary, Call, Discard, Finish}
+use Rattle.si_compile.specs.declared.instr.Instr.TheVariants.{PushInt, PushNone, PushTruth, PushLiteral, LoadGlobal, StoreGlobal, Unary, Binary, Compare, KeepRight, EndChain, JumpOrDiscard, JumpIfFalse, Jump, EnterLoop, Break, Continue, Call, Discard, Finish}
 use Rattle.si_compile.specs.Contents.{Contents, IsSound, Resolves, Begins, Extends}
 use Rattle.si_compile.specs.Names.{with_name}
 
@@ -48,11 +48,22 @@ Extends-trans a b c h k = record {
 
 resolves_more : {l l' s s' : ℕ} → l ≤ l' → s ≤ s' → (i : Instr) → Resolves l s i → Resolves l' s' i
 resolves_more h k (PushInt n) r = r
+resolves_more h k PushNone r = r
+resolves_more h k (PushTruth b) r = r
 resolves_more h k (PushLiteral p) r = omega arith
 resolves_more h k (LoadGlobal p) r = omega arith
 resolves_more h k (StoreGlobal p) r = omega arith
 resolves_more h k (Unary o) r = r
 resolves_more h k (Binary o) r = r
+resolves_more h k (Compare o) r = r
+resolves_more h k KeepRight r = r
+resolves_more h k (EndChain n) r = r
+resolves_more h k (JumpOrDiscard o n) r = r
+resolves_more h k (JumpIfFalse n) r = r
+resolves_more h k (Jump n) r = r
+resolves_more h k (EnterLoop back ahead) r = r
+resolves_more h k Break r = r
+resolves_more h k Continue r = r
 resolves_more h k (Call n) r = r
 resolves_more h k Discard r = r
 resolves_more h k Finish r = r

@@ -10,4 +10,7 @@ pub mod Due
 pub mod Shown
 pub mod Interpreter
 pub mod Codes
+pub mod Jumped
 pub mod Emitted
+pub mod Branches
+pub mod Forms

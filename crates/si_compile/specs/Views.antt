@@ -1,11 +1,11 @@
 -- What the contents of a table stand for.
 use Rattle.std.specs.Prelude.{◌≡◌, ℕ, List, [], ◌++◌, Option, Some, None, map, fold, slice_index_or}
 use Rattle.std.specs.List.{filter_map}
-use Rattle.si_semantics.specs.Value.{Text, Int, Str}
+use Rattle.si_semantics.specs.Value.{Text, Nothing, Truth, Int, Str}
 use Rattle.si_semantics.specs.Machine as machine
-use Rattle.si_parse.specs.Trees.{binary_of, unary_of}
+use Rattle.si_parse.specs.Trees.{binary_of, unary_of, comparison_of, boolean_of}
 use Rattle.si_compile.specs.declared.instr.Instr.{Instr}
-use Rattle.si_compile.specs.declared.instr.Instr.TheVariants.{PushInt, PushLiteral, LoadGlobal, StoreGlobal, Unary, Binary, Call, Discard, Finish}
+use Rattle.si_compile.specs.declared.instr.Instr.TheVariants.{PushInt, PushNone, PushTruth, PushLiteral, LoadGlobal, StoreGlobal, Unary, Binary, Compare, KeepRight, EndChain, JumpOrDiscard, JumpIfFalse, Jump, EnterLoop, Break, Continue, Call, Discard, Finish}
 use Rattle.si_compile.specs.Contents.{Contents}
 use Rattle.si_compile.specs.Names.{with_name}
 
@@ -16,11 +16,22 @@ text_at texts place = slice_index_or texts place []
 -- an instruction, with the literals and the names that it speaks of
 abbrev pub instr_of : List Text → List Text → Instr → machine.Instr
 instr_of literals names (PushInt n) = machine.Push (Int n)
+instr_of literals names PushNone = machine.Push Nothing
+instr_of literals names (PushTruth b) = machine.Push (Truth b)
 instr_of literals names (PushLiteral place) = machine.Push (Str (text_at literals place))
 instr_of literals names (LoadGlobal slot) = machine.LoadGlobal (text_at names slot)
 instr_of literals names (StoreGlobal slot) = machine.StoreGlobal (text_at names slot)
 instr_of literals names (Unary o) = machine.ApplyUnary (unary_of o)
 instr_of literals names (Binary o) = machine.ApplyBinary (binary_of o)
+instr_of literals names (Compare o) = machine.ApplyComparison (comparison_of o)
+instr_of literals names KeepRight = machine.KeepRight
+instr_of literals names (EndChain n) = machine.EndChain n
+instr_of literals names (JumpOrDiscard o n) = machine.JumpOrDiscard (boolean_of o) n
+instr_of literals names (JumpIfFalse n) = machine.JumpIfFalse n
+instr_of literals names (Jump n) = machine.Jump n
+instr_of literals names (EnterLoop back ahead) = machine.EnterLoop back ahead
+instr_of literals names Break = machine.DoBreak
+instr_of literals names Continue = machine.DoContinue
 instr_of literals names (Call n) = machine.CallTop n
 instr_of literals names Discard = machine.Discard
 instr_of literals names Finish = machine.Finish

@@ -1,8 +1,10 @@
-use Rattle.std.proofs.Common.{drop, map}
-use Rattle.si_semantics.specs.Grammar.{exprs_of}
-use Rattle.si_parse.specs.Trees.{expr_of}
-use Rattle.si_compile.specs.Code.{exprs_code}
+use Rattle.std.proofs.Common.{ℕ, ◌≤◌, List, [], ◌∷◌, ◌++◌, drop, map, length}
+use Rattle.std.specs.List.{AllByRecursion}
+use Rattle.si_semantics.specs.Grammar.{exprs_of, chain_of}
+use Rattle.si_parse.specs.Trees.{expr_of, boolean_of}
+use Rattle.si_compile.specs.Code.{exprs_code, operands_code, chain_code}
 use Rattle.si_compile.specs.Contents.{Contents, Extends}
+use Rattle.si_compile.specs.Jumps.{Due, link_of}
 use Rattle.si_compile.specs.Views.{Gains}
 use Rattle.si_compile.proofs.emit.+exprs.Given as goal
 
@@ -10,5 +12,20 @@ use Rattle.si_compile.proofs.emit.+exprs.Given as goal
 abbrev pub invariant-emit_exprs-loop-expr : goal.invariant-emit_exprs-loop-expr
 invariant-emit_exprs-loop-expr l = record {
   gains : (end : Contents) → Gains l.table end (exprs_code (exprs_of (map expr_of (drop l.expr-index l.exprs)))) → Gains l.initial.table end (exprs_code (exprs_of (map expr_of l.exprs)));
+  extends : Extends l.initial.table l.table;
+}
+
+-- the jumps so far are due, whatever the rest makes due
+abbrev pub invariant-emit_operands-loop-operand : goal.invariant-emit_operands-loop-operand
+invariant-emit_operands-loop-operand l = record {
+  due : (end : Contents) (later : List ℕ) → Due l.table later (operands_code (boolean_of l.operator) (exprs_of (map expr_of (drop l.operand-index l.operands)))) end → Due l.initial.table (l.jumps.items ++ later) (operands_code (boolean_of l.operator) (exprs_of (map expr_of l.operands))) end;
+  behind : AllByRecursion (λ at. length l.initial.table.lines ≤ at) l.jumps.items;
+  extends : Extends l.initial.table l.table;
+}
+
+abbrev pub invariant-emit_chain-loop-operator : goal.invariant-emit_chain-loop-operator
+invariant-emit_chain-loop-operator l = record {
+  due : (end : Contents) (later : List ℕ) → Due l.table later (chain_code (chain_of (map link_of (drop l.operator-index l.others) ++ link_of (l.operator, l.last) ∷ []))) end → Due l.initial.table (l.jumps.items ++ later) (chain_code (chain_of (map link_of l.others ++ link_of (l.operator, l.last) ∷ []))) end;
+  behind : AllByRecursion (λ at. length l.initial.table.lines ≤ at) l.jumps.items;
   extends : Extends l.initial.table l.table;
 }

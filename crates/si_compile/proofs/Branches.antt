@@ -1,0 +1,174 @@
+-- What the code of parts with jumps between them gives is what the tree's code gives.
+use Rattle.std.proofs.Common.{◌≡◌, ℕ, ◌+◌, ◌-◌, ◌<◌, ◌≤◌, List, [], ◌∷◌, ◌++◌, map, length, drop, get_or, refl, sym, ap, subst, ◌∙◌, append_assoc, append-nil, length-append, arith}
+use Rattle.std.proofs.lemmas.List.{drop_all, map-append}
+use Rattle.si_semantics.specs.Tree as tree
+use Rattle.si_semantics.specs.Machine as machine
+use Rattle.si_semantics.specs.Grammar.{exprs_of, chain_of, elifs_of, Link, Branch}
+use Rattle.si_parse.specs.declared.syntax.ComparisonOperator.{ComparisonOperator}
+use Rattle.si_parse.specs.declared.syntax.Expr.{Expr}
+use Rattle.si_parse.specs.Trees.{expr_of}
+use Rattle.si_compile.specs.Code.{expr_code, operands_code, chain_code, branch_code, loop_code, stmts_code}
+use Rattle.std.specs.List.{AllByRecursion}
+use Rattle.si_compile.specs.Contents.{Contents, Extends}
+use Rattle.si_compile.specs.Jumps.{aimed, Due, Aims, AimsAll, branch_front, turn_code, link_of}
+use Rattle.si_compile.specs.Views.{Gains}
+use Rattle.si_compile.proofs.Codes.{Gains-nil, Gains-append}
+use Rattle.si_compile.proofs.Growth.{length-Begins}
+use Rattle.si_compile.proofs.Jumped.{length_gained, All-push, Due-nil, Due-before, Due-jump}
+use Rattle.si_compile.proofs.Emitted.{rest_is}
+
+-- ---- two ways
+
+-- a test, its code and the jump behind that, once the test's jump is aimed
+pub branch_gains : {t0 t1 t2 t3 t4 t5 : Contents} (test body : List machine.Instr) (skip : ℕ) → skip ≡ length t1.lines
+    → Gains t0 t1 test → Gains t1 t2 (machine.JumpIfFalse 0 ∷ []) → Gains t2 t3 body → Gains t3 t4 (machine.Jump 0 ∷ []) → Aims t4 skip t5
+    → Gains t0 t5 (branch_front test body ++ machine.Jump 0 ∷ [])
+branch_gains {t0} {t1} {t2} {t3} {t4} {t5} test body skip here h0 h1 h2 h3 aim =
+    let rest = body ++ machine.Jump 0 ∷ [] in
+    let all = Gains-append t0 t1 t4 test (machine.JumpIfFalse 0 ∷ rest) h0 (Gains-append t1 t2 t4 (machine.JumpIfFalse 0 ∷ []) rest h1 (Gains-append t2 t3 t4 body (machine.Jump 0 ∷ []) h2 h3)) in
+    let far : length rest ≡ length body + 1 = omega (arith, length-append body (machine.Jump 0 ∷ [])) in
+    let place : skip ≡ length t0.lines + length test = here ∙ length_gained h0 in
+    subst (Gains t0 t5) (ap (λ k. test ++ machine.JumpIfFalse k ∷ rest) far ∙ sym (append_assoc test (machine.JumpIfFalse (length body + 1) ∷ body) (machine.Jump 0 ∷ [])))
+    (aim t0 test rest (machine.JumpIfFalse 0) all place)
+
+-- how many lines there are behind that jump
+pub branch_at : {t0 t1 t2 t3 : Contents} (body : List machine.Instr) (end : ℕ) → Gains t0 t1 (machine.JumpIfFalse 0 ∷ []) → Gains t1 t2 body → end ≡ length t2.lines → Gains t0 t3 (branch_front [] body ++ machine.Jump 0 ∷ []) → end + 1 ≡ length t3.lines
+branch_at {t0} {t1} {t2} {t3} body end h k here all = omega (arith, length_gained h, length_gained k, length_gained all, length-append body (machine.Jump 0 ∷ []))
+
+-- a test in front
+pub tested_branch : {t0 t1 t2 : Contents} (test body : List machine.Instr) → Gains t0 t1 test → Gains t1 t2 (branch_front [] body ++ machine.Jump 0 ∷ []) → Gains t0 t2 (branch_front test body ++ machine.Jump 0 ∷ [])
+tested_branch {t0} {t1} {t2} test body h k =
+    subst (Gains t0 t2) (sym (append_assoc test (machine.JumpIfFalse (length body + 1) ∷ body) (machine.Jump 0 ∷ []))) (Gains-append t0 t1 t2 test (branch_front [] body ++ machine.Jump 0 ∷ []) h k)
+
+-- where the jump behind a test's code stands
+pub branch_place : {t0 t1 : Contents} (test body : List machine.Instr) (end : ℕ) → Gains t0 t1 (branch_front test body ++ machine.Jump 0 ∷ []) → end + 1 ≡ length t1.lines → end ≡ length t0.lines + length (branch_front test body)
+branch_place {t0} {t1} test body end h here = omega (arith, length_gained h, length-append (branch_front test body) (machine.Jump 0 ∷ []))
+
+-- the other code, and the jump to behind it
+pub branch_ends : {t0 t1 t2 t3 : Contents} (test body last : List machine.Instr) (end : ℕ) → end + 1 ≡ length t1.lines
+    → Gains t0 t1 (branch_front test body ++ machine.Jump 0 ∷ []) → Gains t1 t2 last → Aims t2 end t3
+    → Gains t0 t3 (branch_code test body last)
+branch_ends {t0} {t1} {t2} {t3} test body last end here h k aim =
+    let front = branch_front test body in
+    let all = subst (Gains t0 t2) (append_assoc front (machine.Jump 0 ∷ []) last) (Gains-append t0 t1 t2 (front ++ machine.Jump 0 ∷ []) last h k) in
+    subst (Gains t0 t3) (append_assoc test (machine.JumpIfFalse (length body + 1) ∷ body) (machine.Jump (length last) ∷ last))
+    (aim t0 front last (machine.Jump 0) all (branch_place test body end h here))
+
+-- ---- loops
+
+pub turn_gains : {t1 t2 t3 t4 t5 t6 t7 : Contents} (body : List machine.Instr) (start skip enter : ℕ) → start ≤ length t1.lines → skip ≡ length t1.lines → enter ≡ length t2.lines
+    → Gains t1 t2 (machine.JumpIfFalse 0 ∷ []) → Gains t2 t3 (machine.EnterLoop (length t2.lines + 1 - start) 0 ∷ []) → Gains t3 t4 body → Gains t4 t5 (machine.DoContinue ∷ []) → Aims t5 skip t6 → Aims t6 enter t7
+    → Gains t1 t7 (turn_code (length t1.lines - start + 2) body)
+turn_gains {t1} {t2} {t3} {t4} {t5} {t6} {t7} body start skip enter e0 e1 e2 h1 h2 h3 h4 aim_skip aim_enter =
+    let back = length t2.lines + 1 - start in
+    let turn = body ++ machine.DoContinue ∷ [] in
+    let inside = Gains-append t2 t3 t5 (machine.EnterLoop back 0 ∷ []) turn h2 (Gains-append t3 t4 t5 body (machine.DoContinue ∷ []) h3 h4) in
+    let all = Gains-append t1 t2 t5 (machine.JumpIfFalse 0 ∷ []) (machine.EnterLoop back 0 ∷ turn) h1 inside in
+    let skipped = length_gained h1 in
+    let turned : length turn ≡ length body + 1 = omega (arith, length-append body (machine.DoContinue ∷ [])) in
+    let far : length (machine.EnterLoop back 0 ∷ turn) ≡ length body + 2 = omega arith in
+    let first = machine.JumpIfFalse (length body + 2) in
+    let here : skip ≡ length t1.lines + 0 = omega arith in
+    let once = subst (Gains t1 t6) (ap (λ k. machine.JumpIfFalse k ∷ (machine.EnterLoop back 0 ∷ turn)) far) (aim_skip t1 [] (machine.EnterLoop back 0 ∷ turn) (machine.JumpIfFalse 0) all here) in
+    let place : enter ≡ length t1.lines + 1 = omega arith in
+    let twice = aim_enter t1 (first ∷ []) turn (machine.EnterLoop back 0) once place in
+    let backed : back ≡ length t1.lines - start + 2 = omega arith in
+    subst (Gains t1 t7) (ap (λ k. first ∷ (machine.EnterLoop k (length turn) ∷ turn)) backed ∙ ap (λ k. first ∷ (machine.EnterLoop (length t1.lines - start + 2) k ∷ turn)) turned) twice
+
+-- a loop's test, and what follows it
+pub loop_gains : {t0 t1 t2 : Contents} (test body : List machine.Instr) (start : ℕ) → start ≡ length t0.lines → Gains t0 t1 test → Gains t1 t2 (turn_code (length t1.lines - start + 2) body) → Gains t0 t2 (loop_code test body [])
+loop_gains {t0} {t1} {t2} test body start here h k =
+    let back : length t1.lines - start + 2 ≡ length test + 2 = omega (arith, length_gained h) in
+    let far : length body + 1 ≡ length body + 1 + 0 = omega arith in
+    subst (Gains t0 t2) (ap (λ n. test ++ turn_code n body) back ∙ ap (λ n. test ++ (machine.JumpIfFalse (length body + 2) ∷ (machine.EnterLoop (length test + 2) n ∷ (body ++ (machine.DoContinue ∷ []))))) far)
+    (Gains-append t0 t1 t2 test (turn_code (length t1.lines - start + 2) body) h k)
+
+-- ---- `and` and `or`
+
+abbrev pub Operands : tree.BooleanOperator → List Expr → List machine.Instr
+Operands o es = operands_code o (exprs_of (map expr_of es))
+
+-- whatever is due behind, with these jumps it makes all
+abbrev pub MakesAll : Contents → List ℕ → List machine.Instr → Contents → List machine.Instr → Type 0
+MakesAll t0 jumps all t1 rest = (end : Contents) (later : List ℕ) → Due t1 later rest end → Due t0 (jumps ++ later) all end
+
+pub MakesAll-nil : (t : Contents) (all : List machine.Instr) (jumps : List ℕ) → jumps ≡ [] → MakesAll t jumps all t all
+MakesAll-nil t all jumps none end later d = subst (λ js. Due t (js ++ later) all end) (sym none) d
+
+pub MakesAll-step : {t0 t1 t2 : Contents} (jumps more : List ℕ) (all rest others : List machine.Instr) (at : ℕ) → more ≡ jumps ++ at ∷ [] → ((end : Contents) (later : List ℕ) → Due t2 later others end → Due t1 (at ∷ later) rest end) → MakesAll t0 jumps all t1 rest → MakesAll t0 more all t2 others
+MakesAll-step {t0} {t1} {t2} jumps more all rest others at push step before end later d =
+    subst (λ js. Due t0 js all end) (sym (ap (λ js. js ++ later) push ∙ append_assoc jumps (at ∷ []) later)) (before end (at ∷ later) (step end later d))
+
+pub MakesAll-end : {t0 t1 t2 : Contents} (jumps : List ℕ) (all rest : List machine.Instr) → MakesAll t0 jumps all t1 rest → Gains t1 t2 rest → Due t0 jumps all t2
+MakesAll-end {t0} {t1} {t2} jumps all rest before h = subst (λ js. Due t0 js all t2) (append-nil jumps) (before t2 [] (Due-nil h))
+
+-- one jump more stands behind what stood in front
+pub behind_more : {t0 t1 : Contents} {more : List ℕ} (jumps : List ℕ) (at : ℕ) → more ≡ jumps ++ at ∷ [] → at ≡ length t1.lines → Extends t0 t1 → AllByRecursion (λ k. length t0.lines ≤ k) jumps → AllByRecursion (λ k. length t0.lines ≤ k) more
+behind_more {t0} {t1} {more} jumps at push here before all =
+    let behind : length t0.lines ≤ at = omega (arith, length-Begins t0.lines t1.lines before.lines) in
+    subst (AllByRecursion (λ k. length t0.lines ≤ k)) (sym push) (All-push (length t0.lines) jumps at all behind)
+
+-- the jumps that were due are aimed
+pub all_aimed : {t0 t1 t2 : Contents} {jumps seen : List ℕ} {all : List machine.Instr} → seen ≡ jumps → Due t0 jumps all t1 → AimsAll t1 seen t2 → Gains t0 t2 all
+all_aimed {t0} {t1} {t2} {jumps} {seen} {all} same d aims = aims t0 all (subst (λ js. Due t0 js all t1) (sym same) d)
+
+pub operand_due : {t1 t2 t3 : Contents} (o : tree.BooleanOperator) (es : List Expr) (i : ℕ) (e : Expr) (at : ℕ) → i < length es → get_or es i e ≡ e → at ≡ length t1.lines
+    → Gains t1 t2 (machine.JumpOrDiscard o 0 ∷ []) → Gains t2 t3 (expr_code (expr_of e))
+    → (end : Contents) (later : List ℕ) → Due t3 later (Operands o (drop (i + 1) es)) end → Due t1 (at ∷ later) (Operands o (drop i es)) end
+operand_due {t1} {t2} {t3} o es i e at lt is here h k end later d =
+    let place : at ≡ length t1.lines + 0 = omega arith in
+    subst (λ l. Due t1 (at ∷ later) (Operands o l) end) (sym (rest_is es i e lt is))
+    (Due-jump [] (expr_code (expr_of e) ++ Operands o (drop (i + 1) es)) (machine.JumpOrDiscard o 0) h place (Due-before (expr_code (expr_of e)) (Operands o (drop (i + 1) es)) k d))
+
+pub operands_end : {t0 t1 : Contents} (o : tree.BooleanOperator) (es : List Expr) (i : ℕ) (jumps : List ℕ) → length es ≤ i → MakesAll t0 jumps (Operands o es) t1 (Operands o (drop i es)) → Due t0 jumps (Operands o es) t1
+operands_end {t0} {t1} o es i jumps le before =
+    MakesAll-end jumps (Operands o es) (Operands o (drop i es)) before (subst (λ l. Gains t1 t1 (Operands o l)) (sym (drop_all i es le)) (Gains-nil t1))
+
+-- ---- chains of comparisons
+
+abbrev pub Linked : Type 0
+Linked = ComparisonOperator × Expr
+
+abbrev pub Chain : List Linked → Linked → List machine.Instr
+Chain links last = chain_code (chain_of (map link_of links ++ link_of last ∷ []))
+
+-- a comparison and its operand, with more of the chain behind it
+abbrev link_front : Link → List machine.Instr
+link_front l = expr_code l.1 ++ (machine.KeepRight ∷ (machine.ApplyComparison l.0 ∷ []))
+
+chain_more : (l : Link) (ls : List Link) (last : Link) → chain_code (chain_of (l ∷ (ls ++ last ∷ []))) ≡ link_front l ++ machine.EndChain (length (chain_code (chain_of (ls ++ last ∷ [])))) ∷ chain_code (chain_of (ls ++ last ∷ []))
+chain_more l [] last = sym (append_assoc (expr_code l.1) (machine.KeepRight ∷ (machine.ApplyComparison l.0 ∷ [])) (machine.EndChain (length (chain_code (chain_of (last ∷ [])))) ∷ chain_code (chain_of (last ∷ []))))
+chain_more l (m ∷ ls) last = sym (append_assoc (expr_code l.1) (machine.KeepRight ∷ (machine.ApplyComparison l.0 ∷ [])) (machine.EndChain (length (chain_code (chain_of (m ∷ (ls ++ last ∷ []))))) ∷ chain_code (chain_of (m ∷ (ls ++ last ∷ [])))))
+
+pub link_due : {t1 t2 t3 t4 t5 : Contents} (links : List Linked) (last : Linked) (i : ℕ) (l : Linked) (at : ℕ) → i < length links → get_or links i l ≡ l → at ≡ length t4.lines
+    → Gains t1 t2 (expr_code (link_of l).1) → Gains t2 t3 (machine.KeepRight ∷ []) → Gains t3 t4 (machine.ApplyComparison (link_of l).0 ∷ []) → Gains t4 t5 (machine.EndChain 0 ∷ [])
+    → (end : Contents) (later : List ℕ) → Due t5 later (Chain (drop (i + 1) links) last) end → Due t1 (at ∷ later) (Chain (drop i links) last) end
+link_due {t1} {t2} {t3} {t4} {t5} links last i l at lt is here h0 h1 h2 h3 end later d =
+    let front = Gains-append t1 t2 t4 (expr_code (link_of l).1) (machine.KeepRight ∷ (machine.ApplyComparison (link_of l).0 ∷ [])) h0 (Gains-append t2 t3 t4 (machine.KeepRight ∷ []) (machine.ApplyComparison (link_of l).0 ∷ []) h1 h2) in
+    let rest = Chain (drop (i + 1) links) last in
+    subst (λ c. Due t1 (at ∷ later) c end) (sym (ap (λ ls. Chain ls last) (rest_is links i l lt is) ∙ chain_more (link_of l) (map link_of (drop (i + 1) links)) (link_of last)))
+    (Due-jump (link_front (link_of l)) rest (machine.EndChain 0) (Gains-append t1 t4 t5 (link_front (link_of l)) (machine.EndChain 0 ∷ []) front h3) (here ∙ length_gained front) d)
+
+pub chain_end : {t0 t1 t2 t3 : Contents} (links : List Linked) (last : Linked) (i : ℕ) (jumps : List ℕ) → length links ≤ i → MakesAll t0 jumps (Chain links last) t1 (Chain (drop i links) last)
+    → Gains t1 t2 (expr_code (link_of last).1) → Gains t2 t3 (machine.ApplyComparison (link_of last).0 ∷ []) → Due t0 jumps (Chain links last) t3
+chain_end {t0} {t1} {t2} {t3} links last i jumps le before h k =
+    MakesAll-end jumps (Chain links last) (Chain (drop i links) last) before
+    (subst (λ ls. Gains t1 t3 (Chain ls last)) (sym (drop_all i links le)) (Gains-append t1 t2 t3 (expr_code (link_of last).1) (machine.ApplyComparison (link_of last).0 ∷ []) h k))
+
+-- the last link stands behind the others
+pub chain_all : (all links : List Linked) (last : Linked) → all ≡ links ++ last ∷ [] → chain_code (chain_of (map link_of all)) ≡ Chain links last
+chain_all all links last is = ap (λ ls. chain_code (chain_of (map link_of ls))) is ∙ ap (λ ls. chain_code (chain_of ls)) (map-append link_of links (last ∷ []))
+
+-- ---- `elif`
+
+abbrev pub Elifs : List Branch → tree.Stmts → List machine.Instr
+Elifs branches last = stmts_code (elifs_of branches last)
+
+pub elif_due : {t1 t2 : Contents} (b : Branch) (more : List Branch) (last : tree.Stmts) (at : ℕ) → at + 1 ≡ length t2.lines
+    → Gains t1 t2 (branch_front (expr_code b.0) (stmts_code b.1) ++ machine.Jump 0 ∷ [])
+    → (end : Contents) (later : List ℕ) → Due t2 later (Elifs more last) end → Due t1 (at ∷ later) (Elifs (b ∷ more) last) end
+elif_due {t1} {t2} b more last at here h end later d =
+    let test = expr_code b.0 in let body = stmts_code b.1 in let rest = Elifs more last in
+    let same : branch_front test body ++ machine.Jump (length rest) ∷ rest ≡ Elifs (b ∷ more) last =
+    append_assoc test (machine.JumpIfFalse (length body + 1) ∷ body) (machine.Jump (length rest) ∷ rest) ∙ sym (append-nil (branch_code test body rest)) in
+    subst (λ c. Due t1 (at ∷ later) c end) same (Due-jump (branch_front test body) rest (machine.Jump 0) h (branch_place test body at h here) d)
