@@ -1,8 +1,9 @@
 -- What a run knows as it begins.
-use Rattle.std.proofs.Common.{◌≡◌, ◌≢◌, ℕ, zero, suc, ◌+◌, ◌<◌, List, [], ◌∷◌, ◌++◌, length, map, take, Option, Some, None, All, Bool, true, false, cond, refl, sym, ap, subst, ◌∙◌, arith, length-append}
+use Rattle.std.proofs.Common.{◌≡◌, ℕ, zero, suc, ◌+◌, ◌<◌, List, [], ◌∷◌, ◌++◌, length, map, take, Option, Some, None, All, Bool, true, false, cond, refl, sym, ap, subst, ◌∙◌, arith, length-append}
 use Rattle.std.specs.Prelude.{codes, slice_get}
 use mathlib.Core.Path.{fun_ext}
 use Rattle.std.proofs.Math.Seq.{take-append_seam, get_or-append_seam}
+use Rattle.std.proofs.lemmas.List.{map-append}
 use Rattle.std.proofs.lemmas.List.Elements.{All-nil, All-cons}
 use Rattle.si_semantics.specs.Value as pure
 use Rattle.si_semantics.specs.Text.{same_text}
@@ -23,8 +24,16 @@ take_suc [] k x e = cc
 take_suc (y ∷ ys) zero x e = let same : y ≡ x = cc in ap (λ z. z ∷ []) same
 take_suc (y ∷ ys) (suc k) x e = ap (λ l. y ∷ l) (take_suc ys k x e)
 
-pub take_next : {A : Type 0} (xs : List A) (k : ℕ) (x : A) → slice_get xs k ≡ Some x → take (k + 1) xs ≡ take k xs ++ x ∷ []
-take_next xs k x e = let n : k + 1 ≡ suc k = omega arith in ap (λ m. take m xs) n ∙ take_suc xs k x e
+-- one name more has its global
+pub next_global : (main k : ℕ) (names : List pure.Text) (x : pure.Text) (old new : List Global) (g : Global) → new ≡ old ++ g ∷ [] → old ≡ map (first_of main) (take k names) → g ≡ first_of main x → slice_get names k ≡ Some x → new ≡ map (first_of main) (take (k + 1) names)
+next_global main k names x old new g e h f at =
+    let n : k + 1 ≡ suc k = omega arith in
+    e
+    ∙ ap (λ gs. gs ++ g ∷ []) h
+    ∙ ap (λ y. map (first_of main) (take k names) ++ y ∷ []) f
+    ∙ sym (map-append (first_of main) (take k names) (x ∷ []))
+    ∙ ap (map (first_of main)) (sym (take_suc names k x at))
+    ∙ ap (λ m. map (first_of main) (take m names)) (sym n)
 
 -- the state of a global, by what its name is
 by_name : (P : Global → Type 0) (place : ℕ) (a b : Bool) → ((a ≡ true) → P (Bound (value.Str place))) → ((b ≡ true) → P (Provided Print)) → ((b ≡ false) → P Unbound) → P (cond a (Bound (value.Str place)) (cond b (Provided Print) Unbound))
@@ -49,33 +58,30 @@ firsts_suit : (place : ℕ) (names : List pure.Text) → AllSuit names (map (fir
 firsts_suit place [] = tt
 firsts_suit place (x ∷ names) = (first_suits place x, firsts_suit place names)
 
+abbrev main_if : Bool → Option pure.Value
+main_if b = cond b (Some (pure.Str (codes "__main__"))) None
+
+unbound_cell : (texts : List pure.Text) (b : Bool) → cell_of texts (cond b (Provided Print) Unbound) ≡ None
+unbound_cell texts true = refl
+unbound_cell texts false = refl
+
 -- `__name__` is bound, and every other name is not
 first_cell : (texts : List pure.Text) (place : ℕ) (x : pure.Text) → text_at texts place ≡ codes "__main__" → cell_of texts (first_of place x) ≡ first_world.globals x
 first_cell texts place x t = pick (same_text x (codes "__name__")) (same_text x (codes "print")) refl
   where
-    first : Bool → Option pure.Value
-    first b = cond b (Some (pure.Str (codes "__main__"))) None
-
     pick : (a b : Bool) → same_text x (codes "__name__") ≡ a → cell_of texts (cond a (Bound (value.Str place)) (cond b (Provided Print) Unbound)) ≡ first_world.globals x
-    pick true b e = ap (λ s. Some (pure.Str s)) t ∙ ap first (sym (ap (same_text (codes "__name__")) (same_is x (codes "__name__") e) ∙ same_self (codes "__name__")))
+    pick true b e = ap (λ s. Some (pure.Str s)) t ∙ ap main_if (sym (ap (same_text (codes "__name__")) (same_is x (codes "__name__") e) ∙ same_self (codes "__name__")))
     pick false b e =
         let other : same_text (codes "__name__") x ≡ false = other_is (codes "__name__") x (λ s. let two : true ≡ false = sym (same_self x) ∙ ap (same_text x) (sym s) ∙ e in cc) in
-        rest b ∙ ap first (sym other)
-
-    rest : (b : Bool) → cell_of texts (cond b (Provided Print) Unbound) ≡ None
-    rest true = refl
-    rest false = refl
+        unbound_cell texts b ∙ ap main_if (sym other)
 
 first_values : (texts : List pure.Text) (place : ℕ) (names : List pure.Text) (y : pure.Text) → text_at texts place ≡ codes "__main__" → globals_of names (map (cell_of texts) (map (first_of place) names)) y ≡ first_world.globals y
 first_values texts place [] y t = refl
-first_values texts place (x ∷ names) y t = pick (same_text x y) refl
+first_values texts place (x ∷ names) y t = pick (same_text x y) refl (first_values texts place names y t)
   where
-    others : Option pure.Value
-    others = globals_of names (map (cell_of texts) (map (first_of place) names)) y
-
-    pick : (b : Bool) → same_text x y ≡ b → cond b (cell_of texts (first_of place x)) others ≡ first_world.globals y
-    pick true e = first_cell texts place x t ∙ ap first_world.globals (same_is x y e)
-    pick false e = first_values texts place names y t
+    pick : (b : Bool) → same_text x y ≡ b → globals_of names (map (cell_of texts) (map (first_of place) names)) y ≡ first_world.globals y → cond b (cell_of texts (first_of place x)) (globals_of names (map (cell_of texts) (map (first_of place) names)) y) ≡ first_world.globals y
+    pick true e h = first_cell texts place x t ∙ ap first_world.globals (same_is x y e)
+    pick false e h = h
 
 -- with the text `__main__` behind the literals
 pub all_known : (table : Contents) (texts : List pure.Text) (globals : List Global) → texts ≡ table.literals ++ codes "__main__" ∷ [] → globals ≡ map (first_of (length table.literals)) table.names → IsKnown table texts globals

@@ -2,3 +2,4 @@ pub mod Tops
 pub mod Strings
 pub mod Lines
 pub mod Begun
+pub mod Kept

@@ -1,5 +1,5 @@
 -- What a step prints, and which line it does.
-use Rattle.std.proofs.Common.{◌≡◌, ◌≢◌, ℕ, zero, suc, ◌+◌, ◌<◌, ◌≤◌, List, [], ◌∷◌, ◌++◌, length, map, take, drop, get_or, Option, Some, None, All, AllPairs, string_bytes, refl, sym, ap, subst, ◌∙◌, inl, arith, append-nil, length-append, Bool, true, false, ◌&&◌, cond, eq-eqb, eqb-true, slice_get, slice_set, nat_eq, nat_lt, Ok}
+use Rattle.std.proofs.Common.{◌≡◌, ◌≢◌, ℕ, zero, suc, ◌+◌, ◌<◌, ◌≤◌, List, [], ◌∷◌, ◌++◌, length, map, take, drop, get_or, Option, Some, None, All, AllPairs, string_bytes, refl, sym, ap, subst, ◌∙◌, arith, append-nil, length-append, Bool, true, false, cond, slice_get, slice_set, nat_lt, Ok}
 use mathlib.Core.Path.{fun_ext}
 use Rattle.std.proofs.lemmas.List.{get_or_append_left, get_or-take, take-append-le, length-take}
 use Rattle.std.proofs.lemmas.Option.{slice_get_within, slice_get-get_or, get_or_from_slice_get}

@@ -11,7 +11,6 @@ use Rattle.si_machine.specs.declared.cause.Cause.{Cause}
 use Rattle.si_machine.specs.declared.state.Standing.{Standing}
 use Rattle.si_machine.specs.declared.state.Standing.TheVariants as standing
 use Rattle.si_machine.specs.declared.state.State.{State}
-use Rattle.si_machine.specs.declared.step.Outcome.{Outcome}
 use Rattle.si_machine.specs.declared.step.Outcome.TheVariants.{Returned, Raised}
 use Rattle.si_machine.specs.declared.step.Step.{Step}
 use Rattle.si_machine.specs.declared.step.Step.TheVariants.{Local, Ended, Starved}

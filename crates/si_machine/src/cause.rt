@@ -59,6 +59,7 @@ impl Cause {
         match self {
             Cause::Arithmetic(Kind::ZeroDivisionError) => ascii(alloc, "division by zero"),
             Cause::Arithmetic(Kind::OverflowError) => ascii(alloc, "integer out of range"),
+            Cause::Arithmetic(Kind::ValueError) => ascii(alloc, "wrong value"),
             Cause::Arithmetic(_) => ascii(alloc, "wrong type"),
             Cause::TooLong => ascii(alloc, "too long"),
             Cause::WrongType => ascii(alloc, "wrong type"),

@@ -1,12 +1,10 @@
 use Rattle.std.proofs.Common.{◌+◌, ◌∷◌, ◌++◌, drop, ap, ◌∙◌, refl}
-use Rattle.si_semantics.specs.Machine as machine
 use Rattle.si_machine.specs.declared.state.State.{State}
 use Rattle.si_machine.specs.declared.value.Value.TheVariants as value
 use Rattle.si_machine.proofs.Lines.{call_raises, print_did, only_print}
 use Rattle.std.specs.Prelude.{encode_utf8_all, map}
 use Rattle.si_semantics.specs.Text.{line_of as text_line}
 use Rattle.si_machine.specs.Values.{value_of}
-use Rattle.si_machine.specs.States.{line_of}
 use Rattle.si_machine.proofs.state.State.call.Goals as goal
 
 pub returns-in-Some-None-default : goal.returns-in-Some-None-default

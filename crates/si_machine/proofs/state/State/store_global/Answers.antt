@@ -2,7 +2,7 @@ use Rattle.std.proofs.Common.{◌+◌, sym, ap, ◌∙◌, arith}
 use Rattle.si_compile.specs.Views.{text_at}
 use Rattle.si_semantics.specs.Machine as machine
 use Rattle.si_machine.specs.declared.state.State.{State}
-use Rattle.si_machine.proofs.Lines.{local, store_did, slot_there}
+use Rattle.si_machine.proofs.Lines.{local, store_did, store_lacks, slot_there}
 use Rattle.si_machine.specs.States.{line_of}
 use Rattle.si_machine.proofs.state.State.store_global.Goals as goal
 
@@ -18,4 +18,7 @@ returns c =
     (is ∙ ap (λ g. let s : State = record old { pc = old.pc + 1; operands = c.pop.new.self; globals = g } in s) (sym (ap (λ (s : State). s.globals) is))))
 
 pub unreachable-requires : goal.unreachable-requires
-unreachable-requires c = ?
+unreachable-requires c = store_lacks (text_at c.args.self.now.table.names c.args.slot) c.args.self.now c.in_default.ensures.0 c.requires.open_line
+
+pub index_mut-requires : goal.index_mut-requires
+index_mut-requires c = let lt = slot_there c.args.self.now c.args.slot c.requires.ready.sound c.requires.slot in omega (arith, lt, c.args.self.now.globals.ok.0)

@@ -1,0 +1,163 @@
+-- What holds of a machine, call after call.
+use Rattle.std.proofs.Common.{◌≡◌, ℕ, zero, suc, List, [], ◌++◌, length, take, All, Option, Some, None, true, string_bytes, refl, sym, ap, subst, ◌∙◌, append-nil}
+use Rattle.std.specs.Prelude.{encode_utf8_all}
+use Rattle.si_semantics.specs.Value as pure
+use Rattle.si_semantics.specs.World.{World, first_world}
+use Rattle.si_semantics.specs.Life.{Take}
+use Rattle.si_semantics.specs.Machine.{Place, At, Calling, Taking, Ending, Closed, Line, Table, Course, stamped, after, on, next, course}
+use Rattle.si_semantics.specs.Shows.{texts, joined, standing_of}
+use Rattle.si_semantics.proofs.Courses.{stays, fixed}
+use Rattle.si_compile.specs.Code.{compiled}
+use Rattle.si_compile.specs.Correct.{NeverCloses, run_at}
+use Rattle.si_compile.specs.Views.{table_of}
+use Rattle.si_compile.proofs.Opened.{stays_open}
+use Rattle.si_machine.specs.declared.state.Standing.TheVariants as standing
+use Rattle.si_machine.specs.declared.state.State.{State}
+use Rattle.si_machine.specs.declared.step.Step.{Step}
+use Rattle.si_machine.specs.declared.step.Step.TheVariants.{Local, Ended, Starved}
+use Rattle.std.proofs.lemmas.List.Elements.{All-nil}
+use Rattle.si_compile.specs.Contents.{no_code}
+use Rattle.si_machine.specs.Values.{Fits, FitsGlobal, AllSuit}
+use Rattle.si_machine.specs.Outcomes.{outcome_of}
+use Rattle.si_machine.specs.Machines.{Seen, moment_of, from_here, Stands, IsEntry, IsAt, printed_of, Steps}
+use Rattle.si_machine.specs.States.{IsSound, IsKept, IsOpen, Moves, Did, bytes_of, is_starved, place_in, place_of, operands_of, world_of, next_line, seen}
+
+-- ---- courses
+
+-- what a course does doesn't depend on its count of lines, nor on what it has printed
+next_alike : (p : Place) (c : Course) → from_here (on compiled p [] c) ≡ from_here (on compiled p [] (from_here c))
+next_alike (At pc ops slots bs) c = refl
+next_alike (Calling r pc ops slots bs) c = refl
+next_alike Taking c = refl
+next_alike (Ending o) c = refl
+next_alike Closed c = refl
+
+-- without answers it goes on without
+next_none : (p : Place) (c : Course) → c.answers ≡ [] → (on compiled p [] c).answers ≡ []
+next_none (At pc ops slots bs) c e = e
+next_none (Calling r pc ops slots bs) c e = e
+next_none Taking c e = e
+next_none (Ending o) c e = e
+next_none Closed c e = e
+
+unanswered : (c : Course) → c.answers ≡ [] → next compiled c ≡ on compiled c.place [] c
+unanswered c e = ap (λ l. on compiled c.place l c) e
+
+next_from_here : (c : Course) → c.answers ≡ [] → from_here (next compiled c) ≡ from_here (next compiled (from_here c))
+next_from_here c e = ap from_here (unanswered c e) ∙ next_alike c.place c ∙ ap from_here (sym (unanswered (from_here c) e))
+
+still_unanswered : (c : Course) → c.answers ≡ [] → (next compiled c).answers ≡ []
+still_unanswered c e = ap (λ d. d.answers) (unanswered c e) ∙ next_none c.place c e
+
+course_alike : (n : ℕ) (c d : Course) → c.answers ≡ [] → from_here c ≡ from_here d → from_here (course compiled n c) ≡ from_here (course compiled n d)
+course_alike zero c d e h = h
+course_alike (suc n) c d e h =
+    let f : d.answers ≡ [] = sym (ap (λ x. x.answers) h) ∙ e in
+    course_alike n (next compiled c) (next compiled d) (still_unanswered c e) (next_from_here c e ∙ ap (λ x. from_here (next compiled x)) h ∙ sym (next_from_here d f))
+
+-- a course that never closes doesn't from a later moment on
+never_later : (c : Course) → c.answers ≡ [] → NeverCloses c → NeverCloses (from_here (next compiled c))
+never_later c e h n k =
+    let d = next compiled c in
+    h (suc n) (ap (λ x. x.place) (course_alike n d (from_here d) (still_unanswered c e) refl) ∙ k)
+
+-- a course that waits for a text and is given none
+never_taking : (c : Course) → c.answers ≡ [] → c.place ≡ Taking → NeverCloses c
+never_taking c e p n k =
+    let st = fixed compiled (Some Take) c e (ap (λ x. standing_of x) p) in
+    let two : Taking ≡ Closed = sym p ∙ ap (λ x. x.place) (sym (stays compiled n c st)) ∙ k in
+    cc
+
+-- ---- states
+
+-- the next line of a machine's course
+line_is : (s : State) → s.standing ≡ standing.Running → next compiled (moment_of (seen s)) ≡ after (next_line s) (moment_of (seen s))
+line_is s run = ap (λ st. on compiled (place_in st s.pc (operands_of s)) [] (moment_of (seen s))) run
+
+-- it leads on
+pub open_next : (s : State) → IsKept s → s.standing ≡ standing.Running → IsOpen (next_line s)
+open_next s h run e = h.never 1 (ap (λ c. c.place) (line_is s run) ∙ e)
+
+sound_starved : (old new : State) → IsSound old → new ≡ record old { standing = standing.Starved; line = new.line; printed = new.printed } → IsSound new
+sound_starved old new h e = subst IsSound (sym e) (record { operands = h.operands; globals = h.globals; literals = h.literals; slots = h.slots })
+
+-- a course whose next line led to a place, with its world
+moment_next : (l : Line) (p : Place) (old new : State) → Moves l p old new → from_here (record (after l (moment_of (seen old))) { place = place_of new }) ≡ moment_of (seen new)
+moment_next l p old new m =
+    let make : Table → World → Course = λ t w. record { table = t; place = place_of new; world = w; answers = []; lines = 0; printed = [] } in
+    ap (λ w. make (table_of old.table) w) m.world ∙ ap (λ t. make (table_of t) (world_of new)) (sym m.code)
+
+-- what a line has printed
+bytes_printed : (o : Option pure.Text) (n : ℕ) → encode_utf8_all (joined (texts (stamped o n []))) ≡ bytes_of o
+bytes_printed None n = refl
+bytes_printed (Some t) n = ap encode_utf8_all (append-nil t)
+
+starved_seen : (old new : State) → old.standing ≡ standing.Running → Did (next_line old) old new Starved → seen new ≡ record (seen old) { starved = true }
+starved_seen old new run did =
+    let make : Place → List ℕ → Seen = λ p b. record (seen old) { place = p; printed = b; starved = true } in
+    ap seen did.0
+    ∙ ap (make (At old.pc (operands_of old) [] [])) did.1
+    ∙ ap (λ st. make (place_in st old.pc (operands_of old)) (string_bytes old.printed)) (sym run)
+
+-- a machine that is idle waits
+idle_waits : (s : State) → s.standing ≡ standing.Idle → place_of s ≡ Taking
+idle_waits s e = ap (λ st. place_in st s.pc (operands_of s)) e
+
+-- what a step has done, as it is seen
+pub steps_seen : (old new : State) (r : Step) → old.standing ≡ standing.Running → Did (next_line old) old new r → Steps (seen old) (seen new) r
+steps_seen old new Local run did =
+    let m = moment_of (seen old) in
+    let l = next_line old in (
+      record {
+        moment = sym (ap from_here (line_is old run) ∙ ap (λ p. from_here (record (after l m) { place = p })) did.0.place ∙ moment_next l (place_of new) old new did.0);
+        printed = did.0.printed ∙ ap (λ b. string_bytes old.printed ++ b) (sym (bytes_printed l.out 1) ∙ ap printed_of (sym (line_is old run)));
+        fed = ap is_starved did.1;
+      },
+      subst (λ st. IsAt (place_in st new.pc (operands_of new))) (sym did.1) tt,
+    )
+steps_seen old new (Ended o) run did =
+    let m = moment_of (seen old) in
+    let l = next_line old in (
+      ap (λ c. c.place) (line_is old run) ∙ did.0.place,
+      record {
+        moment = sym (
+            ap (λ (c : Course). from_here (record c { place = Taking })) (line_is old run)
+            ∙ ap (λ p. from_here (record (after l m) { place = p })) (sym (idle_waits new did.1))
+            ∙ moment_next l (Ending (outcome_of o)) old new did.0
+            );
+        printed = did.2;
+        fed = ap is_starved did.1;
+      },
+    )
+steps_seen old new Starved run did = starved_seen old new run did
+
+-- what holds of a machine holds after a step
+pub keeps : (old new : State) (r : Step) → IsKept old → old.standing ≡ standing.Running → Did (next_line old) old new r → IsKept new
+keeps old new Local h run did = record {
+  sound = did.0.sound;
+  never = subst NeverCloses (sym (steps_seen old new Local run did).0.moment) (never_later (moment_of (seen old)) refl h.never);
+}
+keeps old new (Ended o) h run did = record { sound = did.0.sound; never = never_taking (moment_of (seen new)) refl (idle_waits new did.1) }
+keeps old new Starved h run did = record {
+  sound = sound_starved old new h.sound did.0;
+  never = subst (λ s. NeverCloses (moment_of s)) (sym (starved_seen old new run did)) h.never;
+}
+
+-- it holds as a run begins
+pub begun_kept : (entry : Table × ℕ) (s : State) → IsSound s → IsEntry entry → Stands (seen s) (run_at entry first_world) [] → IsKept s
+begun_kept entry s h e st = record {
+  sound = h;
+  never = subst NeverCloses (sym st.moment) (subst (λ x. NeverCloses (run_at x first_world)) (sym e.2) (stays_open e.0 e.1 first_world));
+}
+
+-- and of a machine without code
+pub blank_kept : (s : State) → s.standing ≡ standing.Idle → s.table ≡ no_code → s.operands ≡ [] → s.globals.items ≡ [] → IsKept s
+blank_kept s idle code ops gs = record {
+  sound = record {
+    operands = subst (All (Fits (length s.texts))) (sym ops) (All-nil (Fits (length s.texts)));
+    globals = subst (All (FitsGlobal (length s.texts))) (sym gs) (All-nil (FitsGlobal (length s.texts)));
+    literals = subst (λ t. take (length t.literals) s.texts ≡ t.literals) (sym code) refl;
+    slots = subst (λ t. AllSuit t.names s.globals.items) (sym code) (subst (AllSuit []) (sym gs) tt);
+  };
+  never = never_taking (moment_of (seen s)) refl (idle_waits s idle);
+}
