@@ -24,7 +24,7 @@ use Rattle.si_machine.proofs.Lines.{moved_did, advanced_did, raised_did, finishe
 
 -- what holds of all operands holds of those below the topmost, and of the topmost
 module _ (old : State) (h : IsSound old) where
-  F : Value → Type 0
+  abbrev F : Value → Type 0
   F = Fits (length old.texts)
 
   below : (v : Value) (rest : List Value) → old.operands ≡ v ∷ rest → All F rest

@@ -1,9 +1,10 @@
 -- Truths, and the order of texts.
-use Rattle.std.proofs.Common.{◌≡◌, ◌≢◌, ℕ, ◌<◌, List, [], ◌∷◌, Bool, true, false, Ok, Err, Result, refl, sym, ap, ◌∙◌, arith}
-use Rattle.std.specs.Prelude.{nat_eq, nat_lt, ◌&&◌, ◌||◌, bytes_eq, Ordering}
+use Rattle.std.proofs.Common.{◌≡◌, ◌≢◌, ℕ, ℤ, ◌<◌, List, [], ◌∷◌, Bool, true, false, Ok, Err, Result, refl, sym, ap, ◌∙◌, arith}
+use Rattle.std.specs.Prelude.{nat_eq, nat_lt, ◌&&◌, ◌||◌, bytes_eq}
+use Rattle.std.proofs.Common.{Ordering, to_z, of_z, w64}
 use Rattle.std.specs.Ordering.{nat_cmp, is_lt}
 use Rattle.std.specs.Cmp.Lexicographic.{slice_cmp}
-use Rattle.std.proofs.Common.{nat_tests}
+use Rattle.std.proofs.lemmas.Bool.Decides.{nat_tests}
 use Rattle.std.proofs.lemmas.Cmp.{same_from_slice_cmp}
 use Rattle.si_semantics.specs.Value as pure
 use Rattle.si_semantics.specs.Text.{same_text}
@@ -16,6 +17,14 @@ use Rattle.si_machine.specs.declared.cause.Fault.{Fault}
 use Rattle.si_machine.specs.declared.cause.Fault.TheVariants as fault
 use Rattle.si_machine.specs.declared.value.Value.{Value}
 use Rattle.si_machine.specs.Causes.{Runs}
+
+-- what a truth counts as is an integer of 64 bits
+pub count_fits : (b : Bool) → to_z w64 (of_z w64 (int_of_truth b)) ≡ int_of_truth b
+count_fits true = refl
+count_fits false = refl
+
+pub counted : (b : Bool) (i : ℤ) → i ≡ int_of_truth b → int_of_truth b ≡ to_z w64 (of_z w64 i)
+counted b i e = sym (ap (λ z. to_z w64 (of_z w64 z)) e ∙ count_fits b)
 
 -- any other operator than `|`, `^` and `&` takes truths as integers
 pub truths_count : (o : BinaryOperator) (a b : Bool) (w : World) → o ≢ binary.BitOr → o ≢ binary.BitXor → o ≢ binary.BitAnd → operate_truths (binary_of o) a b w ≡ integer (operate_integers (binary_of o) (int_of_truth a) (int_of_truth b)) w
