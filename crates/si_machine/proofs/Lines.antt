@@ -84,8 +84,8 @@ raised_did cause next ops old new (Ended (Raised kind message)) h e =
     subst P (sym e.2) (
       record {
         place =
-        raises_out (pure.Thrown (kind_of cause) (Some (pure.Str (message_in old.table.names cause)))) (world_of old) (blocks_of old)
-        ∙ ap (λ k. Ending (life.Raised k (message_in old.table.names cause))) (sym e.0) ∙ ap (λ m. Ending (life.Raised kind m)) (sym e.1);
+            raises_out (pure.Thrown (kind_of cause) (Some (pure.Str (message_in old.table.names cause)))) (world_of old) (blocks_of old)
+            ∙ ap (λ k. Ending (life.Raised k (message_in old.table.names cause))) (sym e.0) ∙ ap (λ m. Ending (life.Raised kind m)) (sym e.1);
         world = refl;
         printed = sym (append-nil (string_bytes old.printed));
         code = refl;

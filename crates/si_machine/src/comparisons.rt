@@ -161,17 +161,32 @@ mod tests {
         for i in 1..values.len() {
             let (x, y) = (values[i - 1], values[i]);
             assert_eq!(rt; compare(&texts, ComparisonOperator::Less, x, y), Ok(true));
-            assert_eq!(rt; compare(&texts, ComparisonOperator::GreaterEqual, x, y), Ok(false));
-            assert_eq!(rt; compare(&texts, ComparisonOperator::NotEqual, x, y), Ok(true));
+            assert_eq!(rt;
+                compare(&texts, ComparisonOperator::GreaterEqual, x, y),
+                Ok(false)
+            );
+            assert_eq!(rt;
+                compare(&texts, ComparisonOperator::NotEqual, x, y),
+                Ok(true)
+            );
             assert_eq!(rt; compare(&texts, ComparisonOperator::Equal, y, y), Ok(true));
         }
         let truth = Value::Truth(true);
         let one = Value::Int(1);
         let less = compare(&texts, ComparisonOperator::Less, truth, Value::Int(2));
         assert_eq!(rt; less, Ok(true));
-        assert_eq!(rt; compare(&texts, ComparisonOperator::Equal, truth, one), Ok(true));
-        assert_eq!(rt; compare(&texts, ComparisonOperator::Is, truth, one), Ok(false));
-        assert_eq!(rt; compare(&texts, ComparisonOperator::IsNot, Value::None, one), Ok(true));
+        assert_eq!(rt;
+            compare(&texts, ComparisonOperator::Equal, truth, one),
+            Ok(true)
+        );
+        assert_eq!(rt;
+            compare(&texts, ComparisonOperator::Is, truth, one),
+            Ok(false)
+        );
+        assert_eq!(rt;
+            compare(&texts, ComparisonOperator::IsNot, Value::None, one),
+            Ok(true)
+        );
         let unordered = compare(&texts, ComparisonOperator::LessEqual, values[0], one);
         assert_eq!(rt; unordered, Err(Cause::WrongType));
         Ok(())

@@ -18,7 +18,10 @@ use crate::comparisons::{int_of_truth, is_true};
 use crate::texts::Texts;
 use crate::value::{BuiltIn, Value};
 use si_parse::{BinaryOperator, UnaryOperator};
-use si_plain::{Kind, NoMemory, add, bit_and, bit_or, bit_xor, floordiv, invert, modulo, mul, neg, power, shl, shr, sub};
+use si_plain::{
+    Kind, NoMemory, add, bit_and, bit_or, bit_xor, floordiv, invert, modulo, mul, neg, power, shl,
+    shr, sub,
+};
 
 /// An operator between two integers (Python Language Reference 3.14, 6.5 and 6.7 to 6.9).
 pub fn on_integers(operator: BinaryOperator, x: i64, y: i64) -> Result<i64, Kind>
@@ -208,8 +211,18 @@ mod tests {
             (BinaryOperator::BitXor, yes, no, Ok(yes)),
             (BinaryOperator::BitOr, yes, Value::Int(4), Ok(Value::Int(5))),
             (BinaryOperator::Add, yes, yes, Ok(Value::Int(2))),
-            (BinaryOperator::ShiftLeft, yes, Value::Int(62), Ok(Value::Int(1 << 62))),
-            (BinaryOperator::ShiftRight, Value::Int(-5), yes, Ok(Value::Int(-3))),
+            (
+                BinaryOperator::ShiftLeft,
+                yes,
+                Value::Int(62),
+                Ok(Value::Int(1 << 62)),
+            ),
+            (
+                BinaryOperator::ShiftRight,
+                Value::Int(-5),
+                yes,
+                Ok(Value::Int(-3)),
+            ),
             (
                 BinaryOperator::ShiftLeft,
                 yes,
@@ -226,8 +239,14 @@ mod tests {
         for (operator, x, y, want) in cases {
             assert_eq!(rt; binary(&mut texts, operator, x, y), want);
         }
-        assert_eq!(rt; unary(&texts, UnaryOperator::Invert, yes), Ok(Value::Int(-2)));
-        assert_eq!(rt; unary(&texts, UnaryOperator::Minus, yes), Ok(Value::Int(-1)));
+        assert_eq!(rt;
+            unary(&texts, UnaryOperator::Invert, yes),
+            Ok(Value::Int(-2))
+        );
+        assert_eq!(rt;
+            unary(&texts, UnaryOperator::Minus, yes),
+            Ok(Value::Int(-1))
+        );
         assert_eq!(rt; unary(&texts, UnaryOperator::Not, Value::Int(0)), Ok(yes));
         Ok(())
     }
