@@ -1,5 +1,5 @@
 -- What a run knows as it begins.
-use Rattle.std.proofs.Common.{◌≡◌, ℕ, zero, suc, ◌+◌, ◌<◌, List, [], ◌∷◌, ◌++◌, length, map, take, Option, Some, None, All, Bool, true, false, cond, refl, sym, ap, subst, ◌∙◌, arith, length-append}
+use Rattle.std.proofs.Common.{◌≡◌, ℕ, zero, suc, ◌+◌, ◌<◌, ◌^◌, List, [], ◌∷◌, ◌++◌, length, map, take, Option, Some, None, All, Bool, true, false, cond, refl, sym, ap, subst, ◌∙◌, arith, length-append}
 use Rattle.std.specs.Prelude.{codes, slice_get}
 use mathlib.Core.Path.{fun_ext}
 use Rattle.std.proofs.Math.Seq.{take-append_seam, get_or-append_seam}
@@ -84,8 +84,8 @@ first_values texts place (x ∷ names) y t = pick (same_text x y) refl (first_va
     pick false e h = h
 
 -- with the text `__main__` behind the literals
-pub all_known : (table : Contents) (texts : List pure.Text) (globals : List Global) → texts ≡ table.literals ++ codes "__main__" ∷ [] → globals ≡ map (first_of (length table.literals)) table.names → IsKnown table texts globals
-all_known table texts globals t g =
+pub all_known : (table : Contents) (texts : List pure.Text) (globals : List Global) → texts ≡ table.literals ++ codes "__main__" ∷ [] → globals ≡ map (first_of (length table.literals)) table.names → length table.lines < 2 ^ 63 → IsKnown table texts globals
+all_known table texts globals t g few =
     let place = length table.literals in
     let all = table.literals ++ codes "__main__" ∷ [] in
     let within : place < length all = omega (arith, length-append table.literals (codes "__main__" ∷ [])) in
@@ -97,5 +97,6 @@ all_known table texts globals t g =
       literals = take-append_seam table.literals (codes "__main__" ∷ []);
       fits = firsts_fit (length all) place table.names within;
       slots = firsts_suit place table.names;
+      short = few;
       first = fun_ext (λ y. first_values all place table.names y main);
     }))

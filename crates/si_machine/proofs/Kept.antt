@@ -1,5 +1,5 @@
 -- What holds of a machine, call after call.
-use Rattle.std.proofs.Common.{◌≡◌, ℕ, zero, suc, List, [], ◌++◌, length, take, All, Option, Some, None, true, string_bytes, refl, sym, ap, subst, ◌∙◌, append-nil}
+use Rattle.std.proofs.Common.{◌≡◌, ◌<◌, ◌^◌, arith, ℕ, zero, suc, List, [], ◌++◌, length, take, All, Option, Some, None, true, string_bytes, refl, sym, ap, subst, ◌∙◌, append-nil}
 use Rattle.std.specs.Prelude.{encode_utf8_all}
 use Rattle.si_semantics.specs.Value as pure
 use Rattle.si_semantics.specs.World.{World, first_world}
@@ -20,7 +20,7 @@ use Rattle.si_compile.specs.Contents.{no_code}
 use Rattle.si_machine.specs.Values.{Fits, FitsGlobal, AllSuit}
 use Rattle.si_machine.specs.Outcomes.{outcome_of}
 use Rattle.si_machine.specs.Machines.{Seen, moment_of, from_here, Stands, IsEntry, IsAt, printed_of, Steps}
-use Rattle.si_machine.specs.States.{IsSound, IsKept, IsOpen, Moves, Did, bytes_of, is_starved, place_in, place_of, operands_of, world_of, next_line, seen}
+use Rattle.si_machine.specs.States.{IsSound, IsKept, IsOpen, Moves, Did, bytes_of, is_starved, place_in, place_of, blocks_of, operands_of, world_of, next_line, seen}
 
 -- ---- courses
 
@@ -72,14 +72,14 @@ never_taking c e p n k =
 
 -- the next line of a machine's course
 line_is : (s : State) → s.standing ≡ standing.Running → next compiled (moment_of (seen s)) ≡ after (next_line s) (moment_of (seen s))
-line_is s run = ap (λ st. on compiled (place_in st s.pc (operands_of s)) [] (moment_of (seen s))) run
+line_is s run = ap (λ st. on compiled (place_in st s.pc (operands_of s) (blocks_of s)) [] (moment_of (seen s))) run
 
 -- it leads on
 pub open_next : (s : State) → IsKept s → s.standing ≡ standing.Running → IsOpen (next_line s)
 open_next s h run e = h.never 1 (ap (λ c. c.place) (line_is s run) ∙ e)
 
 sound_starved : (old new : State) → IsSound old → new ≡ record old { standing = standing.Starved; line = new.line; printed = new.printed } → IsSound new
-sound_starved old new h e = subst IsSound (sym e) (record { operands = h.operands; globals = h.globals; literals = h.literals; slots = h.slots })
+sound_starved old new h e = subst IsSound (sym e) (record { operands = h.operands; globals = h.globals; literals = h.literals; slots = h.slots; short = h.short })
 
 -- a course whose next line led to a place, with its world
 moment_next : (l : Line) (p : Place) (old new : State) → Moves l p old new → from_here (record (after l (moment_of (seen old))) { place = place_of new }) ≡ moment_of (seen new)
@@ -96,12 +96,12 @@ starved_seen : (old new : State) → old.standing ≡ standing.Running → Did (
 starved_seen old new run did =
     let make : Place → List ℕ → Seen = λ p b. record (seen old) { place = p; printed = b; starved = true } in
     ap seen did.0
-    ∙ ap (make (At old.pc (operands_of old) [] [])) did.1
-    ∙ ap (λ st. make (place_in st old.pc (operands_of old)) (string_bytes old.printed)) (sym run)
+    ∙ ap (make (At old.pc (operands_of old) [] (blocks_of old))) did.1
+    ∙ ap (λ st. make (place_in st old.pc (operands_of old) (blocks_of old)) (string_bytes old.printed)) (sym run)
 
 -- a machine that is idle waits
 idle_waits : (s : State) → s.standing ≡ standing.Idle → place_of s ≡ Taking
-idle_waits s e = ap (λ st. place_in st s.pc (operands_of s)) e
+idle_waits s e = ap (λ st. place_in st s.pc (operands_of s) (blocks_of s)) e
 
 -- what a step has done, as it is seen
 pub steps_seen : (old new : State) (r : Step) → old.standing ≡ standing.Running → Did (next_line old) old new r → Steps (seen old) (seen new) r
@@ -113,7 +113,7 @@ steps_seen old new Local run did =
         printed = did.0.printed ∙ ap (λ b. string_bytes old.printed ++ b) (sym (bytes_printed l.out 1) ∙ ap printed_of (sym (line_is old run)));
         fed = ap is_starved did.1;
       },
-      subst (λ st. IsAt (place_in st new.pc (operands_of new))) (sym did.1) tt,
+      subst (λ st. IsAt (place_in st new.pc (operands_of new) (blocks_of new))) (sym did.1) tt,
     )
 steps_seen old new (Ended o) run did =
     let m = moment_of (seen old) in
@@ -158,6 +158,7 @@ blank_kept s idle code ops gs = record {
     globals = subst (All (FitsGlobal (length s.texts))) (sym gs) (All-nil (FitsGlobal (length s.texts)));
     literals = subst (λ t. take (length t.literals) s.texts ≡ t.literals) (sym code) refl;
     slots = subst (λ t. AllSuit t.names s.globals.items) (sym code) (subst (AllSuit []) (sym gs) tt);
+    short = subst (λ t. length t.lines < 2 ^ 63) (sym code) (omega arith);
   };
   never = never_taking (moment_of (seen s)) refl (idle_waits s idle);
 }

@@ -3,3 +3,5 @@ pub mod Strings
 pub mod Lines
 pub mod Begun
 pub mod Kept
+pub mod Branches
+pub mod Truths

@@ -1,5 +1,5 @@
 -- What causes of exceptions stand for.
-use Rattle.std.specs.Prelude.{codes, ◌≡◌, ℕ, List, [], ◌∷◌, ◌++◌, Result, Ok, Err, true, false, nat_lt, nat_eq, length, ℤ, pos, negsuc, if◌then◌else◌}
+use Rattle.std.specs.Prelude.{codes, ◌≡◌, ℕ, List, [], ◌∷◌, ◌++◌, Result, Ok, Err, Bool, true, false, nat_lt, nat_eq, length, ℤ, pos, negsuc, if◌then◌else◌}
 use Rattle.si_plain.specs.declared.kind.Kind.{Kind}
 use Rattle.si_plain.specs.declared.kind.Kind.TheVariants.{OverflowError, TypeError, NameError}
 use Rattle.si_semantics.specs.Value as pure
@@ -42,6 +42,11 @@ threw names cause w = refused (kind_of cause) (message_in names cause) w
 abbrev pub ran : List pure.Text → List pure.Text → World → Result Value Cause → Ran
 ran names texts w (Ok v) = gave (value_of texts v) w
 ran names texts w (Err cause) = threw names cause w
+
+-- a comparison, which takes no memory
+abbrev pub compared : List pure.Text → World → Result Bool Cause → Ran
+compared names w (Ok b) = gave (pure.Truth b) w
+compared names w (Err cause) = threw names cause w
 
 -- a text is added at the end of the texts, unless it is too long or memory is refused; then they are as they were
 abbrev pub Adds : pure.Text → List pure.Text → List pure.Text → Result ℕ Fault → Type 0

@@ -1,12 +1,14 @@
 -- What a machine's state stands for, and what an instruction makes of it.
-use Rattle.std.specs.Prelude.{Bool, true, false, ◌≡◌, ◌≢◌, ℕ, ◌+◌, List, [], ◌∷◌, ◌++◌, length, map, take, drop, Option, Some, None, All, slice_get, string_bytes, encode_utf8_all}
+use Rattle.std.specs.Prelude.{Bool, true, false, ◌≡◌, ◌≢◌, ℕ, ◌+◌, ◌<◌, ◌^◌, List, [], ◌∷◌, ◌++◌, length, map, take, drop, Option, Some, None, All, slice_get, string_bytes, encode_utf8_all}
 use Rattle.si_semantics.specs.Value as pure
 use Rattle.si_semantics.specs.World.{World}
-use Rattle.si_semantics.specs.Machine.{Instr, Place, At, Taking, Ending, Closed, Line, act, fetched}
+use Rattle.si_semantics.specs.Machine as machine
+use Rattle.si_semantics.specs.Machine.{Instr, Loop, Place, At, Taking, Ending, Closed, Line, act, fetched}
 use Rattle.si_compile.specs.Views.{code_of, table_of}
 use Rattle.si_compile.specs.Correct.{NeverCloses}
 use Rattle.si_machine.specs.declared.value.Value.{Value}
 use Rattle.si_machine.specs.declared.value.Value.TheVariants as value
+use Rattle.si_machine.specs.declared.blocks.Block.{Block}
 use Rattle.si_machine.specs.declared.cause.Cause.{Cause}
 use Rattle.si_machine.specs.declared.state.Standing.{Standing}
 use Rattle.si_machine.specs.declared.state.Standing.TheVariants as standing
@@ -27,14 +29,22 @@ operands_of s = map (value_of s.texts) s.operands
 abbrev pub world_of : State → World
 world_of s = record { globals = globals_of s.table.names (map (cell_of s.texts) s.globals.items); store = [] }
 
+-- the body of a loop that was entered
+abbrev pub block_of : Block → machine.Block
+block_of b = Loop b.start b.after
+
+-- the bodies of loops that were entered, the innermost first
+abbrev pub blocks_of : State → List machine.Block
+blocks_of s = map block_of s.blocks
+
 -- where a machine stands; it waits for a text where nothing runs
-abbrev pub place_in : Standing → ℕ → List pure.Value → Place
-place_in standing.Running pc ops = At pc ops [] []
-place_in standing.Starved pc ops = At pc ops [] []
-place_in standing.Idle pc ops = Taking
+abbrev pub place_in : Standing → ℕ → List pure.Value → List machine.Block → Place
+place_in standing.Running pc ops bs = At pc ops [] bs
+place_in standing.Starved pc ops bs = At pc ops [] bs
+place_in standing.Idle pc ops bs = Taking
 
 abbrev pub place_of : State → Place
-place_of s = place_in s.standing s.pc (operands_of s)
+place_of s = place_in s.standing s.pc (operands_of s) (blocks_of s)
 
 abbrev pub is_starved : Standing → Bool
 is_starved standing.Running = false
@@ -59,18 +69,20 @@ bytes_of (Some t) = encode_utf8_all t
 
 -- the line that an instruction does
 abbrev pub line_of : Instr → State → Line
-line_of i s = act i (s.pc + 1) (operands_of s) [] [] (world_of s)
+line_of i s = act i (s.pc + 1) (operands_of s) [] (blocks_of s) (world_of s)
 
 -- the line at the place where the machine stands
 abbrev pub next_line : State → Line
-next_line s = fetched (slice_get (code_of s.table) s.pc) s.pc (operands_of s) [] [] (world_of s)
+next_line s = fetched (slice_get (code_of s.table) s.pc) s.pc (operands_of s) [] (blocks_of s) (world_of s)
 
--- each value's text is there, the literals come first among the texts, each slot's global suits its name, and no two slots have one name
+-- each value's text is there, the literals come first among the texts, each slot's global suits its name, and the code has few enough
+-- instructions for the place of each to be told, and that of a jump's end
 pub record IsSound (s : State) : Type 0 where
   pub operands : All (Fits (length s.texts)) s.operands
   pub globals : All (FitsGlobal (length s.texts)) s.globals.items
   pub literals : take (length s.table.literals) s.texts ≡ s.table.literals
   pub slots : AllSuit s.table.names s.globals.items
+  pub short : length s.table.lines < 2 ^ 63
 
 -- a line leads to where there is more to do, or the run ends: it lacks nothing
 abbrev pub IsOpen : Line → Type 0
@@ -104,7 +116,7 @@ Did l old new Starved = (new ≡ record old { standing = standing.Starved; line 
 abbrev pub IsRaised : Cause → State → State → Step → Type 0
 IsRaised cause old new Local = ⊥
 IsRaised cause old new (Ended Returned) = ⊥
-IsRaised cause old new (Ended (Raised kind message)) = (kind ≡ kind_of cause) × (message ≡ message_in old.table.names cause) × (new ≡ record old { standing = standing.Idle })
+IsRaised cause old new (Ended (Raised kind message)) = (kind ≡ kind_of cause) × (message ≡ message_in old.table.names cause) × (new ≡ record old { standing = standing.Idle; blocks = [] })
 IsRaised cause old new Starved = new ≡ record old { standing = standing.Starved }
 
 -- a value is put on the operands

@@ -1,9 +1,9 @@
 -- What a machine's values and globals stand for.
-use Rattle.std.specs.Prelude.{◌≡◌, ℕ, ◌<◌, List, [], ◌∷◌, ◌++◌, Option, Some, None, if◌then◌else◌}
+use Rattle.std.specs.Prelude.{◌≡◌, ℕ, ℤ, ◌<◌, List, [], ◌∷◌, ◌++◌, Option, Some, None, if◌then◌else◌}
 use Rattle.si_semantics.specs.Value as pure
 use Rattle.si_semantics.specs.World.{Globals, first_world}
 use Rattle.si_semantics.specs.Text.{same_text, str_of}
-use Rattle.si_semantics.specs.Operations.{built_in}
+use Rattle.si_semantics.specs.Operations.{built_in, int_of_truth}
 use Rattle.si_compile.specs.Views.{text_at}
 use Rattle.si_machine.specs.declared.value.BuiltIn.{BuiltIn}
 use Rattle.si_machine.specs.declared.value.BuiltIn.TheVariants.{Print}
@@ -18,6 +18,7 @@ built_in_of Print = pure.Print
 -- a value; a str is the text at its place
 abbrev pub value_of : List pure.Text → Value → pure.Value
 value_of texts value.None = pure.Nothing
+value_of texts (value.Truth b) = pure.Truth b
 value_of texts (value.Int n) = pure.Int n
 value_of texts (value.Str place) = pure.Str (text_at texts place)
 value_of texts (value.BuiltIn b) = pure.Provided (built_in_of b)
@@ -37,6 +38,7 @@ globals_of (x ∷ names) (c ∷ cells) y = if same_text x y then c else globals_
 -- a str's place is one of n
 abbrev pub Fits : ℕ → Value → Type 0
 Fits n value.None = Unit {0}
+Fits n (value.Truth b) = Unit {0}
 Fits n (value.Int i) = Unit {0}
 Fits n (value.Str place) = place < n
 Fits n (value.BuiltIn b) = Unit {0}
@@ -58,6 +60,12 @@ AllSuit [] [] = Unit {0}
 AllSuit [] (g ∷ globals) = ⊥
 AllSuit (x ∷ names) [] = ⊥
 AllSuit (x ∷ names) (g ∷ globals) = Suits x g × AllSuit names globals
+
+-- an integer, or what True and False count as, and nothing else
+abbrev pub integer_of : Value → Option ℤ
+integer_of (value.Truth b) = Some (int_of_truth b)
+integer_of (value.Int i) = Some i
+integer_of _ = None
 
 -- the str of values, each with a space before it
 abbrev pub spaced : List pure.Value → pure.Text

@@ -7,6 +7,7 @@ use crate::texts::Texts;
 use crate::value::{BuiltIn, Global, Value};
 use si_compile::CodeTable;
 use si_plain::NoMemory;
+use std::alloc::AllocError;
 
 /// The texts and the globals of a run.
 #[derive(Drop)]
@@ -17,10 +18,16 @@ pub struct Known {
     pub globals: Vec<Global>,
 }
 
+// So many instructions count as refused memory; with fewer the place of each is told, and that of a jump's end.
+const MAX_LINES: usize = 1 << 63;
+
 /// What a run of a table's code knows as it begins: the literals, and of the globals `__name__` alone.
 pub fn first_known(alloc: std::alloc::Global, table: &CodeTable) -> Result<Known, NoMemory>
     ensures { IfOk result (λ known. IsKnown table.now known.texts known.globals.items) }
 {
+    if table.len() >= MAX_LINES {
+        return Err(AllocError);
+    }
     let mut texts = Texts::of(alloc, table.literals())?;
     let main = texts.add(ascii(alloc, "__main__")?)?;
     let globals = first_globals(alloc, table, main)?;

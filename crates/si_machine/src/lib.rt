@@ -4,15 +4,21 @@
 // machine that runs does exactly one line of the course, and says how the run ended just where it ends; refused memory,
 // the machine stands still, with nothing changed. Code that the compiler made never lacks an operand nor an
 // instruction, so there is no answer for that. A machine owns its code, its values and what was printed; two machines
-// share nothing. Values are small and are copied; texts lie in a vector of the machine's own and are named by their places.
+// share nothing. Values are small and are copied; texts lie in a vector of the machine's own and are named by their
+// places. The bodies of loops that are under way lie on a stack of their own, each with its loop's start and end, where
+// `continue` and `break` find them; an exception leaves them all.
 //
 // In reading order: `value` (values and globals), `cause` (why an exception was raised), `texts` (where the texts
-// lie), `operations` (operators and `str`), `operands` (the operand stack), `first` (what a run knows as it begins),
-// `step` (what a step did), `state` (what each instruction does), `machine` (loading and stepping).
+// lie), `operations` (operators and `str`), `comparisons` (truth and comparisons), `operands` and `blocks` (the two
+// stacks), `first` (what a run knows as it begins), `step` (what a step did), `state` (what each instruction does),
+// `flow` (those of branches and loops), `machine` (loading and stepping).
 #![tactic(auto)]
 
+mod blocks;
 mod cause;
+mod comparisons;
 mod first;
+mod flow;
 pub mod machine;
 mod operands;
 mod operations;

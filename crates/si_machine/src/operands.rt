@@ -1,5 +1,5 @@
 // The operand stack, whose top contracts see first.
-ghost use Rattle.std.specs.Prelude.{◌≡◌, ◌+◌, ◌<◌, ◌≤◌, List, [], ◌∷◌, length, drop, take, reverse, OnOk, OnErr, MatchOption};
+ghost use Rattle.std.specs.Prelude.{◌≡◌, ◌+◌, ◌<◌, ◌≤◌, List, [], ◌∷◌, ◌++◌, length, drop, take, reverse, OnOk, OnErr, MatchOption};
 
 use crate::value::Value;
 use si_plain::NoMemory;
@@ -47,6 +47,16 @@ impl Operands {
         self.items.pop()
     }
 
+    /// The topmost is taken off, where there is one.
+    pub fn discard(&mut self)
+        ensures { self.new ≡ drop 1 self.old }
+    {
+        match self.pop() {
+            Some(_) => {}
+            None => {}
+        }
+    }
+
     /// The topmost.
     pub fn top(&self) -> Option<Value>
         ensures { MatchOption result (self.now ≡ []) (λ v. self.now ≡ v ∷ drop 1 self.now) }
@@ -77,6 +87,17 @@ impl Operands {
         let below = self.items.len() - n - 1;
         self.items.truncate(below + 1);
         self.items[below] = value;
+    }
+
+    /// One more, below the topmost n.
+    pub fn insert(&mut self, n: usize, value: Value) -> Result<(), NoMemory>
+        requires { n ≤ length self.old }
+        ensures ok { OnOk result (self.new ≡ take n self.old ++ value ∷ drop n self.old) }
+        ensures err { OnErr result (self.new ≡ self.old) }
+    {
+        let place = self.items.len() - n;
+        self.items.insert(place, value)?;
+        Ok(())
     }
 
     /// What lies below the topmost n, and these, the lowest first.

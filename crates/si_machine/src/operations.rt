@@ -1,24 +1,29 @@
 // Operators, and the `str` of a value.
-ghost use Rattle.std.specs.Prelude.{◌≡◌, ◌++◌, ◌<◌, ◌^◌, ℕ, List, [], ◌∷◌, length, map, All, IfOk, OnOk, Result, encode_utf8_all};
+ghost use Rattle.std.specs.Prelude.{◌≡◌, ◌++◌, ◌<◌, ◌^◌, ℕ, List, [], ◌∷◌, length, map, All, Some, None, IfOk, IfErr, OnOk, Result, encode_utf8_all};
 ghost use Rattle.si_semantics.specs.World.{World};
-ghost use Rattle.si_semantics.specs.Value.{Text as Characters};
+ghost use Rattle.si_semantics.specs.Value.{Text as Characters, Int, Str};
 ghost use Rattle.si_semantics.specs.Text.{str_of, line_of};
-ghost use Rattle.si_semantics.specs.Operations.{operate_integers, operate, operate_unary, within, repeated};
+ghost use Rattle.si_semantics.specs.Operations.{integer, operate_integers, operate_truths, operate, operate_unary, within, repeated};
 ghost use Rattle.si_compile.specs.Views.{text_at};
 ghost use Rattle.si_parse.specs.Trees.{binary_of, unary_of};
-ghost use Rattle.si_machine.specs.Values.{value_of, Fits};
+ghost use Rattle.si_machine.specs.Values.{value_of, Fits, integer_of};
 ghost use Rattle.si_machine.specs.Causes.{ran, Runs};
+ghost use Rattle.si_machine.specs.declared.cause.Cause.TheVariants.{WrongType};
 ghost use Rattle.si_machine.specs.Values.{spaced};
 ghost use Rattle.std.specs.Prelude.{string_bytes};
 ghost use Rattle.std.specs.Fmt.{signed_decimal};
 
 use crate::cause::{Cause, Fault};
+use crate::comparisons::{int_of_truth, is_true};
 use crate::texts::Texts;
 use crate::value::{BuiltIn, Value};
 use si_parse::{BinaryOperator, UnaryOperator};
-use si_plain::{Kind, NoMemory, add, floordiv, modulo, mul, neg, power, sub};
+use si_plain::{
+    Kind, NoMemory, add, bit_and, bit_or, bit_xor, floordiv, invert, modulo, mul, neg, power, shl,
+    shr, sub,
+};
 
-/// An operator between two integers (Python Language Reference 3.14, 6.5 to 6.7).
+/// An operator between two integers (Python Language Reference 3.14, 6.5 and 6.7 to 6.9).
 pub fn on_integers(operator: BinaryOperator, x: i64, y: i64) -> Result<i64, Kind>
     ensures { result ≡ operate_integers (binary_of operator) x y }
 {
@@ -29,10 +34,37 @@ pub fn on_integers(operator: BinaryOperator, x: i64, y: i64) -> Result<i64, Kind
         BinaryOperator::FloorDivide => floordiv(x, y),
         BinaryOperator::Modulo => modulo(x, y),
         BinaryOperator::Power => power(x, y),
+        BinaryOperator::BitOr => Ok(bit_or(x, y)),
+        BinaryOperator::BitXor => Ok(bit_xor(x, y)),
+        BinaryOperator::BitAnd => Ok(bit_and(x, y)),
+        BinaryOperator::ShiftLeft => shl(x, y),
+        BinaryOperator::ShiftRight => shr(x, y),
     }
 }
 
-/// An operator between two values (Python Language Reference 3.14, 6.5 and 6.7).
+// The value of an operator between two integers.
+fn integers(operator: BinaryOperator, x: i64, y: i64) -> Result<Value, Fault>
+    ensures { (texts : List Characters) → Runs (λ w. integer (operate_integers (binary_of operator) x y) w) texts texts result }
+{
+    match on_integers(operator, x, y) {
+        Ok(n) => Ok(Value::Int(n)),
+        Err(kind) => Err(Fault::Raises(Cause::Arithmetic(kind))),
+    }
+}
+
+// An operator between two of True and False: `|`, `^` and `&` give one of them (Python Language Reference 3.14, 6.9).
+fn truths(operator: BinaryOperator, x: bool, y: bool) -> Result<Value, Fault>
+    ensures { (texts : List Characters) → Runs (λ w. operate_truths (binary_of operator) x y w) texts texts result }
+{
+    match operator {
+        BinaryOperator::BitOr => Ok(Value::Truth(x || y)),
+        BinaryOperator::BitXor => Ok(Value::Truth(x != y)),
+        BinaryOperator::BitAnd => Ok(Value::Truth(x && y)),
+        _ => integers(operator, int_of_truth(x), int_of_truth(y)),
+    }
+}
+
+/// An operator between two values (Python Language Reference 3.14, 6.5 and 6.7 to 6.9).
 pub fn binary(
     texts: &mut Texts,
     operator: BinaryOperator,
@@ -42,22 +74,28 @@ pub fn binary(
     ensures { Runs (λ w. operate (binary_of operator) (value_of texts.old x) (value_of texts.old y) w) texts.old texts.new result }
 {
     match (x, y) {
-        (Value::Int(a), Value::Int(b)) => match on_integers(operator, a, b) {
-            Ok(n) => Ok(Value::Int(n)),
-            Err(kind) => Err(Fault::Raises(Cause::Arithmetic(kind))),
-        },
+        (Value::Int(a), Value::Int(b)) => integers(operator, a, b),
+        (Value::Int(a), Value::Truth(b)) => integers(operator, a, int_of_truth(b)),
+        (Value::Truth(a), Value::Int(b)) => integers(operator, int_of_truth(a), b),
+        (Value::Truth(a), Value::Truth(b)) => truths(operator, a, b),
         (Value::Str(a), Value::Str(b)) => match operator {
             BinaryOperator::Add => join(texts, a, b),
             _ => Err(Fault::Raises(Cause::WrongType)),
         },
-        (Value::Str(a), Value::Int(n)) => match operator {
-            BinaryOperator::Multiply => repeat(texts, a, n),
-            _ => Err(Fault::Raises(Cause::WrongType)),
-        },
-        (Value::Int(n), Value::Str(b)) => match operator {
-            BinaryOperator::Multiply => repeat(texts, b, n),
-            _ => Err(Fault::Raises(Cause::WrongType)),
-        },
+        (Value::Str(a), Value::Int(n)) => copies(texts, operator, a, n),
+        (Value::Str(a), Value::Truth(b)) => copies(texts, operator, a, int_of_truth(b)),
+        (Value::Int(n), Value::Str(b)) => copies(texts, operator, b, n),
+        (Value::Truth(a), Value::Str(b)) => copies(texts, operator, b, int_of_truth(a)),
+        _ => Err(Fault::Raises(Cause::WrongType)),
+    }
+}
+
+// An operator between a text and an integer, of which `*` alone gives a value.
+fn copies(texts: &mut Texts, operator: BinaryOperator, a: usize, n: i64) -> Result<Value, Fault>
+    ensures { Runs (λ w. operate (binary_of operator) (Str (text_at texts.old a)) (Int n) w) texts.old texts.new result }
+{
+    match operator {
+        BinaryOperator::Multiply => repeat(texts, a, n),
         _ => Err(Fault::Raises(Cause::WrongType)),
     }
 }
@@ -82,19 +120,30 @@ fn repeat(texts: &mut Texts, a: usize, n: i64) -> Result<Value, Fault>
     }
 }
 
-/// An operator before a value, which takes integers alone (Python Language Reference 3.14, 6.6).
-pub fn unary(operator: UnaryOperator, x: Value) -> Result<Value, Cause>
-    ensures value { (names texts : List Characters) (w : World) → operate_unary (unary_of operator) (value_of texts x) w ≡ ran names texts w result }
+/// An operator before a value (Python Language Reference 3.14, 6.6; `not`: 6.11).
+pub fn unary(texts: &Texts, operator: UnaryOperator, x: Value) -> Result<Value, Cause>
+    ensures value { (names : List Characters) (w : World) → operate_unary (unary_of operator) (value_of texts.now x) w ≡ ran names texts.now w result }
     ensures fits { IfOk result (λ v. (n : ℕ) → Fits n v) }
 {
-    match x {
-        Value::Int(n) => match operator {
-            UnaryOperator::Plus => Ok(Value::Int(n)),
-            UnaryOperator::Minus => match neg(n) {
-                Ok(m) => Ok(Value::Int(m)),
-                Err(kind) => Err(Cause::Arithmetic(kind)),
-            },
+    match operator {
+        UnaryOperator::Not => Ok(Value::Truth(!is_true(texts, x))),
+        UnaryOperator::Plus => Ok(Value::Int(integer_in(x)?)),
+        UnaryOperator::Minus => match neg(integer_in(x)?) {
+            Ok(n) => Ok(Value::Int(n)),
+            Err(kind) => Err(Cause::Arithmetic(kind)),
         },
+        UnaryOperator::Invert => Ok(Value::Int(invert(integer_in(x)?))),
+    }
+}
+
+// An integer, or what True and False count as.
+fn integer_in(x: Value) -> Result<i64, Cause>
+    ensures ok { IfOk result (λ n. integer_of x ≡ Some n) }
+    ensures err { IfErr result (λ cause. (integer_of x ≡ None) × (cause ≡ WrongType)) }
+{
+    match x {
+        Value::Int(n) => Ok(n),
+        Value::Truth(b) => Ok(int_of_truth(b)),
         _ => Err(Cause::WrongType),
     }
 }
@@ -105,6 +154,8 @@ pub fn write_str(line: &mut String, texts: &Texts, value: Value) -> Result<(), N
 {
     match value {
         Value::None => line.push_str("None"),
+        Value::Truth(true) => line.push_str("True"),
+        Value::Truth(false) => line.push_str("False"),
         Value::Int(n) => write_int(line, n),
         Value::Str(place) => line.push_str(texts.at(place).as_str()),
         Value::BuiltIn(BuiltIn::Print) => line.push_str("<built-in print>"),
@@ -144,4 +195,59 @@ fn write_others(line: &mut String, texts: &Texts, values: &[Value]) -> Result<()
         write_str(line, texts, *value)?;
     }
     Ok(())
+}
+
+#[cfg(test)]
+mod tests {
+    use super::*;
+    use std::test::Fail;
+
+    #[test]
+    fn truths_count_as_integers(rt: HostRuntime) -> Result<(), Fail> {
+        let mut texts = Texts::new(rt.alloc());
+        let (yes, no) = (Value::Truth(true), Value::Truth(false));
+        let cases = [
+            (BinaryOperator::BitAnd, yes, no, Ok(no)),
+            (BinaryOperator::BitXor, yes, no, Ok(yes)),
+            (BinaryOperator::BitOr, yes, Value::Int(4), Ok(Value::Int(5))),
+            (BinaryOperator::Add, yes, yes, Ok(Value::Int(2))),
+            (
+                BinaryOperator::ShiftLeft,
+                yes,
+                Value::Int(62),
+                Ok(Value::Int(1 << 62)),
+            ),
+            (
+                BinaryOperator::ShiftRight,
+                Value::Int(-5),
+                yes,
+                Ok(Value::Int(-3)),
+            ),
+            (
+                BinaryOperator::ShiftLeft,
+                yes,
+                Value::Int(-1),
+                Err(Fault::Raises(Cause::Arithmetic(Kind::ValueError))),
+            ),
+            (
+                BinaryOperator::Subtract,
+                yes,
+                Value::None,
+                Err(Fault::Raises(Cause::WrongType)),
+            ),
+        ];
+        for (operator, x, y, want) in cases {
+            assert_eq!(rt; binary(&mut texts, operator, x, y), want);
+        }
+        assert_eq!(rt;
+            unary(&texts, UnaryOperator::Invert, yes),
+            Ok(Value::Int(-2))
+        );
+        assert_eq!(rt;
+            unary(&texts, UnaryOperator::Minus, yes),
+            Ok(Value::Int(-1))
+        );
+        assert_eq!(rt; unary(&texts, UnaryOperator::Not, Value::Int(0)), Ok(yes));
+        Ok(())
+    }
 }

@@ -10,6 +10,8 @@ pub enum BuiltIn {
 #[derive(Clone, Copy, Debug, PartialEq, Eq)]
 pub enum Value {
     None,
+    /// True or False.
+    Truth(bool),
     Int(i64),
     /// A str, by the place of its text among the machine's texts.
     Str(usize),

@@ -14,6 +14,13 @@ returns-in-Some-None-default c =
     let k = c.in-Some-None-default in
     call_raises c.args.count _ _ old c.raise.new.self c.raise.result h.sound (k.ensures.0 ∙ ap (λ f. f ∷ drop (c.args.count + 1) old.operands) k.field-0-0-is) k.ensures.1 (λ vs w. refl) c.raise.ensures.raised
 
+pub returns-in-Some-Truth-default : goal.returns-in-Some-Truth-default
+returns-in-Some-Truth-default c =
+    let h = c.requires.ready in
+    let old = c.args.self.now in
+    let k = c.in-Some-Truth-default in
+    call_raises c.args.count _ _ old c.raise-in-Some-Truth-default.new.self c.raise-in-Some-Truth-default.result h.sound (k.ensures.0 ∙ ap (λ f. f ∷ drop (c.args.count + 1) old.operands) k.field-0-0-is) k.ensures.1 (λ vs w. refl) c.raise-in-Some-Truth-default.ensures.raised
+
 pub returns-in-Some-Int-default : goal.returns-in-Some-Int-default
 returns-in-Some-Int-default c =
     let h = c.requires.ready in

@@ -1,0 +1,210 @@
+// Whether a value counts as true, and comparisons.
+ghost use Rattle.std.specs.Prelude.{◌≡◌, List, not, option_map};
+ghost use Rattle.si_semantics.specs.World.{World};
+ghost use Rattle.si_semantics.specs.Value.{Text as Characters};
+ghost use Rattle.si_semantics.specs.Meaning as meaning;
+ghost use Rattle.si_semantics.specs.Operations as operations;
+ghost use Rattle.si_semantics.specs.Text.{same_text};
+ghost use Rattle.si_compile.specs.Views.{text_at};
+ghost use Rattle.si_parse.specs.Trees.{comparison_of, boolean_of};
+ghost use Rattle.si_machine.specs.Values.{value_of};
+ghost use Rattle.si_machine.specs.Causes.{compared};
+
+use crate::cause::Cause;
+use crate::texts::Texts;
+use crate::value::Value;
+use si_parse::{BooleanOperator, ComparisonOperator};
+
+/// True counts as 1 and False as 0 (Python Language Reference 3.14, 3.2).
+pub fn int_of_truth(truth: bool) -> i64
+    ensures { result ≡ operations.int_of_truth truth }
+{
+    if truth { 1 } else { 0 }
+}
+
+/// Whether a value counts as true (Python Standard Library 3.14, "Built-in Types": truth value testing).
+pub fn is_true(texts: &Texts, value: Value) -> bool
+    ensures { result ≡ operations.is_true (value_of texts.now value) }
+{
+    match value {
+        Value::None => false,
+        Value::Truth(truth) => truth,
+        Value::Int(n) => n != 0,
+        Value::Str(place) => !texts.at(place).is_empty(),
+        Value::BuiltIn(_) => true,
+    }
+}
+
+/// Whether an operand decides the `and` or the `or` (Python Language Reference 3.14, 6.11).
+pub fn decides(texts: &Texts, operator: BooleanOperator, value: Value) -> bool
+    ensures { result ≡ meaning.decides (boolean_of operator) (value_of texts.now value) }
+{
+    match operator {
+        BooleanOperator::And => !is_true(texts, value),
+        BooleanOperator::Or => is_true(texts, value),
+    }
+}
+
+/// A comparison of two values (Python Language Reference 3.14, 6.10).
+pub fn compare(
+    texts: &Texts,
+    operator: ComparisonOperator,
+    x: Value,
+    y: Value,
+) -> Result<bool, Cause>
+    ensures { (names : List Characters) (w : World) → operations.compare (comparison_of operator) (value_of texts.now x) (value_of texts.now y) w ≡ compared names w result }
+{
+    match operator {
+        ComparisonOperator::Less => ordered(is_less(texts, x, y)),
+        ComparisonOperator::Greater => ordered(is_less(texts, y, x)),
+        ComparisonOperator::LessEqual => turned(is_less(texts, y, x)),
+        ComparisonOperator::GreaterEqual => turned(is_less(texts, x, y)),
+        ComparisonOperator::Equal => Ok(are_equal(texts, x, y)),
+        ComparisonOperator::NotEqual => Ok(!are_equal(texts, x, y)),
+        ComparisonOperator::Is => Ok(is_same(x, y)),
+        ComparisonOperator::IsNot => Ok(!is_same(x, y)),
+    }
+}
+
+// The answer of an order, where there is one.
+fn ordered(answer: Option<bool>) -> Result<bool, Cause>
+    ensures { (names : List Characters) (w : World) → operations.truth answer w ≡ compared names w result }
+{
+    match answer {
+        Some(truth) => Ok(truth),
+        None => Err(Cause::WrongType),
+    }
+}
+
+// The other answer of an order, where there is one.
+fn turned(answer: Option<bool>) -> Result<bool, Cause>
+    ensures { (names : List Characters) (w : World) → operations.truth (option_map not answer) w ≡ compared names w result }
+{
+    match answer {
+        Some(truth) => Ok(!truth),
+        None => Err(Cause::WrongType),
+    }
+}
+
+// `x < y`, where the two have an order.
+fn is_less(texts: &Texts, x: Value, y: Value) -> Option<bool>
+    ensures { result ≡ operations.is_less (value_of texts.now x) (value_of texts.now y) }
+{
+    match (x, y) {
+        (Value::Int(a), Value::Int(b)) => Some(a < b),
+        (Value::Int(a), Value::Truth(b)) => Some(a < int_of_truth(b)),
+        (Value::Truth(a), Value::Int(b)) => Some(int_of_truth(a) < b),
+        (Value::Truth(a), Value::Truth(b)) => Some(int_of_truth(a) < int_of_truth(b)),
+        (Value::Str(a), Value::Str(b)) => Some(is_before(texts, a, b)),
+        _ => None,
+    }
+}
+
+// Whether a text comes before another: at the first character that differs, or where it ends and the other goes on.
+fn is_before(texts: &Texts, a: usize, b: usize) -> bool
+    ensures { result ≡ operations.is_before (text_at texts.now a) (text_at texts.now b) }
+{
+    let a = texts.at(a).as_str().chars();
+    let b = texts.at(b).as_str().chars();
+    a.cmp(b).is_lt()
+}
+
+// `x == y`.
+fn are_equal(texts: &Texts, x: Value, y: Value) -> bool
+    ensures { result ≡ operations.are_equal (value_of texts.now x) (value_of texts.now y) }
+{
+    match (x, y) {
+        (Value::Int(a), Value::Int(b)) => a == b,
+        (Value::Int(a), Value::Truth(b)) => a == int_of_truth(b),
+        (Value::Truth(a), Value::Int(b)) => int_of_truth(a) == b,
+        (Value::Truth(a), Value::Truth(b)) => a == b,
+        (Value::Str(a), Value::Str(b)) => are_same(texts, a, b),
+        (Value::None, Value::None) => true,
+        (Value::BuiltIn(a), Value::BuiltIn(b)) => a == b,
+        _ => false,
+    }
+}
+
+// Whether two texts have the same characters.
+fn are_same(texts: &Texts, a: usize, b: usize) -> bool
+    ensures { result ≡ same_text (text_at texts.now a) (text_at texts.now b) }
+{
+    texts.at(a) == texts.at(b)
+}
+
+// `x is y`, for one of None, True and False.
+fn is_same(x: Value, y: Value) -> bool
+    ensures { (texts : List Characters) → result ≡ operations.is_same (value_of texts x) (value_of texts y) }
+{
+    match (x, y) {
+        (Value::None, Value::None) => true,
+        (Value::Truth(a), Value::Truth(b)) => a == b,
+        _ => false,
+    }
+}
+
+#[cfg(test)]
+mod tests {
+    use super::*;
+    use si_plain::Text;
+    use std::test::Fail;
+
+    #[test]
+    fn comparisons(rt: HostRuntime) -> Result<(), Fail> {
+        let mut texts = Texts::new(rt.alloc());
+        let mut values = Vec::new(rt.alloc());
+        for text in ["", "ab", "b", "\u{ff61}", "\u{10000}"] {
+            let place = texts.add(Text::from_str(rt.alloc(), text)?)?;
+            values.push(Value::Str(place))?;
+        }
+        // Of two that stand beside each other the first is less.
+        for i in 1..values.len() {
+            let (x, y) = (values[i - 1], values[i]);
+            assert_eq!(rt; compare(&texts, ComparisonOperator::Less, x, y), Ok(true));
+            assert_eq!(rt;
+                compare(&texts, ComparisonOperator::GreaterEqual, x, y),
+                Ok(false)
+            );
+            assert_eq!(rt;
+                compare(&texts, ComparisonOperator::NotEqual, x, y),
+                Ok(true)
+            );
+            assert_eq!(rt; compare(&texts, ComparisonOperator::Equal, y, y), Ok(true));
+        }
+        let truth = Value::Truth(true);
+        let one = Value::Int(1);
+        let less = compare(&texts, ComparisonOperator::Less, truth, Value::Int(2));
+        assert_eq!(rt; less, Ok(true));
+        assert_eq!(rt;
+            compare(&texts, ComparisonOperator::Equal, truth, one),
+            Ok(true)
+        );
+        assert_eq!(rt;
+            compare(&texts, ComparisonOperator::Is, truth, one),
+            Ok(false)
+        );
+        assert_eq!(rt;
+            compare(&texts, ComparisonOperator::IsNot, Value::None, one),
+            Ok(true)
+        );
+        let unordered = compare(&texts, ComparisonOperator::LessEqual, values[0], one);
+        assert_eq!(rt; unordered, Err(Cause::WrongType));
+        Ok(())
+    }
+
+    #[test]
+    fn truths(rt: HostRuntime) -> Result<(), Fail> {
+        let mut texts = Texts::new(rt.alloc());
+        let empty = Value::Str(texts.add(Text::new(rt.alloc()))?);
+        let zero = Value::Str(texts.add(Text::from_str(rt.alloc(), "0")?)?);
+        for value in [Value::None, Value::Truth(false), Value::Int(0), empty] {
+            assert!(rt; !is_true(&texts, value));
+            assert!(rt; decides(&texts, BooleanOperator::And, value));
+        }
+        for value in [Value::Truth(true), Value::Int(-1), zero] {
+            assert!(rt; is_true(&texts, value));
+            assert!(rt; decides(&texts, BooleanOperator::Or, value));
+        }
+        Ok(())
+    }
+}
