@@ -1,5 +1,5 @@
 -- What the code of parts with jumps between them gives is what the tree's code gives.
-use Rattle.std.proofs.Common.{◌≡◌, ℕ, ◌+◌, ◌-◌, ◌<◌, ◌≤◌, List, [], ◌∷◌, ◌++◌, map, length, drop, get_or, refl, sym, ap, subst, ◌∙◌, append_assoc, append-nil, length-append, arith}
+use Rattle.std.proofs.Common.{◌≡◌, ℕ, ◌+◌, ◌-◌, ◌<◌, ◌≤◌, List, [], ◌∷◌, ◌++◌, map, length, drop, get_or, sym, ap, subst, ◌∙◌, append_assoc, append-nil, length-append, arith}
 use Rattle.std.proofs.lemmas.List.{drop_all, map-append}
 use Rattle.si_semantics.specs.Tree as tree
 use Rattle.si_semantics.specs.Machine as machine
@@ -10,7 +10,7 @@ use Rattle.si_parse.specs.Trees.{expr_of}
 use Rattle.si_compile.specs.Code.{expr_code, operands_code, chain_code, branch_code, loop_code, stmts_code}
 use Rattle.std.specs.List.{AllByRecursion}
 use Rattle.si_compile.specs.Contents.{Contents, Extends}
-use Rattle.si_compile.specs.Jumps.{aimed, Due, Aims, AimsAll, branch_front, turn_code, link_of}
+use Rattle.si_compile.specs.Jumps.{Due, Aims, AimsAll, branch_front, turn_code, link_of}
 use Rattle.si_compile.specs.Views.{Gains}
 use Rattle.si_compile.proofs.Codes.{Gains-nil, Gains-append}
 use Rattle.si_compile.proofs.Growth.{length-Begins}

@@ -23,7 +23,7 @@ use Rattle.si_compile.specs.Contents.{Contents, Extends}
 use Rattle.si_compile.specs.Jumps.{Due, Aims, branch_front, turn_code, link_of, branch_of}
 use Rattle.si_compile.specs.Views.{Gains}
 use Rattle.si_compile.proofs.Codes.{Gains-append}
-use Rattle.si_compile.proofs.Growth.{Extends-trans, length-Begins}
+use Rattle.si_compile.proofs.Growth.{length-Begins}
 use Rattle.si_compile.proofs.Jumped.{length_gained, All-push}
 use Rattle.si_compile.proofs.Emitted.{Code, at_value, at_tree, at_stmt, rest_is}
 use Rattle.si_compile.proofs.Branches.{MakesAll, MakesAll-end, Elifs, branch_gains, branch_ends, tested_branch, elif_due, loop_gains}

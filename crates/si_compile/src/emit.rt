@@ -109,8 +109,8 @@ fn emit_stmt(table: &mut CodeTable, stmt: &Stmt) -> Result<(), NoMemory>
     }
 }
 
-// A suite that is passed over where the value of its test, which is taken, isn't true, and the jump behind it, which isn't
-// aimed yet: it leads past what follows. Says where that jump is.
+// A suite that is passed over where the value of its test, which is taken, isn't true, and the jump behind it. That
+// isn't aimed yet: it leads past what follows. Says where it is.
 #[cycle(stmts)]
 fn emit_branch(table: &mut CodeTable, body: &[Stmt]) -> Result<usize, NoMemory>
     ensures ok { OnOk result (Gains table.old table.new (branch_front [] (stmts_code (body_of body.now)) ++ machine.Jump 0 ∷ [])) }
@@ -126,7 +126,8 @@ fn emit_branch(table: &mut CodeTable, body: &[Stmt]) -> Result<usize, NoMemory>
     Ok(end)
 }
 
-// The body of a loop that begins at this place. It is passed over where the value of the loop's test, which is taken, isn't true.
+// The body of a loop that begins at this place. It is passed over where the value of the loop's test, which is taken,
+// isn't true.
 #[cycle(stmts)]
 fn emit_turn(table: &mut CodeTable, start: usize, body: &[Stmt]) -> Result<(), NoMemory>
     requires { start ≤ length table.old.lines }
