@@ -173,4 +173,31 @@ mod tests {
         }
         Ok(())
     }
+    // For runs in which an allocation is refused: a starved machine stands still, with what it has printed.
+    #[test]
+    fn starved_machine_stands_still(rt: HostRuntime) -> Result<(), Fail> {
+        let alloc = rt.alloc();
+        let module = parse(alloc, "print('a')\nprint('b' + 'c')\n")?;
+        let mut table = CodeTable::new(alloc);
+        let entry = compile(&module, &mut table)?;
+        let mut machine = Machine::new(alloc);
+        assert!(rt; !machine.is_running());
+        machine.load(table, entry).map_err(AllocError::from)?;
+        assert!(rt; machine.is_running());
+        for _ in 0..10 {
+            if let Step::Starved = machine.step() {
+                break;
+            }
+        }
+        if machine.is_running() {
+            assert!(rt; matches!(machine.step(), Step::Ended(Outcome::Returned)));
+            assert_eq!(rt; machine.printed(), "a\nbc\n");
+        }
+        assert!(rt; !machine.is_running());
+        assert!(rt; matches!(machine.step(), Step::Starved));
+        let printed = machine.take_printed();
+        assert!(rt; matches!(printed.as_str(), "" | "a\n" | "a\nbc\n"));
+        assert_eq!(rt; machine.printed(), "");
+        Ok(())
+    }
 }

@@ -4,3 +4,4 @@ pub mod KindFacts
 pub mod TextFacts
 pub mod ReprFacts
 pub mod NumeralFacts
+pub mod BitFacts

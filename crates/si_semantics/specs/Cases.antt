@@ -4,6 +4,7 @@ use Rattle.si_semantics.specs.Value.{Text, Nothing, Truth, Int, Str}
 use Rattle.si_semantics.specs.Tree.{Add, Subtract, Multiply, FloorDivide, Modulo, Power, BitOr, BitXor, BitAnd, ShiftLeft, ShiftRight, Minus, Invert, Not, ComparisonOperator, Less, Greater, LessEqual, Equal, NotEqual, Is, And, Or, Expr, Constant, Name, Unary, Binary, Call, Boolean, Compare, Conditional, Exprs, NoExprs, MoreExprs, NoComparisons, MoreComparisons, Stmt, Evaluate, Assign, Augment, Pass, If, While, Break, Continue, Stmts, NoStmts, MoreStmts}
 use Rattle.si_semantics.specs.Text.{repr_text}
 use Rattle.si_semantics.specs.World.{Answer, Taken, Done, Bind, Run, Closing}
+use Rattle.si_semantics.specs.Scope.{is_scoped}
 use Rattle.si_semantics.specs.Life.{Outcome, Returned, End, Told, Stops, life_of}
 use Rattle.si_semantics.specs.Shows.{pieces_of, end_of, joined, texts_of}
 use Rattle.si_semantics.specs.Report.{AtEnd, report}
@@ -200,3 +201,7 @@ pub record Cases : Type 0 where
   pub visits_of_a_loop : end_of (run_within 3 counting) ≡ Some (Some (End Returned), 28)
   -- the test that ends a loop is a turn
   pub last_turn_counts : end_of (run_within 2 counting) ≡ None
+  -- `break` and `continue` within an `if` in a loop stand in the loop; alone they don't, nor in a loop's else suite
+  pub break_in_a_loop : is_scoped (suite left_by_break) ≡ true
+  pub break_alone : is_scoped (suite (If i_name (suite (Break ∷ [])) NoStmts ∷ [])) ≡ false
+  pub continue_in_an_else_suite : is_scoped (suite (While i_name (suite (Pass ∷ [])) (suite (Continue ∷ [])) ∷ [])) ≡ false

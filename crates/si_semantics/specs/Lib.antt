@@ -5,6 +5,7 @@ pub mod Text
 pub mod World
 pub mod Operations
 pub mod Meaning
+pub mod Scope
 pub mod Life
 pub mod Machine
 pub mod Shows

@@ -96,7 +96,7 @@ compared NoComparisons t rest s = Gives t s
 compared (MoreComparisons o a cs) t rest s = choose (is_true t) (rest s) (Gives t s)
 
 abbrev mutual
-  -- an expression, its operands from left to right (Language Reference, 6.16); of a call the callee first (6.3.4), of a conditional expression the test (6.12)
+  -- an expression, its operands from left to right (Language Reference, 6.16); of a call the callee first (6.3.4), of a conditional expression the test (6.13)
   pub expr : Scope → Expr → Meaning Value
   expr e (Constant v) s = Gives v (visit s)
   expr e (Name x) s = ran (load_global x s.world) (visit s)

@@ -52,7 +52,7 @@ mutual
     Boolean : BooleanOperator → Expr → Exprs → Expr
     -- a chain of comparisons: the first operand, and each operator with the operand behind it (6.10)
     Compare : Expr → Comparisons → Expr
-    -- `value if test else other`: the test, the value, the other (6.12)
+    -- `value if test else other`: the test, the value, the other (6.13)
     Conditional : Expr → Expr → Expr → Expr
 
   pub data Exprs : Type 0 where

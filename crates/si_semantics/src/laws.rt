@@ -2,6 +2,7 @@
 
 ghost use Rattle.si_semantics.specs.Cases.{Cases};
 ghost use Rattle.si_semantics.specs.Laws.{Binding, OneLife, LivesGrow, GoneStays, AnswersWait, OnePieceALine, OneMoment};
+ghost use Rattle.si_semantics.specs.Scope.{LeftByExceptions};
 
 /// The worked cases: what scripts print and how they end.
 pub fn worked_cases()
@@ -11,6 +12,11 @@ pub fn worked_cases()
 /// A name that was bound has its value, and every other has what it had.
 pub fn binding()
     ensures { Binding }
+{}
+
+/// A text whose `break` and `continue` stand in loops is left by an exception, if it is left at all.
+pub fn left_by_exceptions()
+    ensures { LeftByExceptions }
 {}
 
 /// The same text and the same answers give one life: one that is not cut is the same where a loop may have more turns.
