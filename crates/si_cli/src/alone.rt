@@ -46,7 +46,7 @@ pub(crate) fn run_module(alloc: Global, module: &Module, turns: u64) -> Result<S
     ensures { IfOk result (HasUsed turns) }
 {
     let mut table = CodeTable::new(alloc);
-    let entry = compile(module, &mut table)?;
+    let entry = compile(module, &mut table).map_err(|_| AllocError)?;
     let mut machine = Machine::new(alloc);
     machine.load(table, entry)?;
     let (locals, standing) = run(&mut machine, turns);
