@@ -35,9 +35,9 @@ if_is test body elifs last =
     ∙ ap (λ bs. tree.If (expr_of test) (body_of body.items) (elifs_of bs (body_of last.items))) (branches_are _ _ (λ b. refl) elifs.items)
 
 -- an `if`, by its parts
-pub if_scoped : {test : Expr} {body : Vec Stmt Global} {elifs : Vec (Expr × Vec Stmt Global) Global} {last : Vec Stmt Global} (in_loop : Bool) (s : Stmt) → s ≡ views.If test body elifs last
+pub if_scoped : (test : Expr) (body : Vec Stmt Global) (elifs : Vec (Expr × Vec Stmt Global) Global) (last : Vec Stmt Global) (in_loop : Bool) (s : Stmt) → s ≡ views.If test body elifs last
     → stmt_scoped in_loop (stmt_of s) ≡ (stmts_scoped in_loop (body_of body.items) && stmts_scoped in_loop (Elifs elifs.items (body_of last.items)))
-if_scoped {test} {body} {elifs} {last} in_loop s is = ap (λ x. stmt_scoped in_loop (stmt_of x)) is ∙ ap (stmt_scoped in_loop) (if_is test body elifs last)
+if_scoped test body elifs last in_loop s is = ap (λ x. stmt_scoped in_loop (stmt_of x)) is ∙ ap (stmt_scoped in_loop) (if_is test body elifs last)
 
 -- an `elif` that is reached, and the ones behind it
 pub elif_scoped : (in_loop : Bool) (bs : List (Expr × Vec Stmt Global)) (i : ℕ) (b : Expr × Vec Stmt Global) (last : tree.Stmts) → i < length bs → get_or bs i b ≡ b
@@ -55,23 +55,23 @@ pub not_right : (a b : Bool) → b ≡ false → (a && b) ≡ false
 not_right a b e = ap (λ x. a && x) e ∙ and_false a
 
 -- an `if` of which an `elif`'s suite isn't
-pub if_out : {test : Expr} {body : Vec Stmt Global} {elifs : Vec (Expr × Vec Stmt Global) Global} {last : Vec Stmt Global} (in_loop : Bool) (s : Stmt) (bs : List (Expr × Vec Stmt Global)) (i : ℕ) (b : Expr × Vec Stmt Global) (suite : List Stmt)
+pub if_out : (test : Expr) (body : Vec Stmt Global) (elifs : Vec (Expr × Vec Stmt Global) Global) (last : Vec Stmt Global) (in_loop : Bool) (s : Stmt) (bs : List (Expr × Vec Stmt Global)) (i : ℕ) (b : Expr × Vec Stmt Global) (suite : List Stmt)
     → s ≡ views.If test body elifs last → bs ≡ elifs.items → i < length bs → get_or bs i b ≡ b → suite ≡ b.1.items → stmts_scoped in_loop (body_of suite) ≡ false
     → ((l : tree.Stmts) → stmts_scoped in_loop (Elifs bs l) ≡ stmts_scoped in_loop (Elifs (drop i bs) l))
     → false ≡ stmt_scoped in_loop (stmt_of s)
-if_out {test} {body} {elifs} {last} in_loop s bs i b suite is all lt at same out before =
+if_out test body elifs last in_loop s bs i b suite is all lt at same out before =
     let here : stmts_scoped in_loop (body_of b.1.items) ≡ false = ap (λ x. stmts_scoped in_loop (body_of x)) (sym same) ∙ out in
     let behind = ap (λ x. x && stmts_scoped in_loop (Elifs (drop (i + 1) bs) (body_of last.items))) here in
     let others = ap (λ x. stmts_scoped in_loop (Elifs x (body_of last.items))) (sym all) ∙ before (body_of last.items) ∙ elif_scoped in_loop bs i b (body_of last.items) lt at ∙ behind in
-    sym (if_scoped in_loop s is ∙ not_right (stmts_scoped in_loop (body_of body.items)) (stmts_scoped in_loop (Elifs elifs.items (body_of last.items))) others)
+    sym (if_scoped test body elifs last in_loop s is ∙ not_right (stmts_scoped in_loop (body_of body.items)) (stmts_scoped in_loop (Elifs elifs.items (body_of last.items))) others)
 
 -- an `if` whose suite is, and each `elif`'s: the `else` suite decides
-pub if_else : {test : Expr} {body : Vec Stmt Global} {elifs : Vec (Expr × Vec Stmt Global) Global} {last : Vec Stmt Global} (in_loop : Bool) (s : Stmt) (bs : List (Expr × Vec Stmt Global)) (i : ℕ) (first end : List Stmt) (found : Bool)
+pub if_else : (test : Expr) (body : Vec Stmt Global) (elifs : Vec (Expr × Vec Stmt Global) Global) (last : Vec Stmt Global) (in_loop : Bool) (s : Stmt) (bs : List (Expr × Vec Stmt Global)) (i : ℕ) (first end : List Stmt) (found : Bool)
     → s ≡ views.If test body elifs last → bs ≡ elifs.items → length bs ≤ i → first ≡ body.items → end ≡ last.items → stmts_scoped in_loop (body_of first) ≡ true → found ≡ stmts_scoped in_loop (body_of end)
     → ((l : tree.Stmts) → stmts_scoped in_loop (Elifs bs l) ≡ stmts_scoped in_loop (Elifs (drop i bs) l))
     → found ≡ stmt_scoped in_loop (stmt_of s)
-if_else {test} {body} {elifs} {last} in_loop s bs i first end found is all le same same_end holds says before =
+if_else test body elifs last in_loop s bs i first end found is all le same same_end holds says before =
     let others = ap (λ x. stmts_scoped in_loop (Elifs x (body_of last.items))) (sym all) ∙ before (body_of last.items) ∙ else_scoped in_loop bs i (body_of last.items) le in
     let front : stmts_scoped in_loop (body_of body.items) ≡ true = ap (λ x. stmts_scoped in_loop (body_of x)) (sym same) ∙ holds in
     says ∙ ap (λ x. stmts_scoped in_loop (body_of x)) same_end
-    ∙ sym (if_scoped in_loop s is ∙ ap (λ x. x && stmts_scoped in_loop (Elifs elifs.items (body_of last.items))) front ∙ others)
+    ∙ sym (if_scoped test body elifs last in_loop s is ∙ ap (λ x. x && stmts_scoped in_loop (Elifs elifs.items (body_of last.items))) front ∙ others)
