@@ -52,7 +52,7 @@ pub(crate) fn run_module(alloc: Global, tree: &Module, turns: u64) -> Result<Sol
     ensures shows { IfOk result (ShowsLife (one_run (Some (record { body = tree_of tree.now })))) }
 {
     let mut table = CodeTable::new(alloc);
-    let entry = compile(tree, &mut table)?;
+    let entry = compile(tree, &mut table).map_err(|_| AllocError)?;
     let mut machine = Machine::new(alloc);
     machine.load(table, entry)?;
     let (locals, standing) = run(&mut machine, turns);

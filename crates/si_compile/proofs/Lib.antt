@@ -14,3 +14,4 @@ pub mod Jumped
 pub mod Emitted
 pub mod Branches
 pub mod Forms
+pub mod Scoped

@@ -1,15 +1,19 @@
 // From a module to its code.
-ghost use Rattle.std.specs.Prelude.{◌≡◌, ◌+◌, ◌-◌, ◌≤◌, [], ◌∷◌, ◌++◌, length, map, IfOk, OnOk, OnErr};
+ghost use Rattle.std.specs.Prelude.{◌≡◌, ◌+◌, ◌-◌, ◌≤◌, [], ◌∷◌, ◌++◌, length, map, true, false, IfOk, IfErr, OnOk, OnErr};
 ghost use Rattle.si_semantics.specs.Grammar.{chain_of, exprs_of};
 ghost use Rattle.si_semantics.specs.Machine as machine;
+ghost use Rattle.si_semantics.specs.Scope.{is_scoped};
 ghost use Rattle.si_parse.specs.Trees.{body_of, boolean_of, expr_of, stmt_of};
 ghost use Rattle.si_parse.specs.Modules.{tree_of};
 ghost use Rattle.si_compile.specs.Code.{chain_code, compiled, expr_code, exprs_code, module_code, operands_code, stmt_code, stmts_code};
 ghost use Rattle.si_compile.specs.Contents.{Extends};
+ghost use Rattle.si_compile.specs.declared.fault.CompileFault.TheVariants.{Scope};
 ghost use Rattle.si_compile.specs.Jumps.{branch_front, link_of, turn_code};
 ghost use Rattle.si_compile.specs.Views.{Gains, table_of};
 
+use crate::fault::CompileFault;
 use crate::instr::Instr;
+use crate::scope::is_scoped;
 use crate::table::{CodeTable, Entry};
 use si_parse::{BooleanOperator, ComparisonOperator, Expr, Module, Stmt};
 use si_plain::NoMemory;
@@ -17,14 +21,21 @@ use std::alloc::AllocError;
 
 /// Adds the code of a module to a table, and says where it begins. It ends in `Instr::Finish`.
 ///
-/// `NoMemory`: memory was refused, or the table would have more than 2^32 slots or literals; the table is as it was.
-pub fn compile(tree: &Module, table: &mut CodeTable) -> Result<Entry, NoMemory>
+/// `Scope`: `break` or `continue` stands in no loop. `NoMemory`: memory was refused, or the table would have more than
+/// 2^32 slots or literals. The table then is as it was.
+pub fn compile(tree: &Module, table: &mut CodeTable) -> Result<Entry, CompileFault>
     ensures ok { IfOk result (λ entry. (table_of table.new, entry.at) ≡ compiled (table_of table.old) (record { body = tree_of tree.now })) }
     ensures gains { OnOk result (Gains table.old table.new (module_code (tree_of tree.now))) }
     ensures extends { OnOk result (Extends table.old table.new) }
+    ensures scoped { OnOk result (is_scoped (tree_of tree.now) ≡ true) }
+    ensures scope { IfErr result (λ fault. fault ≡ Scope → is_scoped (tree_of tree.now) ≡ false) }
     ensures err { OnErr result (table.new ≡ table.old) }
 {
-    compile_body(tree.body(), table)
+    let body = tree.body();
+    if !is_scoped(body) {
+        return Err(CompileFault::Scope);
+    }
+    Ok(compile_body(body, table)?)
 }
 
 fn compile_body(body: &[Stmt], table: &mut CodeTable) -> Result<Entry, NoMemory>

@@ -10,11 +10,14 @@
 #![tactic(auto)]
 
 pub mod emit;
+pub mod fault;
 pub mod instr;
 pub mod laws;
 mod names;
+mod scope;
 pub mod table;
 
 pub use emit::compile;
+pub use fault::CompileFault;
 pub use instr::Instr;
 pub use table::{CodeTable, Entry};
