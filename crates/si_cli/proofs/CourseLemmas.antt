@@ -1,13 +1,14 @@
 -- A machine on the course of interpreter 0, line by line.
-use Rattle.std.proofs.Common.{◌≡◌, ◌∙◌, ◌++◌, ◌+◌, ℕ, List, [], ◌∷◌, Option, Some, None, ap, append_assoc, chars, drop, encode_utf8_all, refl, reverse, slice_get, string_bytes, subst, sym, take}
+use Rattle.std.proofs.Common.{◌≡◌, ◌∙◌, ◌++◌, ◌+◌, ℕ, Bool, true, false, List, [], ◌∷◌, Option, Some, None, ap, append_assoc, chars, drop, encode_utf8_all, refl, reverse, slice_get, string_bytes, subst, sym, take}
 use Rattle.std.proofs.lemmas.Str.{chars-nil, chars_from_encodes, encodes-append, IsUtf8-string_bytes}
 use Rattle.si_semantics.specs.Value.{Text, Value}
 use Rattle.si_semantics.specs.Tree.{Module}
 use Rattle.si_semantics.specs.World.{Answer, Asked, Gave, Ran, Threw, World, first_world}
-use Rattle.si_semantics.specs.Operations.{call, load_global, operate, operate_unary}
+use Rattle.si_semantics.specs.Meaning.{choose, decides}
+use Rattle.si_semantics.specs.Operations.{call, compare, is_true, load_global, operate, operate_unary}
 use Rattle.si_semantics.specs.Life as life
 use Rattle.si_semantics.specs.Life.{not_read}
-use Rattle.si_semantics.specs.Machine.{At, Block, Calling, Closed, Course, Ending, Instr, LoadGlobal, ApplyUnary, ApplyBinary, CallTop, Line, Place, Stamped, Table, Taking, act, fetched, next, on, on_callee, stamped, start, stuck, yields}
+use Rattle.si_semantics.specs.Machine.{At, Block, Calling, Closed, Course, Ending, Instr, LoadGlobal, ApplyUnary, ApplyBinary, ApplyComparison, EndChain, JumpOrDiscard, JumpIfFalse, CallTop, Line, Place, Stamped, Table, Taking, act, fetched, goes, next, on, on_callee, stamped, start, stuck, yields}
 use Rattle.si_semantics.specs.Shows.{joined, standing_of, texts}
 use Rattle.si_compile.specs.Code.{compiled}
 use Rattle.si_compile.specs.Correct.{run_at}
@@ -58,11 +59,21 @@ unfolding IsQuiet
 calls_quietly [] args next slots bs w = λ o e. refl
 calls_quietly (f ∷ rest) args next slots bs w = λ o e. yields_quietly (call f args w) next rest slots bs o e
 
+-- one of two places to go to, with nothing printed
+goes_quietly : (t : Bool) (p q : Place) (w : World) → IsQuiet (choose t (goes p w) (goes q w))
+unfolding IsQuiet
+goes_quietly true p q w = λ o e. refl
+goes_quietly false p q w = λ o e. refl
+
 acts_quietly : (i : Instr) (next : ℕ) (ops : List Value) (slots : List (Option Value)) (bs : List Block) (w : World) → IsQuiet (act i next ops slots bs w)
 unfolding IsQuiet
 acts_quietly (LoadGlobal x) next ops slots bs w = λ o e. yields_quietly (load_global x w) next ops slots bs o e
 acts_quietly (ApplyUnary op) next (v ∷ ops) slots bs w = λ o e. yields_quietly (operate_unary op v w) next ops slots bs o e
 acts_quietly (ApplyBinary op) next (v ∷ u ∷ ops) slots bs w = λ o e. yields_quietly (operate op u v w) next ops slots bs o e
+acts_quietly (ApplyComparison op) next (v ∷ u ∷ ops) slots bs w = λ o e. yields_quietly (compare op u v w) next ops slots bs o e
+acts_quietly (EndChain n) next (t ∷ v ∷ ops) slots bs w = goes_quietly (is_true t) _ _ w
+acts_quietly (JumpOrDiscard op n) next (v ∷ ops) slots bs w = goes_quietly (decides op v) _ _ w
+acts_quietly (JumpIfFalse n) next (v ∷ ops) slots bs w = goes_quietly (is_true v) _ _ w
 acts_quietly (CallTop n) next ops slots bs w = λ o e. calls_quietly (drop n ops) (reverse (take n ops)) next slots bs w o e
 acts_quietly _ next [] slots bs w = λ o e. refl
 acts_quietly _ next (v ∷ []) slots bs w = λ o e. refl

@@ -156,16 +156,31 @@ fn a_run_alone_counts_its_turns(rt: HostRuntime) -> Result<(), Fail> {
 
 #[test]
 fn words_that_are_taken(rt: HostRuntime) -> Result<(), Fail> {
-    let cases: [(&[&str], Option<&str>); 3] = [
-        (&["subpy", "serial"], None),
-        (&["subpy", "serial", "a.py"], Some("a.py")),
-        (&["subpy", "serial", "--", "-a.py"], Some("-a.py")),
+    let cases: [(&[&str], Option<&str>, u64); 6] = [
+        (&["subpy", "serial"], None, 1_000_000),
+        (&["subpy", "serial", "a.py"], Some("a.py"), 1_000_000),
+        (
+            &["subpy", "serial", "--", "-a.py"],
+            Some("-a.py"),
+            1_000_000,
+        ),
+        (&["subpy", "serial", "--turns", "1"], None, 1),
+        (
+            &["subpy", "serial", "a.py", "--turns=+007"],
+            Some("a.py"),
+            7,
+        ),
+        (
+            &["subpy", "serial", "--turns", "1099511627776", "a.py"],
+            Some("a.py"),
+            1_099_511_627_776,
+        ),
     ];
-    for (words, script) in cases {
+    for (words, script, turns) in cases {
         let Ok(asked) = request(rt.alloc(), words) else {
             return Err(Fail::from("the words are refused"));
         };
-        assert!(rt; asked.script() == script);
+        assert!(rt; asked.script() == script && asked.turns() == turns);
     }
     Ok(())
 }
@@ -180,7 +195,19 @@ fn fault_of(alloc: Global, words: &[&str]) -> Result<WordsFault, Fail> {
 
 #[test]
 fn words_that_are_refused(rt: HostRuntime) -> Result<(), Fail> {
-    let cases: [(&[&str], &str); 5] = [
+    let cases: [(&[&str], &str); 8] = [
+        (
+            &["subpy", "serial", "--turns", "0"],
+            "--turns takes a whole number from 1 to 1099511627776, not \"0\"",
+        ),
+        (
+            &["subpy", "serial", "--turns=18446744073709551616"],
+            "--turns takes a whole number from 1 to 1099511627776, not \"18446744073709551616\"",
+        ),
+        (
+            &["subpy", "serial", "--turns", "1e3"],
+            "--turns takes a whole number from 1 to 1099511627776, not \"1e3\"",
+        ),
         (
             &["subpy"],
             "no command is named; 'subpy --help' lists the commands",

@@ -1,10 +1,10 @@
 // The words of a command line: the second names the command, and each command reads the words after it by a clap
 // command of its own.
 
-ghost use Rattle.std.specs.Prelude.{◌≡◌, IfOk, IfErr, true, false};
-ghost use Rattle.clap.specs.Words.{app_of, kind_of, rule_of, takes};
+ghost use Rattle.std.specs.Prelude.{◌≡◌, ℕ, IfNone, IfOk, IfErr, IfSome, option_map, true, false};
+ghost use Rattle.clap.specs.Words.{app_of, kind_of, rule_of};
 ghost use Rattle.si_cli.specs.Status.{status_of_words};
-ghost use Rattle.si_cli.specs.Words.{AreTaken, IsReadFrom, IsSaidBy, script, serial, texts};
+ghost use Rattle.si_cli.specs.Words.{Allows, AreRead, AreTaken, IsReadFrom, IsSaidBy, script, serial, texts, turns};
 
 use crate::asked::Request;
 use clap::error::ErrorKind;
@@ -17,8 +17,8 @@ const HELP: &str = "Runs Python scripts in isolated interpreters and reports wha
 Usage: subpy COMMAND [ARGUMENTS]
 
 Commands:
-  serial [SCRIPT]  Runs a script, one turn after another, and prints its report
-  help [COMMAND]   Prints this text, or that of a command
+  serial [SCRIPT] [--turns N]  Runs a script, one turn after another, and prints its report
+  help [COMMAND]               Prints this text, or that of a command
 
 Statuses:
   0  the script has run to its end, or help was asked for
@@ -36,8 +36,9 @@ used up, or 'end: starved' where memory was refused.";
 /// Why the words ask for nothing that can be carried out.
 #[derive(Debug, Drop)]
 pub enum WordsFault {
-    /// No command is named, its definition doesn't take the words after it, or they ask for help. `text` is for
-    /// people: with `help` the lines of the help, else one message without a line end.
+    /// No command is named, its definition doesn't take the words after it, a number among them is none or outside its
+    /// limits, or they ask for help. `text` is for people: with `help` the lines of the help, else one message without
+    /// a line end.
     Words { help: bool, text: String },
     /// Memory was refused.
     NoMemory,
@@ -67,8 +68,8 @@ impl WordsFault {
 
 /// What the words ask for. The first is the program's name, the second that of a command.
 ///
-/// `WordsFault::Words` where no command is named, its definition doesn't take the words after it, or help is asked for;
-/// `WordsFault::NoMemory` where memory was refused.
+/// `WordsFault::Words` where no command is named, its definition doesn't take the words after it, the value of `--turns`
+/// is no number from 1 to 1,099,511,627,776, or help is asked for; `WordsFault::NoMemory` where memory was refused.
 pub fn request<'a>(alloc: Global, words: &'a [&'a str]) -> Result<Request<'a>, WordsFault>
     ensures said { IfOk result (IsSaidBy (texts words.entry.now)) }
     // Words that a command takes are refused only for want of memory.
@@ -90,16 +91,37 @@ pub fn request<'a>(alloc: Global, words: &'a [&'a str]) -> Result<Request<'a>, W
 /// The request of the words from `serial` on.
 fn serial_request<'a>(alloc: Global, words: &'a [&'a str]) -> Result<Request<'a>, WordsFault>
     ensures said { IfOk result (IsReadFrom (texts words.entry.now)) }
-    ensures taken { IfErr result (λ fault. takes serial (texts words.entry.now) ≡ true
-        → fault ≡ WordsFault.NoMemory) }
+    ensures taken { IfErr result (λ fault. AreRead (texts words.entry.now) → fault ≡ WordsFault.NoMemory) }
 {
     let command = serial_command(alloc)?;
     match command.try_get_matches_from(words) {
-        Ok(matches) => Ok(Request::Serial {
-            script: matches.get_str("SCRIPT"),
-            limits: Limits::standard(),
-        }),
+        Ok(matches) => {
+            let turns = matches.get_str("turns");
+            match limits_of(turns) {
+                Some(limits) => Ok(Request::Serial {
+                    script: matches.get_str("SCRIPT"),
+                    limits,
+                }),
+                None => Err(no_turns(alloc, turns)),
+            }
+        }
         Err(error) => Err(words_fault(alloc, &error)),
+    }
+}
+
+/// The limits under this value of `--turns`, if it is a number of turns that may be allowed.
+fn limits_of(turns: Option<&str>) -> Option<Limits>
+    ensures some { IfSome result (λ limits. (limits.interpreters ≡ 8)
+        × Allows (option_map (λ text. text.now) turns.entry) limits.turns) }
+    ensures none { IfNone result ((n : ℕ) → Allows (option_map (λ text. text.now) turns.entry) n → ⊥) }
+{
+    let standard = Limits::standard();
+    let Some(text) = turns else {
+        return Some(standard);
+    };
+    match text.parse::<u64>() {
+        Ok(number) => Limits::new(standard.interpreters(), number).ok(),
+        Err(_) => None,
     }
 }
 
@@ -109,9 +131,10 @@ fn serial_command<'a>(alloc: Global) -> Result<Command<'a>, AllocError>
 {
     Command::new(alloc, "serial")
         .about("Runs a script in interpreter 0, one turn after another, and prints its report.")
-        .override_usage("subpy serial [SCRIPT]")
+        .override_usage("subpy serial [SCRIPT] [--turns N]")
         .after_help(SERIAL_HELP)
-        .arg(script_argument(alloc))
+        .arg(script_argument(alloc))?
+        .arg(turns_argument(alloc))
 }
 
 /// The script's path, which may be left out.
@@ -121,6 +144,18 @@ fn script_argument<'a>(alloc: Global) -> Arg<'a>
 {
     Arg::new(alloc, "SCRIPT")
         .help("The script's file; standard input where it is left out")
+        .action(ArgAction::Set)
+}
+
+/// The number of turns, which may be left out.
+fn turns_argument<'a>(alloc: Global) -> Arg<'a>
+    ensures rule { rule_of result ≡ turns }
+    ensures local { result.global ≡ false }
+{
+    Arg::new(alloc, "turns")
+        .long("turns")
+        .value_name("N")
+        .help("How many local turns the interpreter has: 1 to 1099511627776, by default 1000000")
         .action(ArgAction::Set)
 }
 
@@ -163,6 +198,15 @@ fn one_line(alloc: Global, error: &Error) -> Result<String, AllocError> {
 /// The fault of words that are refused for this reason.
 fn refused(alloc: Global, why: &str) -> WordsFault {
     match format!(in alloc; "{why}; 'subpy --help' lists the commands") {
+        Ok(text) => WordsFault::Words { help: false, text },
+        Err(_) => WordsFault::NoMemory,
+    }
+}
+
+/// The fault of a value of `--turns` that is no number of turns.
+fn no_turns(alloc: Global, turns: Option<&str>) -> WordsFault {
+    let value = turns.unwrap_or("");
+    match format!(in alloc; "--turns takes a whole number from 1 to 1099511627776, not {value:?}") {
         Ok(text) => WordsFault::Words { help: false, text },
         Err(_) => WordsFault::NoMemory,
     }

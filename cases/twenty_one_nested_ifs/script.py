@@ -1,0 +1,22 @@
+if True:
+    if True:
+        if True:
+            if True:
+                if True:
+                    if True:
+                        if True:
+                            if True:
+                                if True:
+                                    if True:
+                                        if True:
+                                            if True:
+                                                if True:
+                                                    if True:
+                                                        if True:
+                                                            if True:
+                                                                if True:
+                                                                    if True:
+                                                                        if True:
+                                                                            if True:
+                                                                                if True:
+                                                                                    print('deep')
