@@ -1,5 +1,5 @@
 -- What the code of parts with jumps between them gives is what the tree's code gives.
-use Rattle.std.proofs.Common.{◌≡◌, ℕ, ◌+◌, ◌-◌, ◌<◌, ◌≤◌, List, [], ◌∷◌, ◌++◌, map, length, drop, get_or, refl, sym, ap, subst, ◌∙◌, append_assoc, append-nil, length-append, arith}
+use Rattle.std.proofs.Common.{◌≡◌, ℕ, ◌+◌, ◌-◌, ◌<◌, ◌≤◌, List, [], ◌∷◌, ◌++◌, map, length, drop, get_or, sym, ap, subst, ◌∙◌, append_assoc, append-nil, length-append, arith}
 use Rattle.std.proofs.lemmas.List.{drop_all, map-append}
 use Rattle.si_semantics.specs.Tree as tree
 use Rattle.si_semantics.specs.Machine as machine
@@ -10,7 +10,7 @@ use Rattle.si_parse.specs.Trees.{expr_of}
 use Rattle.si_compile.specs.Code.{expr_code, operands_code, chain_code, branch_code, loop_code, stmts_code}
 use Rattle.std.specs.List.{AllByRecursion}
 use Rattle.si_compile.specs.Contents.{Contents, Extends}
-use Rattle.si_compile.specs.Jumps.{aimed, Due, Aims, AimsAll, branch_front, link_of}
+use Rattle.si_compile.specs.Jumps.{Due, Aims, AimsAll, branch_front, turn_code, link_of}
 use Rattle.si_compile.specs.Views.{Gains}
 use Rattle.si_compile.proofs.Codes.{Gains-nil, Gains-append}
 use Rattle.si_compile.proofs.Growth.{length-Begins}
@@ -31,6 +31,15 @@ branch_gains {t0} {t1} {t2} {t3} {t4} {t5} test body skip here h0 h1 h2 h3 aim =
     subst (Gains t0 t5) (ap (λ k. test ++ machine.JumpIfFalse k ∷ rest) far ∙ sym (append_assoc test (machine.JumpIfFalse (length body + 1) ∷ body) (machine.Jump 0 ∷ [])))
     (aim t0 test rest (machine.JumpIfFalse 0) all place)
 
+-- how many lines there are behind that jump
+pub branch_at : {t0 t1 t2 t3 : Contents} (body : List machine.Instr) (end : ℕ) → Gains t0 t1 (machine.JumpIfFalse 0 ∷ []) → Gains t1 t2 body → end ≡ length t2.lines → Gains t0 t3 (branch_front [] body ++ machine.Jump 0 ∷ []) → end + 1 ≡ length t3.lines
+branch_at {t0} {t1} {t2} {t3} body end h k here all = omega (arith, length_gained h, length_gained k, length_gained all, length-append body (machine.Jump 0 ∷ []))
+
+-- a test in front
+pub tested_branch : {t0 t1 t2 : Contents} (test body : List machine.Instr) → Gains t0 t1 test → Gains t1 t2 (branch_front [] body ++ machine.Jump 0 ∷ []) → Gains t0 t2 (branch_front test body ++ machine.Jump 0 ∷ [])
+tested_branch {t0} {t1} {t2} test body h k =
+    subst (Gains t0 t2) (sym (append_assoc test (machine.JumpIfFalse (length body + 1) ∷ body) (machine.Jump 0 ∷ []))) (Gains-append t0 t1 t2 test (branch_front [] body ++ machine.Jump 0 ∷ []) h k)
+
 -- where the jump behind a test's code stands
 pub branch_place : {t0 t1 : Contents} (test body : List machine.Instr) (end : ℕ) → Gains t0 t1 (branch_front test body ++ machine.Jump 0 ∷ []) → end + 1 ≡ length t1.lines → end ≡ length t0.lines + length (branch_front test body)
 branch_place {t0} {t1} test body end h here = omega (arith, length_gained h, length-append (branch_front test body) (machine.Jump 0 ∷ []))
@@ -47,26 +56,32 @@ branch_ends {t0} {t1} {t2} {t3} test body last end here h k aim =
 
 -- ---- loops
 
-pub while_gains : {t0 t1 t2 t3 t4 t5 t6 t7 : Contents} (test body : List machine.Instr) (start skip enter : ℕ) → start ≡ length t0.lines → skip ≡ length t1.lines → enter ≡ length t2.lines
-    → Gains t0 t1 test → Gains t1 t2 (machine.JumpIfFalse 0 ∷ []) → Gains t2 t3 (machine.EnterLoop (length t2.lines + 1 - start) 0 ∷ []) → Gains t3 t4 body → Gains t4 t5 (machine.DoContinue ∷ []) → Aims t5 skip t6 → Aims t6 enter t7
-    → Gains t0 t7 (loop_code test body [])
-while_gains {t0} {t1} {t2} {t3} {t4} {t5} {t6} {t7} test body start skip enter e0 e1 e2 h0 h1 h2 h3 h4 aim_skip aim_enter =
+pub turn_gains : {t1 t2 t3 t4 t5 t6 t7 : Contents} (body : List machine.Instr) (start skip enter : ℕ) → start ≤ length t1.lines → skip ≡ length t1.lines → enter ≡ length t2.lines
+    → Gains t1 t2 (machine.JumpIfFalse 0 ∷ []) → Gains t2 t3 (machine.EnterLoop (length t2.lines + 1 - start) 0 ∷ []) → Gains t3 t4 body → Gains t4 t5 (machine.DoContinue ∷ []) → Aims t5 skip t6 → Aims t6 enter t7
+    → Gains t1 t7 (turn_code (length t1.lines - start + 2) body)
+turn_gains {t1} {t2} {t3} {t4} {t5} {t6} {t7} body start skip enter e0 e1 e2 h1 h2 h3 h4 aim_skip aim_enter =
     let back = length t2.lines + 1 - start in
     let turn = body ++ machine.DoContinue ∷ [] in
     let inside = Gains-append t2 t3 t5 (machine.EnterLoop back 0 ∷ []) turn h2 (Gains-append t3 t4 t5 body (machine.DoContinue ∷ []) h3 h4) in
-    let all = Gains-append t0 t1 t5 test (machine.JumpIfFalse 0 ∷ (machine.EnterLoop back 0 ∷ turn)) h0 (Gains-append t1 t2 t5 (machine.JumpIfFalse 0 ∷ []) (machine.EnterLoop back 0 ∷ turn) h1 inside) in
-    let tested = length_gained h0 in
+    let all = Gains-append t1 t2 t5 (machine.JumpIfFalse 0 ∷ []) (machine.EnterLoop back 0 ∷ turn) h1 inside in
     let skipped = length_gained h1 in
     let turned : length turn ≡ length body + 1 = omega (arith, length-append body (machine.DoContinue ∷ [])) in
     let far : length (machine.EnterLoop back 0 ∷ turn) ≡ length body + 2 = omega arith in
     let first = machine.JumpIfFalse (length body + 2) in
-    let once = subst (Gains t0 t6) (ap (λ k. test ++ machine.JumpIfFalse k ∷ (machine.EnterLoop back 0 ∷ turn)) far ∙ sym (append_assoc test (first ∷ []) (machine.EnterLoop back 0 ∷ turn)))
-        (aim_skip t0 test (machine.EnterLoop back 0 ∷ turn) (machine.JumpIfFalse 0) all (e1 ∙ tested)) in
-    let place : enter ≡ length t0.lines + length (test ++ first ∷ []) = omega (arith, length-append test (first ∷ [])) in
-    let twice = subst (Gains t0 t7) (append_assoc test (first ∷ []) (machine.EnterLoop back (length turn) ∷ turn)) (aim_enter t0 (test ++ first ∷ []) turn (machine.EnterLoop back 0) once place) in
-    let backed : back ≡ length test + 2 = omega arith in
-    let ended : length turn ≡ length body + 1 + 0 = omega arith in
-    subst (Gains t0 t7) (ap (λ k. test ++ first ∷ (machine.EnterLoop k (length turn) ∷ turn)) backed ∙ ap (λ k. test ++ first ∷ (machine.EnterLoop (length test + 2) k ∷ turn)) ended) twice
+    let here : skip ≡ length t1.lines + 0 = omega arith in
+    let once = subst (Gains t1 t6) (ap (λ k. machine.JumpIfFalse k ∷ (machine.EnterLoop back 0 ∷ turn)) far) (aim_skip t1 [] (machine.EnterLoop back 0 ∷ turn) (machine.JumpIfFalse 0) all here) in
+    let place : enter ≡ length t1.lines + 1 = omega arith in
+    let twice = aim_enter t1 (first ∷ []) turn (machine.EnterLoop back 0) once place in
+    let backed : back ≡ length t1.lines - start + 2 = omega arith in
+    subst (Gains t1 t7) (ap (λ k. first ∷ (machine.EnterLoop k (length turn) ∷ turn)) backed ∙ ap (λ k. first ∷ (machine.EnterLoop (length t1.lines - start + 2) k ∷ turn)) turned) twice
+
+-- a loop's test, and what follows it
+pub loop_gains : {t0 t1 t2 : Contents} (test body : List machine.Instr) (start : ℕ) → start ≡ length t0.lines → Gains t0 t1 test → Gains t1 t2 (turn_code (length t1.lines - start + 2) body) → Gains t0 t2 (loop_code test body [])
+loop_gains {t0} {t1} {t2} test body start here h k =
+    let back : length t1.lines - start + 2 ≡ length test + 2 = omega (arith, length_gained h) in
+    let far : length body + 1 ≡ length body + 1 + 0 = omega arith in
+    subst (Gains t0 t2) (ap (λ n. test ++ turn_code n body) back ∙ ap (λ n. test ++ (machine.JumpIfFalse (length body + 2) ∷ (machine.EnterLoop (length test + 2) n ∷ (body ++ (machine.DoContinue ∷ []))))) far)
+    (Gains-append t0 t1 t2 test (turn_code (length t1.lines - start + 2) body) h k)
 
 -- ---- `and` and `or`
 

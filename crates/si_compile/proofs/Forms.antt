@@ -1,8 +1,10 @@
 -- The forms with jumps: what is emitted for a tree's parts is what the tree's code is.
-use Rattle.std.proofs.Common.{◌≡◌, ℕ, ◌+◌, ◌-◌, ◌≤◌, List, [], ◌∷◌, ◌++◌, map, length, Box, Vec, Global, refl, sym, ap, subst, ◌∙◌, length-append, arith}
+use Rattle.std.proofs.Common.{◌≡◌, ℕ, ◌+◌, ◌-◌, ◌<◌, ◌≤◌, List, [], ◌∷◌, ◌++◌, map, length, drop, get_or, Box, Vec, Global, refl, sym, ap, subst, ◌∙◌, length-append, arith}
+use Rattle.std.specs.List.{AllByRecursion}
+use Rattle.std.proofs.lemmas.List.{drop_all}
 use Rattle.si_semantics.specs.Tree as tree
 use Rattle.si_semantics.specs.Machine as machine
-use Rattle.si_semantics.specs.Grammar.{exprs_of, chain_of, stmts_of, elifs_of, Link, Branch}
+use Rattle.si_semantics.specs.Grammar.{exprs_of, chain_of, elifs_of, Branch}
 use Rattle.si_parse.specs.declared.syntax.BooleanOperator.{BooleanOperator}
 use Rattle.si_parse.specs.declared.syntax.ComparisonOperator.{ComparisonOperator}
 use Rattle.si_parse.specs.declared.syntax.Expr.{Expr}
@@ -10,16 +12,21 @@ use Rattle.si_parse.specs.declared.syntax.Expr.TheFolds.{fold-roll-Expr}
 use Rattle.si_parse.specs.declared.syntax.Expr.TheOpen.{Expr-F}
 use Rattle.si_parse.specs.declared.syntax.Expr.TheVariants.{rolls-Boolean, rolls-Compare, rolls-Conditional}
 use Rattle.si_parse.specs.declared.syntax.Expr.TheViews as views
-use Rattle.si_parse.specs.Trees.{boolean_of, comparison_of, expr_of, view_step}
-use Rattle.si_compile.specs.Code.{expr_code, operands_code, chain_code, branch_code}
+use Rattle.si_parse.specs.declared.syntax.Stmt.{Stmt}
+use Rattle.si_parse.specs.declared.syntax.Stmt.TheFolds.{fold-roll-Stmt}
+use Rattle.si_parse.specs.declared.syntax.Stmt.TheOpen.{Stmt-F}
+use Rattle.si_parse.specs.declared.syntax.Stmt.TheVariants.{rolls-If, rolls-While}
+use Rattle.si_parse.specs.declared.syntax.Stmt.TheViews as stmt_views
+use Rattle.si_parse.specs.Trees.{boolean_of, body_of, comparison_of, expr_of, stmt_of, stmt_step, view_step}
+use Rattle.si_compile.specs.Code.{expr_code, operands_code, chain_code, stmt_code, stmts_code}
 use Rattle.si_compile.specs.Contents.{Contents, Extends}
-use Rattle.si_compile.specs.Jumps.{Aims, branch_front, link_of}
+use Rattle.si_compile.specs.Jumps.{Due, Aims, branch_front, turn_code, link_of, branch_of}
 use Rattle.si_compile.specs.Views.{Gains}
 use Rattle.si_compile.proofs.Codes.{Gains-append}
-use Rattle.si_compile.proofs.Growth.{Extends-trans, length-Begins}
-use Rattle.si_compile.proofs.Jumped.{length_gained}
-use Rattle.si_compile.proofs.Emitted.{Code, at_value, at_tree}
-use Rattle.si_compile.proofs.Branches.{branch_gains, branch_ends}
+use Rattle.si_compile.proofs.Growth.{length-Begins}
+use Rattle.si_compile.proofs.Jumped.{length_gained, All-push}
+use Rattle.si_compile.proofs.Emitted.{Code, at_value, at_tree, at_stmt, rest_is}
+use Rattle.si_compile.proofs.Branches.{MakesAll, MakesAll-end, Elifs, branch_gains, branch_ends, tested_branch, elif_due, loop_gains}
 
 -- ---- expressions
 
@@ -61,6 +68,53 @@ conditional_gains {t0} {t1} {t2} {t3} {t4} {t5} {t6} {t7} a b c x y z e skip end
     at_tree e (views.Conditional a b c) (tree.Conditional (expr_of a.value) (expr_of b.value) (expr_of c.value)) is (conditional_is a b c)
     (branch_ends test value other end last front (at_value z c.value at_other h5) aim_end)
 
+-- ---- statements
+
+while_is : (test : Expr) (body : Vec Stmt Global) → stmt_of (stmt_views.While test body) ≡ tree.While (expr_of test) (body_of body.items) tree.NoStmts
+while_is test body = ap stmt_of (sym (rolls-While test body)) ∙ fold-roll-Stmt tree.Stmt stmt_step (Stmt-F.While test body)
+
+pub while_gains : {t0 t1 t2 : Contents} (test : Expr) (body : Vec Stmt Global) (ss : List Stmt) (s : Stmt) (start : ℕ) → s ≡ stmt_views.While test body → ss ≡ body.items → start ≡ length t0.lines
+    → Gains t0 t1 (Code test) → Gains t1 t2 (turn_code (length t1.lines - start + 2) (stmts_code (body_of ss))) → Gains t0 t2 (stmt_code (stmt_of s))
+while_gains {t0} {t1} {t2} test body ss s start is all here h k =
+    at_stmt s (stmt_views.While test body) (tree.While (expr_of test) (body_of body.items) tree.NoStmts) is (while_is test body)
+    (loop_gains (Code test) (stmts_code (body_of body.items)) start here h (subst (λ l. Gains t1 t2 (turn_code (length t1.lines - start + 2) (stmts_code (body_of l)))) all k))
+
+branches_are : (g : Expr × Vec Stmt Global → Expr × Vec tree.Stmt Global) (f : Expr × Vec tree.Stmt Global → Branch) → ((b : Expr × Vec Stmt Global) → f (g b) ≡ branch_of b) → (bs : List (Expr × Vec Stmt Global)) → map f (map g bs) ≡ map branch_of bs
+branches_are g f same [] = refl
+branches_are g f same (b ∷ bs) = ap (λ x. x ∷ map f (map g bs)) (same b) ∙ ap (λ r. branch_of b ∷ r) (branches_are g f same bs)
+
+if_is : (test : Expr) (body : Vec Stmt Global) (elifs : Vec (Expr × Vec Stmt Global) Global) (last : Vec Stmt Global)
+    → stmt_of (stmt_views.If test body elifs last) ≡ tree.If (expr_of test) (body_of body.items) (elifs_of (map branch_of elifs.items) (body_of last.items))
+if_is test body elifs last =
+    ap stmt_of (sym (rolls-If test body elifs last)) ∙ fold-roll-Stmt tree.Stmt stmt_step (Stmt-F.If test body elifs last)
+    ∙ ap (λ bs. tree.If (expr_of test) (body_of body.items) (elifs_of bs (body_of last.items))) (branches_are _ _ (λ b. refl) elifs.items)
+
+pub if_gains : {t0 t1 t2 t3 t4 : Contents} (test : Expr) (body : Vec Stmt Global) (elifs : Vec (Expr × Vec Stmt Global) Global) (last : Vec Stmt Global) (ss ls : List Stmt) (bs : List (Expr × Vec Stmt Global)) (s : Stmt) (end : ℕ)
+    → s ≡ stmt_views.If test body elifs last → ss ≡ body.items → bs ≡ elifs.items → ls ≡ last.items → end + 1 ≡ length t2.lines
+    → Gains t0 t1 (Code test) → Gains t1 t2 (branch_front [] (stmts_code (body_of ss)) ++ machine.Jump 0 ∷ []) → Gains t2 t3 (Elifs (map branch_of bs) (body_of ls)) → Aims t3 end t4
+    → Gains t0 t4 (stmt_code (stmt_of s))
+if_gains {t0} {t1} {t2} {t3} {t4} test body elifs last ss ls bs s end is all_body all_elifs all_last here h k l aim =
+    let suite = stmts_code (body_of body.items) in
+    let front = tested_branch (Code test) suite h (subst (λ x. Gains t1 t2 (branch_front [] (stmts_code (body_of x)) ++ machine.Jump 0 ∷ [])) all_body k) in
+    let others = subst (λ x. Gains t2 t3 (Elifs (map branch_of x) (body_of last.items))) all_elifs (subst (λ x. Gains t2 t3 (Elifs (map branch_of bs) (body_of x))) all_last l) in
+    at_stmt s (stmt_views.If test body elifs last) (tree.If (expr_of test) (body_of body.items) (elifs_of (map branch_of elifs.items) (body_of last.items))) is (if_is test body elifs last)
+    (branch_ends (Code test) suite (Elifs (map branch_of elifs.items) (body_of last.items)) end here front others aim)
+
+-- one `elif` of several
+pub next_elif : {t1 t2 t3 : Contents} (bs : List (Expr × Vec Stmt Global)) (i : ℕ) (b : Expr × Vec Stmt Global) (last : tree.Stmts) (ss : List Stmt) (at : ℕ) → i < length bs → get_or bs i b ≡ b → ss ≡ b.1.items → at + 1 ≡ length t3.lines
+    → Gains t1 t2 (Code b.0) → Gains t2 t3 (branch_front [] (stmts_code (body_of ss)) ++ machine.Jump 0 ∷ [])
+    → (end : Contents) (later : List ℕ) → Due t3 later (Elifs (map branch_of (drop (i + 1) bs)) last) end → Due t1 (at ∷ later) (Elifs (map branch_of (drop i bs)) last) end
+next_elif {t1} {t2} {t3} bs i b last ss at lt is all here h k end later d =
+    let front = tested_branch (Code b.0) (stmts_code (body_of b.1.items)) h (subst (λ x. Gains t2 t3 (branch_front [] (stmts_code (body_of x)) ++ machine.Jump 0 ∷ [])) all k) in
+    subst (λ x. Due t1 (at ∷ later) (Elifs (map branch_of x) last) end) (sym (rest_is bs i b lt is)) (elif_due (branch_of b) (map branch_of (drop (i + 1) bs)) last at here front end later d)
+
+-- behind the last one
+pub elifs_end : {t0 t1 t2 : Contents} (bs : List (Expr × Vec Stmt Global)) (i : ℕ) (ls ss : List Stmt) (jumps : List ℕ) → length bs ≤ i → ss ≡ ls → MakesAll t0 jumps (Elifs (map branch_of bs) (body_of ls)) t1 (Elifs (map branch_of (drop i bs)) (body_of ls)) → Gains t1 t2 (stmts_code (body_of ss))
+    → Due t0 jumps (Elifs (map branch_of bs) (body_of ls)) t2
+elifs_end {t0} {t1} {t2} bs i ls ss jumps le same before h =
+    MakesAll-end jumps (Elifs (map branch_of bs) (body_of ls)) (Elifs (map branch_of (drop i bs)) (body_of ls)) before
+    (subst (λ x. Gains t1 t2 (Elifs (map branch_of x) (body_of ls))) (sym (drop_all i bs le)) (subst (λ x. Gains t1 t2 (stmts_code (body_of x))) same h))
+
 -- ---- what stood in front
 
 -- a jump behind what stood in front is aimed
@@ -68,3 +122,17 @@ pub front_stays : {front old new : Contents} {at : ℕ} → ((c : Contents) → 
 front_stays {front} {old} {new} {at} keeps seen here before all =
     let behind : length front.lines ≤ at = omega (arith, length-Begins front.lines seen.lines before.lines) in
     keeps front behind all
+
+-- the jump behind a suite stands behind what stood in front of the suite
+jump_behind : {t1 t2 : Contents} (body : List machine.Instr) (at : ℕ) → at + 1 ≡ length t2.lines → Gains t1 t2 (branch_front [] body ++ machine.Jump 0 ∷ []) → length t1.lines ≤ at
+jump_behind {t1} {t2} body at here h = omega (arith, length_gained h, length-append body (machine.Jump 0 ∷ []))
+
+pub branch_stays : {t0 t1 t2 old new : Contents} {at : ℕ} (body : List machine.Instr) → ((c : Contents) → length c.lines ≤ at → Extends c old → Extends c new) → at + 1 ≡ length t2.lines → Gains t1 t2 (branch_front [] body ++ machine.Jump 0 ∷ []) → Extends t0 t1 → Extends t0 old → Extends t0 new
+branch_stays {t0} {t1} {t2} {old} {new} {at} body keeps here h before all =
+    let behind : length t0.lines ≤ at = omega (arith, length-Begins t0.lines t1.lines before.lines, jump_behind body at here h) in
+    keeps t0 behind all
+
+pub branch_more : {t0 t1 t2 : Contents} {more : List ℕ} (body : List machine.Instr) (jumps : List ℕ) (at : ℕ) → more ≡ jumps ++ at ∷ [] → at + 1 ≡ length t2.lines → Gains t1 t2 (branch_front [] body ++ machine.Jump 0 ∷ []) → Extends t0 t1 → AllByRecursion (λ k. length t0.lines ≤ k) jumps → AllByRecursion (λ k. length t0.lines ≤ k) more
+branch_more {t0} {t1} {t2} {more} body jumps at push here h before all =
+    let behind : length t0.lines ≤ at = omega (arith, length-Begins t0.lines t1.lines before.lines, jump_behind body at here h) in
+    subst (AllByRecursion (λ k. length t0.lines ≤ k)) (sym push) (All-push (length t0.lines) jumps at all behind)

@@ -1,14 +1,14 @@
 // From a module to its code.
-ghost use Rattle.std.specs.Prelude.{◌≡◌, ◌+◌, [], ◌∷◌, ◌++◌, length, map, true, false, IfOk, IfErr, OnOk, OnErr};
+ghost use Rattle.std.specs.Prelude.{◌≡◌, ◌+◌, ◌-◌, ◌≤◌, [], ◌∷◌, ◌++◌, length, map, true, false, IfOk, IfErr, OnOk, OnErr};
 ghost use Rattle.si_semantics.specs.Grammar.{chain_of, exprs_of};
 ghost use Rattle.si_semantics.specs.Machine as machine;
 ghost use Rattle.si_semantics.specs.Scope.{is_scoped};
 ghost use Rattle.si_parse.specs.Trees.{body_of, boolean_of, expr_of, stmt_of};
 ghost use Rattle.si_parse.specs.Modules.{tree_of};
-ghost use Rattle.si_compile.specs.Code.{chain_code, compiled, expr_code, exprs_code, loop_code, module_code, operands_code, stmt_code, stmts_code};
+ghost use Rattle.si_compile.specs.Code.{chain_code, compiled, expr_code, exprs_code, module_code, operands_code, stmt_code, stmts_code};
 ghost use Rattle.si_compile.specs.Contents.{Extends};
 ghost use Rattle.si_compile.specs.declared.fault.CompileFault.TheVariants.{Scope};
-ghost use Rattle.si_compile.specs.Jumps.{branch_front, link_of};
+ghost use Rattle.si_compile.specs.Jumps.{branch_front, link_of, turn_code};
 ghost use Rattle.si_compile.specs.Views.{Gains, table_of};
 
 use crate::fault::CompileFault;
@@ -99,29 +99,35 @@ fn emit_stmt(table: &mut CodeTable, stmt: &Stmt) -> Result<(), NoMemory>
         }
         Stmt::Pass => Ok(()),
         Stmt::If(test, body, elifs, last) => {
-            let end = emit_branch(table, test, body)?;
+            emit_expr(table, test)?;
+            let end = emit_branch(table, body)?;
             let mut ends = Vec::new(table.allocator());
             for (test, body) in elifs {
-                ends.push(emit_branch(table, test, body)?)?;
+                emit_expr(table, test)?;
+                ends.push(emit_branch(table, body)?)?;
             }
             emit_suite(table, last)?;
             table.aim_all(&ends)?;
             table.aim(end)
         }
-        Stmt::While(test, body) => emit_while(table, test, body),
+        Stmt::While(test, body) => {
+            let start = table.len();
+            emit_expr(table, test)?;
+            emit_turn(table, start, body)
+        }
         Stmt::Break => table.put(Instr::Break),
         Stmt::Continue => table.put(Instr::Continue),
     }
 }
 
-// A test, its suite and the jump behind that, which isn't aimed yet: it leads past what follows. Says where that jump is.
+// A suite that is passed over where the value of its test, which is taken, isn't true, and the jump behind it. That
+// isn't aimed yet: it leads past what follows. Says where it is.
 #[cycle(stmts)]
-fn emit_branch(table: &mut CodeTable, test: &Expr, body: &[Stmt]) -> Result<usize, NoMemory>
-    ensures ok { OnOk result (Gains table.old table.new (branch_front (expr_code (expr_of test.now)) (stmts_code (body_of body.now)) ++ machine.Jump 0 ∷ [])) }
+fn emit_branch(table: &mut CodeTable, body: &[Stmt]) -> Result<usize, NoMemory>
+    ensures ok { OnOk result (Gains table.old table.new (branch_front [] (stmts_code (body_of body.now)) ++ machine.Jump 0 ∷ [])) }
     ensures at { IfOk result (λ at. at + 1 ≡ length table.new.lines) }
     ensures extends { Extends table.old table.new }
 {
-    emit_expr(table, test)?;
     let skip = table.len();
     table.put(Instr::JumpIfFalse(0))?;
     emit_suite(table, body)?;
@@ -131,13 +137,14 @@ fn emit_branch(table: &mut CodeTable, test: &Expr, body: &[Stmt]) -> Result<usiz
     Ok(end)
 }
 
+// The body of a loop that begins at this place. It is passed over where the value of the loop's test, which is taken,
+// isn't true.
 #[cycle(stmts)]
-fn emit_while(table: &mut CodeTable, test: &Expr, body: &[Stmt]) -> Result<(), NoMemory>
-    ensures ok { OnOk result (Gains table.old table.new (loop_code (expr_code (expr_of test.now)) (stmts_code (body_of body.now)) [])) }
+fn emit_turn(table: &mut CodeTable, start: usize, body: &[Stmt]) -> Result<(), NoMemory>
+    requires { start ≤ length table.old.lines }
+    ensures ok { OnOk result (Gains table.old table.new (turn_code (length table.old.lines - start + 2) (stmts_code (body_of body.now)))) }
     ensures extends { Extends table.old table.new }
 {
-    let start = table.len();
-    emit_expr(table, test)?;
     let skip = table.len();
     table.put(Instr::JumpIfFalse(0))?;
     let enter = table.len();
@@ -210,7 +217,11 @@ fn emit_exprs(table: &mut CodeTable, exprs: &[Expr]) -> Result<(), NoMemory>
 
 // The operands of `and` or `or` behind the first.
 #[cycle(exprs)]
-fn emit_operands(table: &mut CodeTable, operator: BooleanOperator, operands: &[Expr]) -> Result<(), NoMemory>
+fn emit_operands(
+    table: &mut CodeTable,
+    operator: BooleanOperator,
+    operands: &[Expr],
+) -> Result<(), NoMemory>
     ensures ok { OnOk result (Gains table.old table.new (operands_code (boolean_of operator) (exprs_of (map expr_of operands.now)))) }
     ensures extends { Extends table.old table.new }
 {
@@ -249,6 +260,7 @@ fn emit_chain(table: &mut CodeTable, links: &[(ComparisonOperator, Expr)]) -> Re
 mod tests {
     use super::*;
     use si_parse::{BinaryOperator, UnaryOperator, parse};
+    use std::alloc::Global;
     use std::test::Fail;
 
     #[test]
@@ -320,6 +332,151 @@ mod tests {
         assert_eq!(rt; table.len(), 13);
         assert_eq!(rt; table.slots(), 4);
         assert_eq!(rt; table.literals().len(), 3);
+        Ok(())
+    }
+
+    // Whether the code of statements is this, in a table of its own.
+    fn has_code(alloc: Global, body: &[Stmt], code: &[Instr]) -> Result<bool, AllocError> {
+        let mut table = CodeTable::new(alloc);
+        compile_body(body, &mut table)?;
+        for (at, instr) in code.iter().enumerate() {
+            if table.line(at) != Some(*instr) {
+                return Ok(false);
+            }
+        }
+        Ok(table.len() == code.len())
+    }
+
+    fn name(alloc: Global, text: &str) -> Result<Expr, AllocError> {
+        Ok(Expr::Name(String::from_str(alloc, text)?))
+    }
+
+    // The name alone, as a suite.
+    fn suite(alloc: Global, text: &str) -> Result<Vec<Stmt>, AllocError> {
+        Ok(vec![in alloc; Stmt::Evaluate(name(alloc, text)?)]?)
+    }
+
+    // `if a: b`, `elif c: d`, `else: e`
+    #[test]
+    fn each_branch_leads_past_the_others(rt: HostRuntime) -> Result<(), Fail> {
+        let alloc = rt.alloc();
+        let elifs = vec![in alloc; (name(alloc, "c")?, suite(alloc, "d")?)]?;
+        let branches = Stmt::If(
+            name(alloc, "a")?,
+            suite(alloc, "b")?,
+            elifs,
+            suite(alloc, "e")?,
+        );
+        let code = [
+            Instr::LoadGlobal(0),
+            Instr::JumpIfFalse(3),
+            Instr::LoadGlobal(1),
+            Instr::Discard,
+            Instr::Jump(7),
+            Instr::LoadGlobal(2),
+            Instr::JumpIfFalse(3),
+            Instr::LoadGlobal(3),
+            Instr::Discard,
+            Instr::Jump(2),
+            Instr::LoadGlobal(4),
+            Instr::Discard,
+            Instr::Finish,
+        ];
+        assert!(rt; has_code(alloc, &[branches], &code)?);
+        Ok(())
+    }
+
+    // `while a:` with `if b: break` and `continue`
+    #[test]
+    fn a_loop_begins_again_or_ends(rt: HostRuntime) -> Result<(), Fail> {
+        let alloc = rt.alloc();
+        let leaves = vec![in alloc; Stmt::Break]?;
+        let last = Stmt::If(name(alloc, "b")?, leaves, Vec::new(alloc), Vec::new(alloc));
+        let turns = Stmt::While(name(alloc, "a")?, vec![in alloc; last, Stmt::Continue]?);
+        let code = [
+            Instr::LoadGlobal(0),
+            Instr::JumpIfFalse(7),
+            Instr::EnterLoop(3, 6),
+            Instr::LoadGlobal(1),
+            Instr::JumpIfFalse(2),
+            Instr::Break,
+            Instr::Jump(0),
+            Instr::Continue,
+            Instr::Continue,
+            Instr::Finish,
+        ];
+        assert!(rt; has_code(alloc, &[turns], &code)?);
+        Ok(())
+    }
+
+    // `a < 1 <= 2 != None`
+    #[test]
+    fn a_chain_keeps_each_operand(rt: HostRuntime) -> Result<(), Fail> {
+        let alloc = rt.alloc();
+        let links = vec![in alloc;
+            (ComparisonOperator::Less, Expr::Int(1)),
+            (ComparisonOperator::LessEqual, Expr::Int(2)),
+            (ComparisonOperator::NotEqual, Expr::Nothing),
+        ]?;
+        let chain = Expr::Compare(Box::new(alloc, name(alloc, "a")?)?, links);
+        let code = [
+            Instr::LoadGlobal(0),
+            Instr::PushInt(1),
+            Instr::KeepRight,
+            Instr::Compare(ComparisonOperator::Less),
+            Instr::EndChain(6),
+            Instr::PushInt(2),
+            Instr::KeepRight,
+            Instr::Compare(ComparisonOperator::LessEqual),
+            Instr::EndChain(2),
+            Instr::PushNone,
+            Instr::Compare(ComparisonOperator::NotEqual),
+            Instr::Discard,
+            Instr::Finish,
+        ];
+        assert!(rt; has_code(alloc, &[Stmt::Evaluate(chain)], &code)?);
+        Ok(())
+    }
+
+    // `x = (a or b or True) if c else False` and `x += 1`
+    #[test]
+    fn operands_that_may_be_passed_over(rt: HostRuntime) -> Result<(), Fail> {
+        let alloc = rt.alloc();
+        let others = vec![in alloc; name(alloc, "b")?, Expr::Truth(true)]?;
+        let either = Expr::Boolean(
+            BooleanOperator::Or,
+            Box::new(alloc, name(alloc, "a")?)?,
+            others,
+        );
+        let value = Expr::Conditional(
+            Box::new(alloc, name(alloc, "c")?)?,
+            Box::new(alloc, either)?,
+            Box::new(alloc, Expr::Truth(false))?,
+        );
+        let first = Stmt::Assign(String::from_str(alloc, "x")?, value);
+        let second = Stmt::Augment(
+            String::from_str(alloc, "x")?,
+            BinaryOperator::Add,
+            Expr::Int(1),
+        );
+        let code = [
+            Instr::LoadGlobal(0),
+            Instr::JumpIfFalse(6),
+            Instr::LoadGlobal(1),
+            Instr::JumpOrDiscard(BooleanOperator::Or, 3),
+            Instr::LoadGlobal(2),
+            Instr::JumpOrDiscard(BooleanOperator::Or, 1),
+            Instr::PushTruth(true),
+            Instr::Jump(1),
+            Instr::PushTruth(false),
+            Instr::StoreGlobal(3),
+            Instr::LoadGlobal(3),
+            Instr::PushInt(1),
+            Instr::Binary(BinaryOperator::Add),
+            Instr::StoreGlobal(3),
+            Instr::Finish,
+        ];
+        assert!(rt; has_code(alloc, &[first, Stmt::Pass, second], &code)?);
         Ok(())
     }
 }

@@ -7,7 +7,8 @@ ghost use Rattle.si_compile.specs.Jumps.{aimed};
 use si_parse::{BinaryOperator, BooleanOperator, ComparisonOperator, UnaryOperator};
 
 /// One instruction. A machine takes values from the top of its operands and puts values there; literals and globals are
-/// told by their places and slots in the `CodeTable`. A jump leads to the instruction that follows it, and so many more.
+/// told by their places and slots in the `CodeTable`. A jump leads to the instruction that follows it, and so many
+/// further.
 #[derive(Clone, Copy, Debug, PartialEq, Eq)]
 pub enum Instr {
     /// `[..] to [.., int]`: puts this integer.
@@ -30,7 +31,8 @@ pub enum Instr {
     Compare(ComparisonOperator),
     /// `[.., a, b] to [.., b, a, b]`: keeps the right operand of a comparison below it, for the next one of a chain.
     KeepRight,
-    /// `[.., b, c] to [.., b]` where the comparison's value `c` is true; else `[.., b, c] to [.., c]`, and jumps: the chain ends.
+    /// `[.., b, c] to [.., b]` where the comparison's value `c` is true; else `[.., b, c] to [.., c]`, and jumps: the
+    /// chain ends.
     EndChain(u32),
     /// `[.., a] to [.., a]` where the operand decides the `and` or the `or`, and jumps; else `[.., a] to [..]`.
     JumpOrDiscard(BooleanOperator, u32),
@@ -38,8 +40,8 @@ pub enum Instr {
     JumpIfFalse(u32),
     /// `[..] to [..]`: jumps.
     Jump(u32),
-    /// `[..] to [..]`: enters the body of a loop that begins the first number of instructions before the one that follows this,
-    /// and ends the second number past it.
+    /// `[..] to [..]`: enters the body of a loop that begins the first number of instructions before the one that
+    /// follows this, and ends the second number past it.
     EnterLoop(u32, u32),
     /// `[..] to []`: leaves the innermost loop that was entered, for its end.
     Break,

@@ -6,7 +6,7 @@
 //
 // In reading order: `instr`, the instructions, each with what it takes and leaves; `table`, their lines, literals and
 // slots; `names`, the slots; `emit`, the code of each form of tree; `laws`. specs/Contents.antt and specs/Views.antt say
-// what a table has and what it stands for.
+// what a table has and what it stands for; specs/Jumps.antt is for the proofs alone.
 #![tactic(auto)]
 
 pub mod emit;

@@ -18,7 +18,7 @@ invariant-emit_suite-loop-stmt l = record {
 -- the jumps so far are due, whatever the rest makes due
 abbrev pub invariant-emit_stmt-loop-test : goal.invariant-emit_stmt-loop-test
 invariant-emit_stmt-loop-test l = record {
-  due : (end : Contents) (later : List ℕ) → Due l.table later (stmts_code (elifs_of (map branch_of (drop l.test-index l.elifs.items)) (body_of l.last.items))) end → Due l.initial.table (l.ends.items ++ later) (stmts_code (elifs_of (map branch_of l.elifs.items) (body_of l.last.items))) end;
+  due : (end : Contents) (later : List ℕ) → Due l.table later (stmts_code (elifs_of (map branch_of (drop l.test-index l.test-items)) (body_of l.last.items))) end → Due l.initial.table (l.ends.items ++ later) (stmts_code (elifs_of (map branch_of l.test-items) (body_of l.last.items))) end;
   behind : AllByRecursion (λ at. length l.initial.table.lines ≤ at) l.ends.items;
   extends : Extends l.initial.table l.table;
 }
