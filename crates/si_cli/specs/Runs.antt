@@ -1,6 +1,7 @@
 -- What a run of interpreter 0 shows (this project's own).
-use Rattle.std.specs.Prelude.{◌≡◌, List, [], ◌∷◌, Option, Some, None, ℕ}
+use Rattle.std.specs.Prelude.{◌≡◌, true, List, [], ◌∷◌, Option, Some, None, ℕ}
 use Rattle.si_semantics.specs.Tree.{Module, Stmts}
+use Rattle.si_semantics.specs.Scope.{is_scoped}
 use Rattle.si_semantics.specs.World.{Answer, Taken, Run}
 use Rattle.si_semantics.specs.Life.{life_of}
 use Rattle.si_semantics.specs.Machine.{Course, Place, Ending}
@@ -12,10 +13,14 @@ use Rattle.si_cli.specs.declared.interpreter.Standing.TheVariants.{Ready, AtEnd,
 use Rattle.si_cli.specs.declared.interpreter.Solo.{Solo}
 use Rattle.si_cli.specs.Views.{printed_by}
 
--- what interpreter 0 is given to run: the tree as which the script is read, or none where it isn't read
+-- a text is read as a tree, in which `break` and `continue` stand in loops alone
+abbrev pub IsTaken : List ℕ → Stmts → Type 0
+IsTaken text body = IsRead text body × (is_scoped body ≡ true)
+
+-- what interpreter 0 is given to run: the tree as which the script is read, or none where there is no such tree
 abbrev pub IsJob : List ℕ → Option Module → Type 0
-IsJob script (Some m) = IsRead script m.body
-IsJob script None = (body : Stmts) → IsRead script body → ⊥
+IsJob script (Some m) = IsTaken script m.body
+IsJob script None = (body : Stmts) → IsTaken script body → ⊥
 
 -- how it stands, by its place: at the end of its run, or at an instruction
 abbrev pub Stands : Standing → Place → Type 0

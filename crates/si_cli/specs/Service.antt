@@ -3,13 +3,12 @@ use Rattle.std.specs.Prelude.{◌≡◌, ℕ, List, [], ◌∷◌, IsUtf8, Optio
 use Rattle.std.specs.Io.KnownBytes.{Appends, Keeps}
 use Rattle.si_semantics.specs.Report.{status}
 use Rattle.si_semantics.specs.Tree.{Stmts}
-use Rattle.si_parse.specs.Modules.{IsRead}
 use Rattle.si_cli.specs.declared.fault.CliFault.{CliFault}
 use Rattle.si_cli.specs.declared.fault.CliFault.TheVariants.{Write, Script, NoMemory, Input}
 use Rattle.si_cli.specs.declared.asked.Request.{Request}
 use Rattle.si_cli.specs.declared.asked.Request.TheVariants.{Serial}
 use Rattle.si_cli.specs.declared.interpreter.Solo.{Solo}
-use Rattle.si_cli.specs.Runs.{ShowsLife, one_run}
+use Rattle.si_cli.specs.Runs.{IsTaken, ShowsLife, one_run}
 use Rattle.si_cli.specs.Views.{HasUsed, report_of, standing_of}
 
 -- a byte order mark in UTF-8
@@ -20,9 +19,10 @@ mark = 239 ∷ 187 ∷ 191 ∷ []
 abbrev pub without_mark : List ℕ → List ℕ
 without_mark bytes = if bytes_eq (take 3 bytes) mark then drop 3 bytes else bytes
 
--- the bytes of a script are read as a tree: they are UTF-8, and the tokens of their text derive it
+-- the bytes of a script are read as a tree: they are UTF-8, the tokens of their text derive it, and `break` and
+-- `continue` stand in loops alone
 abbrev pub IsScript : List ℕ → Stmts → Type 0
-IsScript bytes body = IsUtf8 (without_mark bytes) × IsRead (without_mark bytes) body
+IsScript bytes body = IsUtf8 (without_mark bytes) × IsTaken (without_mark bytes) body
 
 -- the fault of a script that is not read
 abbrev pub IsRefusal : CliFault → Type 0

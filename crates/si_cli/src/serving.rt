@@ -8,12 +8,12 @@ ghost use Rattle.si_parse.specs.Modules.{tree_of};
 ghost use Rattle.si_cli.specs.Service.{IsOfScript, IsRefusal, IsScript, LeavesAlone, Reports, turns_of, without_mark};
 ghost use Rattle.si_cli.specs.Views.{standing_of};
 
-use crate::alone::run_module;
+use crate::alone::{read, run_module};
 use crate::asked::Request;
 use crate::fault::CliFault;
 use crate::interpreter::{Outcome, Solo, Standing};
 use crate::report::write_report;
-use si_parse::{Module, ParseFault, parse};
+use si_parse::{Module, ParseFault};
 use std::alloc::Global;
 use std::io::Write;
 
@@ -26,7 +26,7 @@ const MARK: [u8; 3] = [0xef, 0xbb, 0xbf];
 /// `script` is the script's bytes, of which one byte order mark at their front is dropped. No command of this stage
 /// reads `schedule` or writes to `saved`.
 ///
-/// Faults: `Script` where the script isn't UTF-8 or isn't read, `NoMemory` where memory was refused before the run,
+/// Faults: `Script` where the script isn't UTF-8, isn't read, or has a `break` or `continue` in no loop, `NoMemory` where memory was refused before the run,
 /// and then nothing was written; `Write` where a write or the last flush failed.
 pub fn serve<A: Write, B: Write>(
     alloc: Global,
@@ -58,7 +58,7 @@ fn read_module(alloc: Global, script: &[u8]) -> Result<Module, CliFault>
     ensures fault { IfErr result IsOfScript }
 {
     let text = decode(script)?;
-    match parse(alloc, text) {
+    match read(alloc, text) {
         Ok(module) => Ok(module),
         Err(ParseFault::Syntax(line)) => Err(CliFault::Script(line)),
         Err(ParseFault::NoMemory) => Err(CliFault::NoMemory),

@@ -31,11 +31,10 @@ pub fn compile(tree: &Module, table: &mut CodeTable) -> Result<Entry, CompileFau
     ensures scope { IfErr result (λ fault. fault ≡ Scope → is_scoped (tree_of tree.now) ≡ false) }
     ensures err { OnErr result (table.new ≡ table.old) }
 {
-    let body = tree.body();
-    if !is_scoped(body) {
+    if !is_scoped(tree) {
         return Err(CompileFault::Scope);
     }
-    Ok(compile_body(body, table)?)
+    Ok(compile_body(tree.body(), table)?)
 }
 
 fn compile_body(body: &[Stmt], table: &mut CodeTable) -> Result<Entry, NoMemory>

@@ -1,15 +1,16 @@
 // Where `break` and `continue` stand.
 ghost use Rattle.std.specs.Prelude.{◌≡◌};
 ghost use Rattle.si_semantics.specs.Scope.{is_scoped, stmt_scoped, stmts_scoped};
+ghost use Rattle.si_parse.specs.Modules.{tree_of};
 ghost use Rattle.si_parse.specs.Trees.{body_of, stmt_of};
 
-use si_parse::Stmt;
+use si_parse::{Module, Stmt};
 
-/// `break` and `continue` stand only in loops of these statements.
-pub(crate) fn is_scoped(body: &[Stmt]) -> bool
-    ensures { result ≡ is_scoped (body_of body.now) }
+/// Whether each `break` and `continue` of a module stands in a loop (Python Language Reference 3.14, 7.9 and 7.10).
+pub fn is_scoped(tree: &Module) -> bool
+    ensures { result ≡ is_scoped (tree_of tree.now) }
 {
-    is_suite_scoped(body, false)
+    is_suite_scoped(tree.body(), false)
 }
 
 // Statements one after another, which stand in a loop or in none.
@@ -47,21 +48,24 @@ fn is_stmt_scoped(stmt: &Stmt, in_loop: bool) -> bool
 #[cfg(test)]
 mod tests {
     use super::*;
-    use si_parse::Expr;
+    use si_parse::parse;
     use std::test::Fail;
 
     #[test]
     fn loops_have_what_leaves_them(rt: HostRuntime) -> Result<(), Fail> {
-        let alloc = rt.alloc();
-        let mut body = vec![in alloc; Stmt::Pass]?;
-        let branch = vec![in alloc; Stmt::Continue]?;
-        let elifs = vec![in alloc; (Expr::Nothing, branch)]?;
-        let last = vec![in alloc; Stmt::Break]?;
-        let choice = Stmt::If(Expr::Nothing, Vec::new(alloc), elifs, last);
-        body.push(Stmt::While(Expr::Nothing, vec![in alloc; choice]?))?;
-        assert!(rt; is_scoped(&body));
-        body.push(Stmt::Break)?;
-        assert!(rt; !is_scoped(&body));
+        let cases = [
+            (
+                "while 1:\n if 2: pass\n elif 3: continue\n else: break\n",
+                true,
+            ),
+            ("while 1:\n pass\nbreak\n", false),
+            ("if 1: pass\nelif 2: continue\n", false),
+            ("x = 1\n", true),
+        ];
+        for (script, want) in cases {
+            let tree = parse(rt.alloc(), script)?;
+            assert_eq!(rt; is_scoped(&tree), want, "{script}");
+        }
         Ok(())
     }
 }

@@ -15,7 +15,7 @@ use Rattle.si_cli.proofs.alone.run_module.Goals as goal
 pub returns-clause-shows : goal.returns-clause-shows
 returns-clause-shows c =
     let tree : Module = record { body = tree_of c.args.tree.now } in
-    let entry = c.in_ok-entry.ensures.ok ∙ ap (λ (t : Contents). compiled (table_of t) tree) c.new-table.ensures in
+    let entry = c.in-Ok.ensures.ok ∙ ap (λ (t : Contents). compiled (table_of t) tree) c.new-table.ensures in
     let P : Table × ℕ → Type 0 = λ at. Stands c.load.new.self (run_at at first_world) [] in
     let ran = c.run-locals.ensures.ran (one_run (Some tree)) (begins tree _ (subst P entry c.in_ok-load.ensures.ok)) in
     shown _ _ _ _ _ ran c.take_printed.ensures.taken refl refl
