@@ -5,16 +5,19 @@ ghost use Rattle.si_semantics.specs.World.{Answer};
 ghost use Rattle.si_semantics.specs.Scope.{is_scoped};
 ghost use Rattle.si_semantics.specs.Tree.{Stmts};
 ghost use Rattle.si_parse.specs.Gives.{IsSyntax};
-ghost use Rattle.si_parse.specs.Modules.{tree_of};
+ghost use Rattle.si_syntax.specs.Modules.{tree_of};
 ghost use Rattle.si_cli.specs.Courses.{HasRun, IsUnderWay};
 ghost use Rattle.si_cli.specs.Runs.{IsRunOf, IsTaken, ShowsLife, one_run};
 ghost use Rattle.si_cli.specs.Views.{AreUsed, HasUsed};
 
 use crate::interpreter::{Outcome, Solo, Standing};
-use si_compile::{CodeTable, CompileFault, compile, is_scoped};
+use si_code::CodeTable;
+use si_compile::{CompileFault, compile};
 use si_machine::{Machine, Step};
-use si_parse::{Module, ParseFault, parse};
+use si_parse::{ParseFault, parse};
 use si_plain::{Kind, NoMemory, Text};
+use si_scope::is_scoped;
+use si_syntax::Module;
 use std::alloc::{AllocError, Global};
 
 /// Runs a script in interpreter 0, until its run has ended, it is refused memory, or `turns` local turns are used.

@@ -4,7 +4,7 @@ ghost use Rattle.std.specs.Prelude.{◌≡◌, IfErr, IfOk, IsOkUnless, IsUtf8, 
 ghost use Rattle.std.specs.Io.KnownBytes.{Keeps};
 ghost use Rattle.si_semantics.specs.Report.{status};
 ghost use Rattle.si_semantics.specs.Tree.{Stmts};
-ghost use Rattle.si_parse.specs.Modules.{tree_of};
+ghost use Rattle.si_syntax.specs.Modules.{tree_of};
 ghost use Rattle.si_cli.specs.Service.{IsOfScript, IsRefusal, IsScript, LeavesAlone, Reports, turns_of, without_mark};
 ghost use Rattle.si_cli.specs.Views.{standing_of};
 
@@ -13,7 +13,8 @@ use crate::asked::Request;
 use crate::fault::CliFault;
 use crate::interpreter::{Outcome, Solo, Standing};
 use crate::report::write_report;
-use si_parse::{Module, ParseFault};
+use si_parse::ParseFault;
+use si_syntax::Module;
 use std::alloc::Global;
 use std::io::Write;
 

@@ -4,18 +4,19 @@ use Rattle.std.proofs.lemmas.List.{drop_all, map-append}
 use Rattle.si_semantics.specs.Tree as tree
 use Rattle.si_semantics.specs.Machine as machine
 use Rattle.si_semantics.specs.Grammar.{exprs_of, chain_of, elifs_of, Link, Branch}
-use Rattle.si_parse.specs.declared.syntax.ComparisonOperator.{ComparisonOperator}
-use Rattle.si_parse.specs.declared.syntax.Expr.{Expr}
-use Rattle.si_parse.specs.Trees.{expr_of}
+use Rattle.si_syntax.specs.declared.operators.ComparisonOperator.{ComparisonOperator}
+use Rattle.si_syntax.specs.declared.expr.Expr.{Expr}
+use Rattle.si_syntax.specs.Trees.{expr_of, link_of}
 use Rattle.si_compile.specs.Code.{expr_code, operands_code, chain_code, branch_code, loop_code, stmts_code}
 use Rattle.std.specs.List.{AllByRecursion}
-use Rattle.si_compile.specs.Contents.{Contents, Extends}
-use Rattle.si_compile.specs.Jumps.{Due, Aims, AimsAll, branch_front, turn_code, link_of}
-use Rattle.si_compile.specs.Views.{Gains}
-use Rattle.si_compile.proofs.Codes.{Gains-nil, Gains-append}
-use Rattle.si_compile.proofs.Growth.{length-Begins}
-use Rattle.si_compile.proofs.Jumped.{length_gained, All-push, Due-nil, Due-before, Due-jump}
-use Rattle.si_compile.proofs.Emitted.{rest_is}
+use Rattle.si_code.specs.Contents.{Contents, Extends}
+use Rattle.si_code.specs.Jumps.{Due, Aims, AimsAll}
+use Rattle.si_compile.specs.Jumps.{branch_front, turn_code}
+use Rattle.si_code.specs.Views.{Gains}
+use Rattle.si_code.proofs.Codes.{Gains-nil, Gains-append}
+use Rattle.si_plain.proofs.Begins.{length-Begins}
+use Rattle.si_code.proofs.Jumped.{length_gained, All-push, Due-nil, Due-before, Due-jump}
+use Rattle.si_syntax.proofs.Rows.{rest_is}
 
 -- ---- two ways
 

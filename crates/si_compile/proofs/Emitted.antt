@@ -4,22 +4,22 @@ use Rattle.std.proofs.lemmas.List.{drop_all}
 use Rattle.si_semantics.specs.Tree as tree
 use Rattle.si_semantics.specs.Machine as machine
 use Rattle.si_semantics.specs.Grammar.{exprs_of}
-use Rattle.si_parse.specs.declared.syntax.BinaryOperator.{BinaryOperator}
-use Rattle.si_parse.specs.declared.syntax.UnaryOperator.{UnaryOperator}
-use Rattle.si_parse.specs.declared.syntax.Expr.{Expr}
-use Rattle.si_parse.specs.declared.syntax.Expr.TheFolds.{fold-roll-Expr}
-use Rattle.si_parse.specs.declared.syntax.Expr.TheOpen.{Expr-F}
-use Rattle.si_parse.specs.declared.syntax.Expr.TheVariants.{rolls-Unary, rolls-Binary, rolls-Call}
-use Rattle.si_parse.specs.declared.syntax.Expr.TheViews as views
-use Rattle.si_parse.specs.declared.syntax.Stmt.{Stmt}
-use Rattle.si_parse.specs.declared.syntax.Stmt.TheFolds.{fold-roll-Stmt}
-use Rattle.si_parse.specs.declared.syntax.Stmt.TheOpen.{Stmt-F}
-use Rattle.si_parse.specs.declared.syntax.Stmt.TheVariants.{Evaluate, Assign, Augment, rolls-Evaluate, rolls-Assign, rolls-Augment}
-use Rattle.si_parse.specs.Trees.{binary_of, unary_of, expr_of, stmt_of, stmt_step, body_of, view_step}
+use Rattle.si_syntax.specs.declared.operators.BinaryOperator.{BinaryOperator}
+use Rattle.si_syntax.specs.declared.operators.UnaryOperator.{UnaryOperator}
+use Rattle.si_syntax.specs.declared.expr.Expr.{Expr}
+use Rattle.si_syntax.specs.declared.expr.Expr.TheFolds.{fold-roll-Expr}
+use Rattle.si_syntax.specs.declared.expr.Expr.TheOpen.{Expr-F}
+use Rattle.si_syntax.specs.declared.expr.Expr.TheVariants.{rolls-Unary, rolls-Binary, rolls-Call}
+use Rattle.si_syntax.specs.declared.expr.Expr.TheViews as views
+use Rattle.si_syntax.specs.declared.stmt.Stmt.{Stmt}
+use Rattle.si_syntax.specs.declared.stmt.Stmt.TheFolds.{fold-roll-Stmt}
+use Rattle.si_syntax.specs.declared.stmt.Stmt.TheOpen.{Stmt-F}
+use Rattle.si_syntax.specs.declared.stmt.Stmt.TheVariants.{Evaluate, Assign, Augment, rolls-Evaluate, rolls-Assign, rolls-Augment}
+use Rattle.si_syntax.specs.Trees.{binary_of, unary_of, expr_of, stmt_of, stmt_step, body_of, view_step}
 use Rattle.si_compile.specs.Code.{count, expr_code, exprs_code, stmt_code, stmts_code}
-use Rattle.si_compile.specs.Contents.{Contents}
-use Rattle.si_compile.specs.Views.{Gains}
-use Rattle.si_compile.proofs.Codes.{Gains-nil, Gains-append}
+use Rattle.si_code.specs.Contents.{Contents}
+use Rattle.si_code.specs.Views.{Gains}
+use Rattle.si_code.proofs.Codes.{Gains-nil, Gains-append}
 
 -- ---- expressions
 
@@ -64,9 +64,6 @@ call_gains {t0} {t1} {t2} {t3} f args x e es n is at all many h k l =
     (Gains-append t0 t1 t3 _ _ (at_value x f.value at h) (Gains-append t1 t2 t3 _ _ arguments last))
 
 -- ---- one of several, and then the rest
-
-pub rest_is : {A : Type 0} (xs : List A) (i : ℕ) (x : A) → i < length xs → get_or xs i x ≡ x → drop i xs ≡ x ∷ drop (i + 1) xs
-rest_is xs i x lt at = drop-cons xs i x lt ∙ ap (λ y. y ∷ drop (suc i) xs) at ∙ ap (λ k. x ∷ drop k xs) (sym (add-one i))
 
 pub next_expr : {t0 t1 t2 : Contents} (es : List Expr) (i : ℕ) (e : Expr) → i < length es → get_or es i e ≡ e
     → ((end : Contents) → Gains t1 end (exprs_code (exprs_of (map expr_of (drop i es)))) → Gains t0 end (exprs_code (exprs_of (map expr_of es))))

@@ -5,27 +5,29 @@ use Rattle.std.proofs.lemmas.List.{drop_all}
 use Rattle.si_semantics.specs.Tree as tree
 use Rattle.si_semantics.specs.Machine as machine
 use Rattle.si_semantics.specs.Grammar.{exprs_of, chain_of, elifs_of, Branch}
-use Rattle.si_parse.specs.declared.syntax.BooleanOperator.{BooleanOperator}
-use Rattle.si_parse.specs.declared.syntax.ComparisonOperator.{ComparisonOperator}
-use Rattle.si_parse.specs.declared.syntax.Expr.{Expr}
-use Rattle.si_parse.specs.declared.syntax.Expr.TheFolds.{fold-roll-Expr}
-use Rattle.si_parse.specs.declared.syntax.Expr.TheOpen.{Expr-F}
-use Rattle.si_parse.specs.declared.syntax.Expr.TheVariants.{rolls-Boolean, rolls-Compare, rolls-Conditional}
-use Rattle.si_parse.specs.declared.syntax.Expr.TheViews as views
-use Rattle.si_parse.specs.declared.syntax.Stmt.{Stmt}
-use Rattle.si_parse.specs.declared.syntax.Stmt.TheFolds.{fold-roll-Stmt}
-use Rattle.si_parse.specs.declared.syntax.Stmt.TheOpen.{Stmt-F}
-use Rattle.si_parse.specs.declared.syntax.Stmt.TheVariants.{rolls-If, rolls-While}
-use Rattle.si_parse.specs.declared.syntax.Stmt.TheViews as stmt_views
-use Rattle.si_parse.specs.Trees.{boolean_of, body_of, comparison_of, expr_of, stmt_of, stmt_step, view_step}
+use Rattle.si_syntax.specs.declared.operators.BooleanOperator.{BooleanOperator}
+use Rattle.si_syntax.specs.declared.operators.ComparisonOperator.{ComparisonOperator}
+use Rattle.si_syntax.specs.declared.expr.Expr.{Expr}
+use Rattle.si_syntax.specs.declared.expr.Expr.TheFolds.{fold-roll-Expr}
+use Rattle.si_syntax.specs.declared.expr.Expr.TheOpen.{Expr-F}
+use Rattle.si_syntax.specs.declared.expr.Expr.TheVariants.{rolls-Boolean, rolls-Compare, rolls-Conditional}
+use Rattle.si_syntax.specs.declared.expr.Expr.TheViews as views
+use Rattle.si_syntax.specs.declared.stmt.Stmt.{Stmt}
+use Rattle.si_syntax.specs.declared.stmt.Stmt.TheFolds.{fold-roll-Stmt}
+use Rattle.si_syntax.specs.declared.stmt.Stmt.TheOpen.{Stmt-F}
+use Rattle.si_syntax.specs.declared.stmt.Stmt.TheVariants.{rolls-If, rolls-While}
+use Rattle.si_syntax.specs.declared.stmt.Stmt.TheViews as stmt_views
+use Rattle.si_syntax.specs.Trees.{boolean_of, body_of, comparison_of, expr_of, stmt_of, stmt_step, view_step, link_of, elif_of}
 use Rattle.si_compile.specs.Code.{expr_code, operands_code, chain_code, stmt_code, stmts_code}
-use Rattle.si_compile.specs.Contents.{Contents, Extends}
-use Rattle.si_compile.specs.Jumps.{Due, Aims, branch_front, turn_code, link_of, branch_of}
-use Rattle.si_compile.specs.Views.{Gains}
-use Rattle.si_compile.proofs.Codes.{Gains-append}
-use Rattle.si_compile.proofs.Growth.{length-Begins}
-use Rattle.si_compile.proofs.Jumped.{length_gained, All-push}
-use Rattle.si_compile.proofs.Emitted.{Code, at_value, at_tree, at_stmt, rest_is}
+use Rattle.si_code.specs.Contents.{Contents, Extends}
+use Rattle.si_code.specs.Jumps.{Due, Aims}
+use Rattle.si_compile.specs.Jumps.{branch_front, turn_code}
+use Rattle.si_code.specs.Views.{Gains}
+use Rattle.si_code.proofs.Codes.{Gains-append}
+use Rattle.si_plain.proofs.Begins.{length-Begins}
+use Rattle.si_code.proofs.Jumped.{length_gained, All-push}
+use Rattle.si_compile.proofs.Emitted.{Code, at_value, at_tree, at_stmt}
+use Rattle.si_syntax.proofs.Rows.{rest_is}
 use Rattle.si_compile.proofs.Branches.{MakesAll, MakesAll-end, Elifs, branch_gains, branch_ends, tested_branch, elif_due, loop_gains}
 
 -- ---- expressions
@@ -79,41 +81,41 @@ while_gains {t0} {t1} {t2} test body ss s start is all here h k =
     at_stmt s (stmt_views.While test body) (tree.While (expr_of test) (body_of body.items) tree.NoStmts) is (while_is test body)
     (loop_gains (Code test) (stmts_code (body_of body.items)) start here h (subst (λ l. Gains t1 t2 (turn_code (length t1.lines - start + 2) (stmts_code (body_of l)))) all k))
 
-branches_are : (g : Expr × Vec Stmt Global → Expr × Vec tree.Stmt Global) (f : Expr × Vec tree.Stmt Global → Branch) → ((b : Expr × Vec Stmt Global) → f (g b) ≡ branch_of b) → (bs : List (Expr × Vec Stmt Global)) → map f (map g bs) ≡ map branch_of bs
+branches_are : (g : Expr × Vec Stmt Global → Expr × Vec tree.Stmt Global) (f : Expr × Vec tree.Stmt Global → Branch) → ((b : Expr × Vec Stmt Global) → f (g b) ≡ elif_of b) → (bs : List (Expr × Vec Stmt Global)) → map f (map g bs) ≡ map elif_of bs
 branches_are g f same [] = refl
-branches_are g f same (b ∷ bs) = ap (λ x. x ∷ map f (map g bs)) (same b) ∙ ap (λ r. branch_of b ∷ r) (branches_are g f same bs)
+branches_are g f same (b ∷ bs) = ap (λ x. x ∷ map f (map g bs)) (same b) ∙ ap (λ r. elif_of b ∷ r) (branches_are g f same bs)
 
 if_is : (test : Expr) (body : Vec Stmt Global) (elifs : Vec (Expr × Vec Stmt Global) Global) (last : Vec Stmt Global)
-    → stmt_of (stmt_views.If test body elifs last) ≡ tree.If (expr_of test) (body_of body.items) (elifs_of (map branch_of elifs.items) (body_of last.items))
+    → stmt_of (stmt_views.If test body elifs last) ≡ tree.If (expr_of test) (body_of body.items) (elifs_of (map elif_of elifs.items) (body_of last.items))
 if_is test body elifs last =
     ap stmt_of (sym (rolls-If test body elifs last)) ∙ fold-roll-Stmt tree.Stmt stmt_step (Stmt-F.If test body elifs last)
     ∙ ap (λ bs. tree.If (expr_of test) (body_of body.items) (elifs_of bs (body_of last.items))) (branches_are _ _ (λ b. refl) elifs.items)
 
 pub if_gains : {t0 t1 t2 t3 t4 : Contents} (test : Expr) (body : Vec Stmt Global) (elifs : Vec (Expr × Vec Stmt Global) Global) (last : Vec Stmt Global) (ss ls : List Stmt) (bs : List (Expr × Vec Stmt Global)) (s : Stmt) (end : ℕ)
     → s ≡ stmt_views.If test body elifs last → ss ≡ body.items → bs ≡ elifs.items → ls ≡ last.items → end + 1 ≡ length t2.lines
-    → Gains t0 t1 (Code test) → Gains t1 t2 (branch_front [] (stmts_code (body_of ss)) ++ machine.Jump 0 ∷ []) → Gains t2 t3 (Elifs (map branch_of bs) (body_of ls)) → Aims t3 end t4
+    → Gains t0 t1 (Code test) → Gains t1 t2 (branch_front [] (stmts_code (body_of ss)) ++ machine.Jump 0 ∷ []) → Gains t2 t3 (Elifs (map elif_of bs) (body_of ls)) → Aims t3 end t4
     → Gains t0 t4 (stmt_code (stmt_of s))
 if_gains {t0} {t1} {t2} {t3} {t4} test body elifs last ss ls bs s end is all_body all_elifs all_last here h k l aim =
     let suite = stmts_code (body_of body.items) in
     let front = tested_branch (Code test) suite h (subst (λ x. Gains t1 t2 (branch_front [] (stmts_code (body_of x)) ++ machine.Jump 0 ∷ [])) all_body k) in
-    let others = subst (λ x. Gains t2 t3 (Elifs (map branch_of x) (body_of last.items))) all_elifs (subst (λ x. Gains t2 t3 (Elifs (map branch_of bs) (body_of x))) all_last l) in
-    at_stmt s (stmt_views.If test body elifs last) (tree.If (expr_of test) (body_of body.items) (elifs_of (map branch_of elifs.items) (body_of last.items))) is (if_is test body elifs last)
-    (branch_ends (Code test) suite (Elifs (map branch_of elifs.items) (body_of last.items)) end here front others aim)
+    let others = subst (λ x. Gains t2 t3 (Elifs (map elif_of x) (body_of last.items))) all_elifs (subst (λ x. Gains t2 t3 (Elifs (map elif_of bs) (body_of x))) all_last l) in
+    at_stmt s (stmt_views.If test body elifs last) (tree.If (expr_of test) (body_of body.items) (elifs_of (map elif_of elifs.items) (body_of last.items))) is (if_is test body elifs last)
+    (branch_ends (Code test) suite (Elifs (map elif_of elifs.items) (body_of last.items)) end here front others aim)
 
 -- one `elif` of several
 pub next_elif : {t1 t2 t3 : Contents} (bs : List (Expr × Vec Stmt Global)) (i : ℕ) (b : Expr × Vec Stmt Global) (last : tree.Stmts) (ss : List Stmt) (at : ℕ) → i < length bs → get_or bs i b ≡ b → ss ≡ b.1.items → at + 1 ≡ length t3.lines
     → Gains t1 t2 (Code b.0) → Gains t2 t3 (branch_front [] (stmts_code (body_of ss)) ++ machine.Jump 0 ∷ [])
-    → (end : Contents) (later : List ℕ) → Due t3 later (Elifs (map branch_of (drop (i + 1) bs)) last) end → Due t1 (at ∷ later) (Elifs (map branch_of (drop i bs)) last) end
+    → (end : Contents) (later : List ℕ) → Due t3 later (Elifs (map elif_of (drop (i + 1) bs)) last) end → Due t1 (at ∷ later) (Elifs (map elif_of (drop i bs)) last) end
 next_elif {t1} {t2} {t3} bs i b last ss at lt is all here h k end later d =
     let front = tested_branch (Code b.0) (stmts_code (body_of b.1.items)) h (subst (λ x. Gains t2 t3 (branch_front [] (stmts_code (body_of x)) ++ machine.Jump 0 ∷ [])) all k) in
-    subst (λ x. Due t1 (at ∷ later) (Elifs (map branch_of x) last) end) (sym (rest_is bs i b lt is)) (elif_due (branch_of b) (map branch_of (drop (i + 1) bs)) last at here front end later d)
+    subst (λ x. Due t1 (at ∷ later) (Elifs (map elif_of x) last) end) (sym (rest_is bs i b lt is)) (elif_due (elif_of b) (map elif_of (drop (i + 1) bs)) last at here front end later d)
 
 -- behind the last one
-pub elifs_end : {t0 t1 t2 : Contents} (bs : List (Expr × Vec Stmt Global)) (i : ℕ) (ls ss : List Stmt) (jumps : List ℕ) → length bs ≤ i → ss ≡ ls → MakesAll t0 jumps (Elifs (map branch_of bs) (body_of ls)) t1 (Elifs (map branch_of (drop i bs)) (body_of ls)) → Gains t1 t2 (stmts_code (body_of ss))
-    → Due t0 jumps (Elifs (map branch_of bs) (body_of ls)) t2
+pub elifs_end : {t0 t1 t2 : Contents} (bs : List (Expr × Vec Stmt Global)) (i : ℕ) (ls ss : List Stmt) (jumps : List ℕ) → length bs ≤ i → ss ≡ ls → MakesAll t0 jumps (Elifs (map elif_of bs) (body_of ls)) t1 (Elifs (map elif_of (drop i bs)) (body_of ls)) → Gains t1 t2 (stmts_code (body_of ss))
+    → Due t0 jumps (Elifs (map elif_of bs) (body_of ls)) t2
 elifs_end {t0} {t1} {t2} bs i ls ss jumps le same before h =
-    MakesAll-end jumps (Elifs (map branch_of bs) (body_of ls)) (Elifs (map branch_of (drop i bs)) (body_of ls)) before
-    (subst (λ x. Gains t1 t2 (Elifs (map branch_of x) (body_of ls))) (sym (drop_all i bs le)) (subst (λ x. Gains t1 t2 (stmts_code (body_of x))) same h))
+    MakesAll-end jumps (Elifs (map elif_of bs) (body_of ls)) (Elifs (map elif_of (drop i bs)) (body_of ls)) before
+    (subst (λ x. Gains t1 t2 (Elifs (map elif_of x) (body_of ls))) (sym (drop_all i bs le)) (subst (λ x. Gains t1 t2 (stmts_code (body_of x))) same h))
 
 -- ---- what stood in front
 

@@ -1,5 +1,3 @@
-pub mod Slots
-pub mod Growth
 pub mod Steps
 pub mod Exprs
 pub mod Stmts
@@ -9,9 +7,6 @@ pub mod Opened
 pub mod Due
 pub mod Shown
 pub mod Interpreter
-pub mod Codes
-pub mod Jumped
 pub mod Emitted
 pub mod Branches
 pub mod Forms
-pub mod Scoped

@@ -3,20 +3,19 @@ ghost use Rattle.std.specs.Prelude.{◌≡◌, ◌+◌, ◌-◌, ◌≤◌, [], 
 ghost use Rattle.si_semantics.specs.Grammar.{chain_of, exprs_of};
 ghost use Rattle.si_semantics.specs.Machine as machine;
 ghost use Rattle.si_semantics.specs.Scope.{is_scoped};
-ghost use Rattle.si_parse.specs.Trees.{body_of, boolean_of, expr_of, stmt_of};
-ghost use Rattle.si_parse.specs.Modules.{tree_of};
+ghost use Rattle.si_syntax.specs.Trees.{body_of, boolean_of, expr_of, stmt_of, link_of};
+ghost use Rattle.si_syntax.specs.Modules.{tree_of};
 ghost use Rattle.si_compile.specs.Code.{chain_code, compiled, expr_code, exprs_code, module_code, operands_code, stmt_code, stmts_code};
-ghost use Rattle.si_compile.specs.Contents.{Extends};
+ghost use Rattle.si_code.specs.Contents.{Extends};
 ghost use Rattle.si_compile.specs.declared.fault.CompileFault.TheVariants.{Scope};
-ghost use Rattle.si_compile.specs.Jumps.{branch_front, link_of, turn_code};
-ghost use Rattle.si_compile.specs.Views.{Gains, table_of};
+ghost use Rattle.si_compile.specs.Jumps.{branch_front, turn_code};
+ghost use Rattle.si_code.specs.Views.{Gains, table_of};
 
 use crate::fault::CompileFault;
-use crate::instr::Instr;
-use crate::scope::is_scoped;
-use crate::table::{CodeTable, Entry};
-use si_parse::{BooleanOperator, ComparisonOperator, Expr, Module, Stmt};
+use si_code::{CodeTable, Entry, Instr};
 use si_plain::NoMemory;
+use si_scope::is_scoped;
+use si_syntax::{BooleanOperator, ComparisonOperator, Expr, Module, Stmt};
 use std::alloc::AllocError;
 
 /// Adds the code of a module to a table, and says where it begins. It ends in `Instr::Finish`.
@@ -258,7 +257,8 @@ fn emit_chain(table: &mut CodeTable, links: &[(ComparisonOperator, Expr)]) -> Re
 #[cfg(test)]
 mod tests {
     use super::*;
-    use si_parse::{BinaryOperator, UnaryOperator, parse};
+    use si_parse::parse;
+    use si_syntax::{BinaryOperator, UnaryOperator};
     use std::alloc::Global;
     use std::test::Fail;
 

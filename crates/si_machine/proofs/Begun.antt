@@ -9,8 +9,8 @@ use Rattle.si_semantics.specs.Value as pure
 use Rattle.si_semantics.specs.Text.{same_text}
 use Rattle.si_semantics.specs.World.{first_world}
 use Rattle.si_semantics.proofs.Names.{same_is, same_self, other_is}
-use Rattle.si_compile.specs.Views.{text_at}
-use Rattle.si_compile.specs.Contents.{Contents}
+use Rattle.si_code.specs.Views.{text_at}
+use Rattle.si_code.specs.Contents.{Contents}
 use Rattle.si_machine.specs.declared.value.Value.TheVariants as value
 use Rattle.si_machine.specs.declared.value.BuiltIn.TheVariants.{Print}
 use Rattle.si_machine.specs.declared.value.Global.{Global}

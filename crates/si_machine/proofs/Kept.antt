@@ -9,14 +9,14 @@ use Rattle.si_semantics.specs.Shows.{texts, joined, standing_of}
 use Rattle.si_semantics.proofs.Courses.{stays, fixed}
 use Rattle.si_compile.specs.Code.{compiled}
 use Rattle.si_compile.specs.Correct.{NeverCloses, run_at}
-use Rattle.si_compile.specs.Views.{table_of}
+use Rattle.si_code.specs.Views.{table_of}
 use Rattle.si_compile.proofs.Opened.{stays_open}
 use Rattle.si_machine.specs.declared.state.Standing.TheVariants as standing
 use Rattle.si_machine.specs.declared.state.State.{State}
 use Rattle.si_machine.specs.declared.step.Step.{Step}
 use Rattle.si_machine.specs.declared.step.Step.TheVariants.{Local, Ended, Starved}
 use Rattle.std.proofs.lemmas.List.Elements.{All-nil}
-use Rattle.si_compile.specs.Contents.{no_code}
+use Rattle.si_code.specs.Contents.{no_code}
 use Rattle.si_machine.specs.Values.{Fits, FitsGlobal, AllSuit}
 use Rattle.si_machine.specs.Outcomes.{outcome_of}
 use Rattle.si_machine.specs.Machines.{Seen, moment_of, from_here, Stands, IsEntry, IsAt, printed_of, Steps}

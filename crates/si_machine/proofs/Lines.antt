@@ -1,9 +1,8 @@
 -- What a step prints, and which line it does.
 use Rattle.std.proofs.Common.{◌≡◌, ◌≢◌, ℕ, zero, suc, ◌+◌, ◌<◌, ◌≤◌, List, [], ◌∷◌, ◌++◌, length, map, take, drop, get_or, Option, Some, None, All, AllPairs, string_bytes, refl, sym, ap, subst, ◌∙◌, arith, append-nil, length-append, Bool, true, false, cond, slice_get, slice_set, nat_lt, Ok}
 use mathlib.Core.Path.{fun_ext}
-use Rattle.std.proofs.lemmas.List.{get_or_append_left, get_or-take, take-append-le, length-take}
+use Rattle.std.proofs.lemmas.List.{get_or_append_left, get_or-take, take-append-le, length-take, map-set, length-map, map-append, reverse-append, drop_all}
 use Rattle.std.proofs.lemmas.Option.{slice_get_within, slice_get-get_or, get_or_from_slice_get}
-use Rattle.std.proofs.lemmas.List.{map-set, length-map, map-append, reverse-append, drop_all}
 use Rattle.std.specs.Prelude.{reverse, encode_utf8_all}
 use Rattle.std.proofs.lemmas.List.Elements.{All-cons, All-drop, All-tail, All-head, All-weaker, All-set, All-get_or}
 use Rattle.si_semantics.specs.Value as pure
@@ -16,7 +15,7 @@ use Rattle.si_semantics.specs.Meaning.{Raises}
 use Rattle.si_semantics.specs.Machine as machine
 use Rattle.si_semantics.specs.Machine.{leave, Push, LoadGlobal, StoreGlobal, ApplyUnary, ApplyBinary, CallTop, Discard, on_callee, At, Ending, Closed, Line, act, goes, yields, stuck}
 use Rattle.si_semantics.proofs.Names.{same_is, same_self, other_is}
-use Rattle.si_compile.specs.Views.{text_at}
+use Rattle.si_code.specs.Views.{text_at}
 use Rattle.si_machine.specs.declared.value.Value.{Value}
 use Rattle.si_machine.specs.declared.value.Value.TheVariants as value
 use Rattle.si_machine.specs.declared.value.Global.{Global}

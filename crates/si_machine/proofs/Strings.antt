@@ -8,7 +8,7 @@ use Rattle.si_semantics.specs.Value as pure
 use Rattle.si_semantics.specs.World.{World, Ran}
 use Rattle.si_semantics.specs.Text.{max_length, str_of, line_of}
 use Rattle.si_semantics.specs.Operations.{times, repeated, gave, too_long, within}
-use Rattle.si_compile.specs.Views.{text_at}
+use Rattle.si_code.specs.Views.{text_at}
 use Rattle.si_machine.specs.Values.{spaced, value_of}
 use Rattle.si_machine.specs.declared.value.Value.{Value}
 use Rattle.si_machine.specs.Causes.{repeated_text, copies_of, Adds, Runs, threw}

@@ -1,7 +1,6 @@
 -- Truths, and the order of texts.
-use Rattle.std.proofs.Common.{◌≡◌, ◌≢◌, ℕ, ℤ, ◌<◌, List, [], ◌∷◌, Bool, true, false, Ok, Err, Result, refl, sym, ap, subst, ◌∙◌, arith}
+use Rattle.std.proofs.Common.{◌≡◌, ◌≢◌, ℕ, ℤ, ◌<◌, List, [], ◌∷◌, Bool, true, false, Ok, Err, Result, refl, sym, ap, subst, ◌∙◌, arith, Ordering, to_z, of_z, w64}
 use Rattle.std.specs.Prelude.{nat_eq, nat_lt, ◌&&◌, ◌||◌, bytes_eq}
-use Rattle.std.proofs.Common.{Ordering, to_z, of_z, w64}
 use Rattle.std.specs.Ordering.{nat_cmp, is_lt}
 use Rattle.std.specs.Cmp.Lexicographic.{slice_cmp}
 use Rattle.std.proofs.lemmas.Bool.Decides.{nat_tests}
@@ -11,9 +10,9 @@ use Rattle.si_semantics.specs.Tree as tree
 use Rattle.si_semantics.specs.Text.{same_text}
 use Rattle.si_semantics.specs.World.{World, Ran}
 use Rattle.si_semantics.specs.Operations.{integer, int_of_truth, operate_integers, operate_truths, operate, is_before}
-use Rattle.si_parse.specs.declared.syntax.BinaryOperator.{BinaryOperator}
-use Rattle.si_parse.specs.declared.syntax.BinaryOperator.TheVariants as binary
-use Rattle.si_parse.specs.Trees.{binary_of}
+use Rattle.si_syntax.specs.declared.operators.BinaryOperator.{BinaryOperator}
+use Rattle.si_syntax.specs.declared.operators.BinaryOperator.TheVariants as binary
+use Rattle.si_syntax.specs.Trees.{binary_of}
 use Rattle.si_machine.specs.declared.cause.Fault.{Fault}
 use Rattle.si_machine.specs.declared.cause.Fault.TheVariants as fault
 use Rattle.si_machine.specs.declared.value.Value.{Value}
@@ -21,7 +20,7 @@ use Rattle.si_machine.specs.declared.cause.Cause.{Cause}
 use Rattle.si_machine.specs.declared.value.Value.TheVariants as value
 use Rattle.si_machine.specs.Values.{value_of}
 use Rattle.si_machine.specs.Causes.{Runs, threw}
-use Rattle.si_compile.specs.Views.{text_at}
+use Rattle.si_code.specs.Views.{text_at}
 
 -- what a truth counts as is an integer of 64 bits
 pub count_fits : (b : Bool) → to_z w64 (of_z w64 (int_of_truth b)) ≡ int_of_truth b

@@ -6,7 +6,7 @@ use Rattle.si_semantics.specs.Value as pure
 use Rattle.si_semantics.specs.Text.{max_length}
 use Rattle.si_semantics.specs.World.{World, Ran}
 use Rattle.si_semantics.specs.Operations.{arithmetic_message, gave, refused, times}
-use Rattle.si_compile.specs.Views.{text_at}
+use Rattle.si_code.specs.Views.{text_at}
 use Rattle.si_machine.specs.declared.cause.Cause.{Cause}
 use Rattle.si_machine.specs.declared.cause.Cause.TheVariants.{Arithmetic, TooLong, WrongType, NotCallable, NotDefined}
 use Rattle.si_machine.specs.declared.cause.Fault.{Fault}

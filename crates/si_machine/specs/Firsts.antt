@@ -3,7 +3,7 @@ use Rattle.std.specs.Prelude.{codes, ◌≡◌, ◌<◌, ◌^◌, ℕ, List, len
 use Rattle.si_semantics.specs.Value as pure
 use Rattle.si_semantics.specs.Text.{same_text}
 use Rattle.si_semantics.specs.World.{first_world}
-use Rattle.si_compile.specs.Contents.{Contents}
+use Rattle.si_code.specs.Contents.{Contents}
 use Rattle.si_machine.specs.declared.value.Value.TheVariants as value
 use Rattle.si_machine.specs.declared.value.BuiltIn.TheVariants.{Print}
 use Rattle.si_machine.specs.declared.value.Global.{Global}

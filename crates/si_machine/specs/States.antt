@@ -4,7 +4,7 @@ use Rattle.si_semantics.specs.Value as pure
 use Rattle.si_semantics.specs.World.{World}
 use Rattle.si_semantics.specs.Machine as machine
 use Rattle.si_semantics.specs.Machine.{Instr, Loop, Place, At, Taking, Ending, Closed, Line, act, fetched}
-use Rattle.si_compile.specs.Views.{code_of, table_of}
+use Rattle.si_code.specs.Views.{code_of, table_of}
 use Rattle.si_compile.specs.Correct.{NeverCloses}
 use Rattle.si_machine.specs.declared.value.Value.{Value}
 use Rattle.si_machine.specs.declared.value.Value.TheVariants as value

@@ -4,7 +4,7 @@ use Rattle.si_semantics.specs.Value as pure
 use Rattle.si_semantics.specs.World.{Globals, first_world}
 use Rattle.si_semantics.specs.Text.{same_text, str_of}
 use Rattle.si_semantics.specs.Operations.{built_in, int_of_truth}
-use Rattle.si_compile.specs.Views.{text_at}
+use Rattle.si_code.specs.Views.{text_at}
 use Rattle.si_machine.specs.declared.value.BuiltIn.{BuiltIn}
 use Rattle.si_machine.specs.declared.value.BuiltIn.TheVariants.{Print}
 use Rattle.si_machine.specs.declared.value.Value.{Value}

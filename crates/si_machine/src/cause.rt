@@ -3,7 +3,7 @@ ghost use Rattle.std.specs.Prelude.{◌≡◌, ◌++◌, ◌∷◌, [], IfOk, On
 ghost use Rattle.si_semantics.specs.Text.{max_length};
 ghost use Rattle.si_machine.specs.Causes.{kind_of, message_in, not_defined};
 
-use si_compile::CodeTable;
+use si_code::CodeTable;
 use si_plain::limits::MAX_STR_LENGTH;
 use si_plain::{Kind, NoMemory, Text};
 use std::alloc::Global;

@@ -5,15 +5,15 @@ ghost use Rattle.si_semantics.specs.Value.{Text as Characters};
 ghost use Rattle.si_semantics.specs.Meaning as meaning;
 ghost use Rattle.si_semantics.specs.Operations as operations;
 ghost use Rattle.si_semantics.specs.Text.{same_text};
-ghost use Rattle.si_compile.specs.Views.{text_at};
-ghost use Rattle.si_parse.specs.Trees.{comparison_of, boolean_of};
+ghost use Rattle.si_code.specs.Views.{text_at};
+ghost use Rattle.si_syntax.specs.Trees.{comparison_of, boolean_of};
 ghost use Rattle.si_machine.specs.Values.{value_of};
 ghost use Rattle.si_machine.specs.Causes.{compared};
 
 use crate::cause::Cause;
 use crate::texts::Texts;
 use crate::value::Value;
-use si_parse::{BooleanOperator, ComparisonOperator};
+use si_syntax::{BooleanOperator, ComparisonOperator};
 
 /// True counts as 1 and False as 0 (Python Language Reference 3.14, 3.2).
 pub fn int_of_truth(truth: bool) -> i64

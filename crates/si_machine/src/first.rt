@@ -5,7 +5,7 @@ ghost use Rattle.si_machine.specs.Firsts.{first_of, IsKnown};
 use crate::cause::ascii;
 use crate::texts::Texts;
 use crate::value::{BuiltIn, Global, Value};
-use si_compile::CodeTable;
+use si_code::CodeTable;
 use si_plain::NoMemory;
 use std::alloc::AllocError;
 

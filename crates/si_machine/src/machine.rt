@@ -4,13 +4,13 @@ ghost use Rattle.std.specs.Prelude.{◌≡◌, ◌↔◌, [], IsTrue, OnOk, IfEr
 ghost use Rattle.si_semantics.specs.World.{first_world};
 ghost use Rattle.si_semantics.specs.Machine.{start};
 ghost use Rattle.si_compile.specs.Correct.{run_at};
-ghost use Rattle.si_compile.specs.Views.{table_of};
+ghost use Rattle.si_code.specs.Views.{table_of};
 ghost use Rattle.si_machine.specs.Machines.{IsEntry, Stands, IsRunning, Steps};
 
 use crate::first::first_known;
 use crate::state::{Standing, State};
 use crate::step::Step;
-use si_compile::{CodeTable, Entry};
+use si_code::{CodeTable, Entry};
 use std::alloc::{AllocFailed, Global};
 use std::marker::Model;
 use std::mem;

@@ -1,27 +1,25 @@
 // Operators, and the `str` of a value.
-ghost use Rattle.std.specs.Prelude.{◌≡◌, ◌++◌, ◌<◌, ◌^◌, ℕ, List, [], ◌∷◌, length, map, All, Some, None, IfOk, IfErr, OnOk, Result, encode_utf8_all};
+ghost use Rattle.std.specs.Prelude.{◌≡◌, ◌++◌, ◌<◌, ◌^◌, ℕ, List, [], ◌∷◌, length, map, All, Some, None, IfOk, IfErr, OnOk, Result, encode_utf8_all, string_bytes};
 ghost use Rattle.si_semantics.specs.World.{World};
 ghost use Rattle.si_semantics.specs.Value.{Text as Characters, Int, Str};
 ghost use Rattle.si_semantics.specs.Text.{str_of, line_of};
 ghost use Rattle.si_semantics.specs.Operations.{integer, operate_integers, operate_truths, operate, operate_unary, within, repeated};
-ghost use Rattle.si_compile.specs.Views.{text_at};
-ghost use Rattle.si_parse.specs.Trees.{binary_of, unary_of};
-ghost use Rattle.si_machine.specs.Values.{value_of, Fits, integer_of};
+ghost use Rattle.si_code.specs.Views.{text_at};
+ghost use Rattle.si_syntax.specs.Trees.{binary_of, unary_of};
+ghost use Rattle.si_machine.specs.Values.{value_of, Fits, integer_of, spaced};
 ghost use Rattle.si_machine.specs.Causes.{ran, Runs};
 ghost use Rattle.si_machine.specs.declared.cause.Cause.TheVariants.{WrongType};
-ghost use Rattle.si_machine.specs.Values.{spaced};
-ghost use Rattle.std.specs.Prelude.{string_bytes};
 ghost use Rattle.std.specs.Fmt.{signed_decimal};
 
 use crate::cause::{Cause, Fault};
 use crate::comparisons::{int_of_truth, is_true};
 use crate::texts::Texts;
 use crate::value::{BuiltIn, Value};
-use si_parse::{BinaryOperator, UnaryOperator};
 use si_plain::{
     Kind, NoMemory, add, bit_and, bit_or, bit_xor, floordiv, invert, modulo, mul, neg, power, shl,
     shr, sub,
 };
+use si_syntax::{BinaryOperator, UnaryOperator};
 
 /// An operator between two integers (Python Language Reference 3.14, 6.5 and 6.7 to 6.9).
 pub fn on_integers(operator: BinaryOperator, x: i64, y: i64) -> Result<i64, Kind>

@@ -1,6 +1,6 @@
 // Where a machine's texts lie.
 ghost use Rattle.std.specs.Prelude.{◌≡◌, ◌≤◌, ◌<◌, ℕ, List, [], ◌∷◌, ◌++◌, length, IfOk, OnErr, encode_utf8_all};
-ghost use Rattle.si_compile.specs.Views.{text_at};
+ghost use Rattle.si_code.specs.Views.{text_at};
 ghost use Rattle.si_semantics.specs.Operations.{times};
 ghost use Rattle.si_machine.specs.Causes.{Adds, repeated_text, copies_of};
 

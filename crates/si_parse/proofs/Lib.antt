@@ -1,7 +1,6 @@
 pub mod Places
 pub mod Steps
 pub mod Turns
-pub mod Forms
 pub mod Literals
 pub mod Strings
 pub mod Laws

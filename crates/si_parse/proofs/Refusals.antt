@@ -13,8 +13,9 @@ use Rattle.si_token.specs.Views.{token_of}
 use Rattle.si_token.specs.Faults.{IsBadText}
 use Rattle.si_parse.specs.declared.fault.ParseFault.{ParseFault}
 use Rattle.si_parse.specs.declared.fault.ParseFault.TheVariants.{Syntax, NoMemory}
-use Rattle.si_parse.specs.declared.syntax.Module.{Module}
-use Rattle.si_parse.specs.Modules.{tree_of, IsRead, max_bytes}
+use Rattle.si_syntax.specs.declared.modules.Module.{Module}
+use Rattle.si_syntax.specs.Modules.{tree_of}
+use Rattle.si_parse.specs.Modules.{IsRead, max_bytes}
 use Rattle.si_parse.specs.Reading.{module_by}
 use Rattle.si_parse.specs.Gives.{Fails, IsSyntax, fault_of, from}
 use Rattle.si_parse.proofs.Modules.{none_derived}

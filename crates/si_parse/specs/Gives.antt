@@ -9,7 +9,7 @@ use Rattle.si_parse.specs.declared.fault.ParseFault.TheVariants.{Syntax, NoMemor
 use Rattle.si_parse.specs.declared.precedence.Continuation.{Continuation as Rust}
 use Rattle.si_parse.specs.declared.precedence.Continuation.TheVariants as variant
 use Rattle.si_token.specs.Views.{token_of}
-use Rattle.si_parse.specs.Trees.{binary_of, boolean_of}
+use Rattle.si_syntax.specs.Trees.{binary_of, boolean_of}
 use Rattle.si_parse.specs.Reading.{Continuation, operator, arguments, comparison, boolean, condition, nothing}
 
 -- the terminals of tokens, from a place on

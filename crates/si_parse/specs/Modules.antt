@@ -1,14 +1,9 @@
--- The tree that a module stands for, and the tree as which a text is read.
+-- The tree as which a text is read.
 use Rattle.std.specs.Prelude.{ℕ, ◌≤◌, List, length, map}
 use Rattle.si_semantics.specs.Tree.{Stmts}
 use Rattle.si_semantics.specs.Tokens.{Token}
 use Rattle.si_semantics.specs.Layout.{HasTokens}
 use Rattle.si_semantics.specs.Grammar.{terminal_of, Derives}
-use Rattle.si_parse.specs.declared.syntax.Module.{Module}
-use Rattle.si_parse.specs.Trees.{body_of}
-
-abbrev pub tree_of : Module → Stmts
-tree_of m = body_of m.body.items
 
 -- the most bytes of a text (this project's own)
 abbrev pub max_bytes : ℕ

@@ -1,7 +1,7 @@
 // Compound statements and their suites.
 
 ghost use Rattle.std.specs.Prelude.{◌≡◌, ℕ, ◌+◌, ◌-◌, ◌*◌, ◌<◌, [], length, map, option_map};
-ghost use Rattle.si_parse.specs.Trees.{expr_of, stmt_of, branch_of};
+ghost use Rattle.si_syntax.specs.Trees.{expr_of, stmt_of, branch_of};
 ghost use Rattle.si_parse.specs.Reading.{indented_by, suite_by, branch_by, elifs_by, otherwise_by, if_by, while_by, block_at};
 ghost use Rattle.si_parse.specs.Gives.{Gives, from};
 
@@ -13,8 +13,8 @@ use crate::lookahead::{
 };
 use crate::precedence::ANY;
 use crate::statement::line;
-use crate::syntax::{Expr, Stmt};
 use si_plain::limits::MAX_EXPRESSION_DEPTH;
+use si_syntax::{Expr, Stmt};
 use si_token::Token;
 use std::alloc::Global;
 

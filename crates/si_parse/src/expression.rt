@@ -2,7 +2,7 @@
 
 ghost use Rattle.std.specs.Prelude.{◌≡◌, ℕ, ◌+◌, ◌-◌, ◌*◌, ◌<◌, ◌≤◌, [], map, length, option_map, IfOk};
 ghost use Rattle.si_semantics.specs.Grammar.{is_identity};
-ghost use Rattle.si_parse.specs.Trees.{binary_of, unary_of, boolean_of, comparison_of, expr_of, link_of};
+ghost use Rattle.si_syntax.specs.Trees.{binary_of, unary_of, boolean_of, comparison_of, expr_of, link_of};
 ghost use Rattle.si_parse.specs.Reading.{rest_of, within, strings_by, is_singleton, compared_by, operand_by, atom_by, unary_by, bracketed_by, continued_by, binary_by, call_by, compare_by, boolean_by, conditional_by, extended_by, arguments_by, operands_by, links_by, expression_at};
 ghost use Rattle.si_parse.specs.Gives.{Gives, from, continuation_view};
 
@@ -15,8 +15,8 @@ use crate::precedence::{
     ANY, COMPARED, Continuation, DISJUNCTION, comparison_at, item_level, prefix_at, prefix_level,
     right_level, strength, what_follows,
 };
-use crate::syntax::{BinaryOperator, BooleanOperator, ComparisonOperator, Expr, UnaryOperator};
 use si_plain::Text;
+use si_syntax::{BinaryOperator, BooleanOperator, ComparisonOperator, Expr, UnaryOperator};
 use si_token::{Keyword, Symbol, Token, TokenKind, int_value};
 use std::alloc::Global;
 

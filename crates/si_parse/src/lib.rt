@@ -3,7 +3,7 @@
 // The one contract: `parse` gives the tree that the tokens of the text derive, and refuses a text only where there
 // is none (or where memory is refused).
 //
-// In reading order: `syntax` has the trees, `fault` why a text is refused, `literal` the values of literals,
+// In reading order: `fault` says why a text is refused, `literal` has the values of literals,
 // `lookahead` the token at a place, `precedence` what continues an expression and how tightly, `expression` reads an
 // expression by precedence climbing, `statement` small statements and lines, `block` compound statements and their
 // suites, and `parser` a whole text.
@@ -17,13 +17,9 @@ pub mod lookahead;
 pub mod parser;
 pub mod precedence;
 pub mod statement;
-pub mod syntax;
 
 pub use fault::ParseFault;
 pub use parser::parse;
-pub use syntax::{
-    BinaryOperator, BooleanOperator, ComparisonOperator, Expr, Module, Stmt, UnaryOperator,
-};
 
 #[cfg(test)]
 mod tests;

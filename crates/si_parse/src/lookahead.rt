@@ -3,11 +3,11 @@
 ghost use Rattle.std.specs.Prelude.{◌≡◌, ℕ, ◌+◌, ◌<◌, ◌≤◌, length, [], ◌∷◌, option_map, MatchOption, OnSome};
 ghost use Rattle.si_semantics.specs.Grammar.{terminal_of};
 ghost use Rattle.si_token.specs.Views.{token_of};
-ghost use Rattle.si_parse.specs.Trees.{boolean_of};
+ghost use Rattle.si_syntax.specs.Trees.{boolean_of};
 ghost use Rattle.si_parse.specs.Reading.{after_close, after_comma, after_newline, after_colon, after_indent, after_dedent, after_if, after_elif, after_while, after_semicolon, after_not, after_else, after_and, after_or, after_boolean, closing, is_end};
 ghost use Rattle.si_parse.specs.Gives.{from};
 
-use crate::syntax::BooleanOperator;
+use si_syntax::BooleanOperator;
 use si_token::{Keyword, Symbol, Token, TokenKind};
 
 // The token at the place.

@@ -3,13 +3,14 @@
 ghost use Rattle.std.specs.Prelude.{◌≡◌, List, IfOk, IfErr};
 ghost use Rattle.si_semantics.specs.Tree.{Stmts};
 ghost use Rattle.si_semantics.specs.Grammar.{Terminal, Derives};
-ghost use Rattle.si_parse.specs.Modules.{tree_of, IsRead};
+ghost use Rattle.si_syntax.specs.Modules.{tree_of};
+ghost use Rattle.si_parse.specs.Modules.{IsRead};
 ghost use Rattle.si_parse.specs.Gives.{from, IsSyntax};
 
 use crate::fault::ParseFault;
 use crate::statement::statements;
-use crate::syntax::Module;
 use si_plain::limits::MAX_TEXT_BYTES;
+use si_syntax::Module;
 use si_token::{Token, tokens};
 use std::alloc::Global;
 
@@ -27,7 +28,7 @@ pub fn module_of(alloc: Global, tokens: &[Token]) -> Result<Module, ParseFault>
     ensures only { IfOk result (λ m. (body : Stmts) → Derives body (from tokens.now 0) → tree_of m ≡ body) }
 {
     let body = statements(alloc, tokens)?;
-    Ok(Module { body })
+    Ok(Module::new(body))
 }
 
 /// The tree as which a text is read.

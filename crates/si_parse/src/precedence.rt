@@ -3,12 +3,12 @@
 ghost use Rattle.std.specs.Prelude.{◌≡◌, option_map, IfSome};
 ghost use Rattle.si_semantics.specs.Grammar.{left_level, right_level, prefix_level, item_level};
 ghost use Rattle.si_token.specs.Views.{symbol_of, keyword_of};
-ghost use Rattle.si_parse.specs.Trees.{binary_of, unary_of, comparison_of, boolean_of};
+ghost use Rattle.si_syntax.specs.Trees.{binary_of, unary_of, comparison_of, boolean_of};
 ghost use Rattle.si_parse.specs.Reading.{role_of, word_role, continuation_at, strength_of, rest_of, prefix_at, comparison_symbol, comparison_at};
 ghost use Rattle.si_parse.specs.Gives.{from, continuation_view};
 
 use crate::lookahead::{after_not, token_at};
-use crate::syntax::{BinaryOperator, BooleanOperator, ComparisonOperator, UnaryOperator};
+use si_syntax::{BinaryOperator, BooleanOperator, ComparisonOperator, UnaryOperator};
 use si_token::{Keyword, Symbol, Token, TokenKind};
 
 // The level of any expression, and of operands: of a conditional expression's value and test, of `or`, of `and`, of a

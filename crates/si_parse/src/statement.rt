@@ -3,7 +3,7 @@
 ghost use Rattle.std.specs.Prelude.{◌≡◌, ℕ, ◌+◌, ◌-◌, length, map, option_map, IfSome};
 ghost use Rattle.si_token.specs.Views.{symbol_of};
 ghost use Rattle.si_semantics.specs.Grammar.{max_depth};
-ghost use Rattle.si_parse.specs.Trees.{binary_of, expr_of, stmt_of};
+ghost use Rattle.si_syntax.specs.Trees.{binary_of, expr_of, stmt_of};
 ghost use Rattle.si_parse.specs.Reading.{assignment_symbol, assignment_at, word_statement, rest_of, expression_at, spelled_by, statement_by, line_by, is_end, module_by};
 ghost use Rattle.si_parse.specs.Gives.{Gives, from};
 
@@ -12,8 +12,8 @@ use crate::expression::expression;
 use crate::fault::ParseFault;
 use crate::lookahead::{after_line, after_semicolon, line_at, token_at};
 use crate::precedence::ANY;
-use crate::syntax::{BinaryOperator, Expr, Stmt};
 use si_plain::limits::MAX_EXPRESSION_DEPTH;
+use si_syntax::{BinaryOperator, Expr, Stmt};
 use si_token::{Keyword, Symbol, Token, TokenKind};
 use std::alloc::Global;
 

@@ -1,6 +1,7 @@
 // Worked cases: trees as Python's own `ast` shows them, and texts that the grammar refuses.
 
-use crate::{Expr, ParseFault, Stmt, parse};
+use crate::{ParseFault, parse};
+use si_syntax::{Expr, Stmt};
 use std::alloc::{AllocError, Global};
 use std::test::Fail;
 

@@ -1,16 +1,17 @@
-// What every other crate of the project stands on: kinds of exception, limits, integers and text.
+// What every other crate of the project stands on: kinds of exception, limits, integers, text and names.
 //
 // Each part is exact: a function's contract is one equation with a definition of `specs/`, so that crates above
 // speak of the definitions alone. Read `kind.rt` (the kinds of exception, and which stands under which),
 // `limits.rt` (the limits of the language and of a run), `integer.rt` (64-bit arithmetic that never wraps),
-// `text.rt` (a str as its list of characters), `literal.rt` (how a str and bytes are written as literals) and
-// `numeral.rt` (how an integer is read from a str).
+// `text.rt` (a str as its list of characters), `literal.rt` (how a str and bytes are written as literals),
+// `numeral.rt` (how an integer is read from a str) and `names.rt` (names, each with its slot).
 #![tactic(auto)]
 
 pub mod integer;
 pub mod kind;
 pub mod limits;
 pub mod literal;
+pub mod names;
 pub mod numeral;
 pub mod text;
 
@@ -20,6 +21,7 @@ pub use integer::{
 pub use kind::Kind;
 pub use limits::{Limits, Range};
 pub use literal::{repr_bytes, repr_str};
+pub use names::Names;
 pub use numeral::read_int;
 use std::alloc::AllocError;
 pub use text::Text;

@@ -1,9 +1,9 @@
 use Rattle.std.proofs.Common.{◌∙◌, ℕ, [], Some, ap, refl, subst}
 use Rattle.si_semantics.specs.Tree.{Module}
-use Rattle.si_parse.specs.Modules.{tree_of}
+use Rattle.si_syntax.specs.Modules.{tree_of}
 use Rattle.si_compile.specs.Code.{compiled}
-use Rattle.si_compile.specs.Contents.{Contents}
-use Rattle.si_compile.specs.Views.{table_of}
+use Rattle.si_code.specs.Contents.{Contents}
+use Rattle.si_code.specs.Views.{table_of}
 use Rattle.si_compile.specs.Correct.{run_at}
 use Rattle.si_semantics.specs.Machine.{Table}
 use Rattle.si_semantics.specs.World.{first_world}

@@ -1,5 +1,5 @@
 use Rattle.std.proofs.Common.{ℕ, subst}
-use Rattle.si_parse.specs.Modules.{tree_of}
+use Rattle.si_syntax.specs.Modules.{tree_of}
 use Rattle.si_cli.proofs.ReportLemmas.{appended_kept}
 use Rattle.si_cli.specs.Views.{HasUsed}
 use Rattle.si_cli.proofs.serving.serve.Goals as goal

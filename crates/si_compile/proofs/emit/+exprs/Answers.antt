@@ -1,12 +1,12 @@
 use Rattle.std.proofs.Common.{◌≡◌, ◌≤◌, length, sym, subst, arith}
 use Rattle.std.specs.List.{AllByRecursion}
 use Rattle.std.proofs.lemmas.Result.{on_ok_weaker}
-use Rattle.si_parse.specs.Trees.{boolean_of}
-use Rattle.si_compile.specs.Views.{Gains}
+use Rattle.si_syntax.specs.Trees.{boolean_of}
+use Rattle.si_code.specs.Views.{Gains}
 use Rattle.si_compile.proofs.Branches.{Linked, MakesAll-step, operand_due, operands_end, link_due, chain_end, chain_all, behind_more, all_aimed}
 use Rattle.si_compile.proofs.Forms.{boolean_gains, compare_gains, conditional_gains, front_stays}
 use Rattle.si_compile.proofs.Emitted.{unary_gains, binary_gains, call_gains, next_expr, last_expr}
-use Rattle.si_compile.proofs.Growth.{Extends-trans}
+use Rattle.si_code.proofs.Growth.{Extends-trans}
 use Rattle.si_compile.proofs.emit.+exprs.Goals as goal
 
 pub emit_expr-returns-in_ok-emit_expr-in-Unary-clause-ok : goal.emit_expr-returns-in_ok-emit_expr-in-Unary-clause-ok

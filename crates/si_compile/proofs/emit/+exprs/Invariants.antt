@@ -1,11 +1,11 @@
 use Rattle.std.proofs.Common.{ℕ, ◌≤◌, List, [], ◌∷◌, ◌++◌, drop, map, length}
 use Rattle.std.specs.List.{AllByRecursion}
 use Rattle.si_semantics.specs.Grammar.{exprs_of, chain_of}
-use Rattle.si_parse.specs.Trees.{expr_of, boolean_of}
+use Rattle.si_syntax.specs.Trees.{expr_of, boolean_of, link_of}
 use Rattle.si_compile.specs.Code.{exprs_code, operands_code, chain_code}
-use Rattle.si_compile.specs.Contents.{Contents, Extends}
-use Rattle.si_compile.specs.Jumps.{Due, link_of}
-use Rattle.si_compile.specs.Views.{Gains}
+use Rattle.si_code.specs.Contents.{Contents, Extends}
+use Rattle.si_code.specs.Jumps.{Due}
+use Rattle.si_code.specs.Views.{Gains}
 use Rattle.si_compile.proofs.emit.+exprs.Given as goal
 
 -- with the code of the rest it is the code of all

@@ -1,13 +1,13 @@
 use Rattle.std.proofs.Common.{◌≤◌, [], length, refl, sym, subst}
 use Rattle.std.specs.List.{AllByRecursion}
 use Rattle.std.proofs.lemmas.Result.{on_ok_weaker}
-use Rattle.si_parse.specs.Trees.{body_of}
+use Rattle.si_syntax.specs.Trees.{body_of}
 use Rattle.si_compile.specs.Code.{stmts_code}
 use Rattle.si_compile.proofs.Branches.{MakesAll-step, all_aimed, branch_gains, branch_at, turn_gains}
-use Rattle.si_compile.proofs.Codes.{Gains-nil}
+use Rattle.si_code.proofs.Codes.{Gains-nil}
 use Rattle.si_compile.proofs.Forms.{while_gains, if_gains, next_elif, elifs_end, front_stays, branch_stays, branch_more}
 use Rattle.si_compile.proofs.Emitted.{evaluate_gains, assign_gains, augment_gains, next_stmt, last_stmt}
-use Rattle.si_compile.proofs.Growth.{Extends-same, Extends-trans}
+use Rattle.si_code.proofs.Growth.{Extends-same, Extends-trans}
 use Rattle.si_compile.proofs.emit.+stmts.Goals as goal
 
 pub emit_stmt-returns-in_ok-emit_expr-in-Evaluate-clause-ok : goal.emit_stmt-returns-in_ok-emit_expr-in-Evaluate-clause-ok

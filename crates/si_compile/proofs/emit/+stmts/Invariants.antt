@@ -1,11 +1,11 @@
 use Rattle.std.proofs.Common.{ℕ, ◌≤◌, List, ◌++◌, drop, map, length}
 use Rattle.std.specs.List.{AllByRecursion}
 use Rattle.si_semantics.specs.Grammar.{elifs_of}
-use Rattle.si_parse.specs.Trees.{body_of}
+use Rattle.si_syntax.specs.Trees.{body_of, elif_of}
 use Rattle.si_compile.specs.Code.{stmts_code}
-use Rattle.si_compile.specs.Contents.{Contents, Extends}
-use Rattle.si_compile.specs.Jumps.{Due, branch_of}
-use Rattle.si_compile.specs.Views.{Gains}
+use Rattle.si_code.specs.Contents.{Contents, Extends}
+use Rattle.si_code.specs.Jumps.{Due}
+use Rattle.si_code.specs.Views.{Gains}
 use Rattle.si_compile.proofs.emit.+stmts.Given as goal
 
 -- with the code of the rest it is the code of all
@@ -18,7 +18,7 @@ invariant-emit_suite-loop-stmt l = record {
 -- the jumps so far are due, whatever the rest makes due
 abbrev pub invariant-emit_stmt-loop-test : goal.invariant-emit_stmt-loop-test
 invariant-emit_stmt-loop-test l = record {
-  due : (end : Contents) (later : List ℕ) → Due l.table later (stmts_code (elifs_of (map branch_of (drop l.test-index l.test-items)) (body_of l.last.items))) end → Due l.initial.table (l.ends.items ++ later) (stmts_code (elifs_of (map branch_of l.test-items) (body_of l.last.items))) end;
+  due : (end : Contents) (later : List ℕ) → Due l.table later (stmts_code (elifs_of (map elif_of (drop l.test-index l.test-items)) (body_of l.last.items))) end → Due l.initial.table (l.ends.items ++ later) (stmts_code (elifs_of (map elif_of l.test-items) (body_of l.last.items))) end;
   behind : AllByRecursion (λ at. length l.initial.table.lines ≤ at) l.ends.items;
   extends : Extends l.initial.table l.table;
 }

@@ -1,5 +1,5 @@
 use Rattle.std.proofs.lemmas.Result.{on_ok_weaker}
-use Rattle.si_compile.proofs.Codes.{Gains-append}
+use Rattle.si_code.proofs.Codes.{Gains-append}
 use Rattle.si_compile.proofs.emit.emit_body.Goals as goal
 
 pub returns-clause-ok : goal.returns-clause-ok

@@ -1,6 +1,6 @@
 use Rattle.std.proofs.Common.{ap, ◌∙◌}
 use Rattle.si_semantics.specs.Text.{same_text}
-use Rattle.si_compile.specs.Views.{text_at}
+use Rattle.si_code.specs.Views.{text_at}
 use Rattle.si_machine.proofs.Truths.{same_bytes}
 use Rattle.si_machine.proofs.comparisons.are_same.Goals as goal
 

@@ -1,6 +1,6 @@
 use Rattle.std.proofs.Common.{◌++◌}
 use Rattle.si_semantics.specs.Operations.{within}
-use Rattle.si_compile.specs.Views.{text_at}
+use Rattle.si_code.specs.Views.{text_at}
 use Rattle.si_machine.proofs.Strings.{placed_runs, refused_runs, within_fits, within_over}
 use Rattle.si_machine.proofs.operations.join.Goals as goal
 

@@ -1,6 +1,6 @@
 use Rattle.std.proofs.Common.{ap, ◌∙◌, to_z, of_z, w64}
 use Rattle.si_semantics.specs.Operations.{integer, int_of_truth, operate_integers, operate_truths}
-use Rattle.si_parse.specs.Trees.{binary_of}
+use Rattle.si_syntax.specs.Trees.{binary_of}
 use Rattle.si_machine.proofs.Truths.{counted, truths_count, runs_same}
 use Rattle.si_machine.proofs.operations.truths.Goals as goal
 

@@ -1,7 +1,7 @@
 use Rattle.std.proofs.Common.{◌+◌, ◌-◌, [], ◌∷◌, length, sym, ◌∙◌, ap, Some, map, arith}
 use Rattle.std.specs.Prelude.{option_map, not}
 use Rattle.std.proofs.lemmas.List.{map-append}
-use Rattle.si_parse.specs.Trees.{stmt_of, branch_of}
+use Rattle.si_syntax.specs.Trees.{stmt_of, branch_of}
 use Rattle.si_parse.specs.Reading.{many_by, elif_by, no_elif, is_none, is_dedent, block_at}
 use Rattle.si_parse.specs.Gives.{from}
 use Rattle.si_parse.proofs.Turns.{many_on, many_ends, block_if, block_while, elif_read, indented_read}

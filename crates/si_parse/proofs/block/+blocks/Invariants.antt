@@ -1,5 +1,5 @@
 use Rattle.std.proofs.Common.{◌≡◌, ◌+◌, ◌-◌, ◌*◌, [], length, map}
-use Rattle.si_parse.specs.Trees.{stmt_of, branch_of}
+use Rattle.si_syntax.specs.Trees.{stmt_of, branch_of}
 use Rattle.si_parse.specs.Reading.{many_by, elif_by, no_elif, elifs_by, is_dedent, block_at}
 use Rattle.si_parse.specs.Gives.{from}
 use Rattle.si_parse.proofs.block.+blocks.Given as goal

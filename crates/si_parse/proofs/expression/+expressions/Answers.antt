@@ -4,7 +4,7 @@ use Rattle.std.proofs.lemmas.List.{map-append}
 use Rattle.std.specs.Prelude.{option_map, ◌∷◌, ◌++◌, max}
 use Rattle.si_semantics.specs.Tree.{Compare}
 use Rattle.si_semantics.specs.Grammar.{item_level, Link, chain_of}
-use Rattle.si_parse.specs.Trees.{expr_of, boolean_of, comparison_of, link_of}
+use Rattle.si_syntax.specs.Trees.{expr_of, boolean_of, comparison_of, link_of}
 use Rattle.si_parse.specs.Reading.{then_read, within, compare_by, with_word, after_boolean, comparison_at, compared_by, separated_by, with_argument, expression_at, strength_of, after_close, after_comma}
 use Rattle.si_parse.specs.Gives.{Gives, Fails, from, continuation_view}
 use Rattle.si_parse.proofs.Turns.{continued_on, continued_stops, continued_fails, separated_fails, separated_last, separated_on, separated_stuck, chain_ends, chain_next, chain_fails}

@@ -1,6 +1,6 @@
 use Rattle.std.proofs.Common.{◌≡◌, ◌+◌, ◌-◌, ◌*◌, ◌≤◌, length, map}
 use Rattle.si_semantics.specs.Grammar.{item_level}
-use Rattle.si_parse.specs.Trees.{expr_of, link_of, boolean_of}
+use Rattle.si_syntax.specs.Trees.{expr_of, link_of, boolean_of}
 use Rattle.si_parse.specs.Reading.{continued_by, arguments_by, operands_by, links_by, separated_by, chain_by, with_word, after_boolean, comparison_at, compared_by, with_argument, after_comma, after_close, expression_at}
 use Rattle.si_parse.specs.Gives.{from}
 use Rattle.si_parse.proofs.expression.+expressions.Given as goal

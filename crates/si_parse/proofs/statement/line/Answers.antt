@@ -3,7 +3,7 @@ use Rattle.std.specs.Prelude.{option_map}
 use Rattle.std.proofs.lemmas.Result.{err_from_is_err_and}
 use Rattle.std.proofs.lemmas.List.{map-append}
 use Rattle.si_semantics.specs.Grammar.{max_depth}
-use Rattle.si_parse.specs.Trees.{stmt_of}
+use Rattle.si_syntax.specs.Trees.{stmt_of}
 use Rattle.si_parse.specs.Reading.{expression_at, statement_by, with_statement, separated_by, after_semicolon, after_newline}
 use Rattle.si_parse.specs.Gives.{Fails, from}
 use Rattle.si_parse.proofs.Turns.{separated_fails, separated_last, separated_on, separated_stuck}

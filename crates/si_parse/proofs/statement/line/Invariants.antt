@@ -1,6 +1,6 @@
 use Rattle.std.proofs.Common.{◌≡◌, ◌-◌, length, map}
 use Rattle.si_semantics.specs.Grammar.{max_depth}
-use Rattle.si_parse.specs.Trees.{stmt_of}
+use Rattle.si_syntax.specs.Trees.{stmt_of}
 use Rattle.si_parse.specs.Reading.{separated_by, with_statement, statement_by, after_semicolon, after_newline, expression_at, line_by}
 use Rattle.si_parse.specs.Gives.{from}
 use Rattle.si_parse.proofs.statement.line.Given as goal

@@ -1,4 +1,4 @@
-use Rattle.si_compile.specs.Views.{table_of}
+use Rattle.si_code.specs.Views.{table_of}
 use Rattle.si_machine.proofs.Kept.{begun_kept}
 use Rattle.si_machine.proofs.machine.Machine.load.Goals as goal
 

@@ -1,7 +1,7 @@
 use Rattle.std.proofs.Common.{◌+◌, drop, sym, ap, ◌∙◌}
 use Rattle.si_semantics.specs.Machine as machine
 use Rattle.si_machine.specs.declared.state.State.{State}
-use Rattle.si_parse.specs.Trees.{boolean_of}
+use Rattle.si_syntax.specs.Trees.{boolean_of}
 use Rattle.si_machine.proofs.Lines.{local}
 use Rattle.si_machine.proofs.Branches.{word_decides, word_goes_on}
 use Rattle.si_machine.specs.States.{line_of}

@@ -1,5 +1,5 @@
 use Rattle.std.proofs.Common.{◌+◌, sym, ap, ◌∙◌, arith}
-use Rattle.si_compile.specs.Views.{text_at}
+use Rattle.si_code.specs.Views.{text_at}
 use Rattle.si_semantics.specs.Machine as machine
 use Rattle.si_machine.specs.declared.state.State.{State}
 use Rattle.si_machine.proofs.Lines.{local, store_did, store_lacks, slot_there}

@@ -1,7 +1,7 @@
 use Rattle.std.proofs.Common.{◌≡◌, ◌++◌, ◌∷◌, [], length, refl, ap, ◌∙◌, arith}
 use Rattle.std.proofs.Math.Facts.{to_z-of_z}
 use Rattle.si_semantics.specs.Operations.{times}
-use Rattle.si_compile.specs.Views.{text_at}
+use Rattle.si_code.specs.Views.{text_at}
 use Rattle.si_machine.specs.Causes.{copies_of}
 use Rattle.si_machine.proofs.Strings.{over, under, empty_fits, copies_same}
 use Rattle.si_machine.proofs.texts.Texts.repeat.Goals as goal

@@ -1,0 +1,49 @@
+-- Tables that grow.
+use Rattle.std.proofs.Common.{◌≡◌, ◌≢◌, ℕ, ◌≤◌, length, sym, subst, arith}
+use Rattle.std.specs.Prelude.{AllPairs, All}
+use Rattle.std.proofs.lemmas.List.Elements.{All-weaker}
+use Rattle.si_plain.specs.Begins.{Begins}
+use Rattle.si_plain.proofs.Begins.{Begins-same, Begins-trans, length-Begins}
+use Rattle.si_code.specs.declared.instr.Instr.{Instr}
+use Rattle.si_code.specs.declared.instr.Instr.TheVariants.{PushInt, PushNone, PushTruth, PushLiteral, LoadGlobal, StoreGlobal, Unary, Binary, Compare, KeepRight, EndChain, JumpOrDiscard, JumpIfFalse, Jump, EnterLoop, Break, Continue, Call, Discard, Finish}
+use Rattle.si_code.specs.Contents.{Contents, IsSound, Resolves, Extends}
+
+pub Extends-same : (c : Contents) → Extends c c
+Extends-same c = record { lines = Begins-same c.lines; literals = Begins-same c.literals; names = Begins-same c.names }
+
+pub Extends-trans : (a b c : Contents) → Extends a b → Extends b c → Extends a c
+Extends-trans a b c h k = record {
+  lines = Begins-trans a.lines b.lines c.lines h.lines k.lines;
+  literals = Begins-trans a.literals b.literals c.literals h.literals k.literals;
+  names = Begins-trans a.names b.names c.names h.names k.names;
+}
+
+resolves_more : {l l' s s' : ℕ} → l ≤ l' → s ≤ s' → (i : Instr) → Resolves l s i → Resolves l' s' i
+resolves_more h k (PushInt n) r = r
+resolves_more h k PushNone r = r
+resolves_more h k (PushTruth b) r = r
+resolves_more h k (PushLiteral p) r = omega arith
+resolves_more h k (LoadGlobal p) r = omega arith
+resolves_more h k (StoreGlobal p) r = omega arith
+resolves_more h k (Unary o) r = r
+resolves_more h k (Binary o) r = r
+resolves_more h k (Compare o) r = r
+resolves_more h k KeepRight r = r
+resolves_more h k (EndChain n) r = r
+resolves_more h k (JumpOrDiscard o n) r = r
+resolves_more h k (JumpIfFalse n) r = r
+resolves_more h k (Jump n) r = r
+resolves_more h k (EnterLoop back ahead) r = r
+resolves_more h k Break r = r
+resolves_more h k Continue r = r
+resolves_more h k (Call n) r = r
+resolves_more h k Discard r = r
+resolves_more h k Finish r = r
+
+-- more literals and names
+pub IsSound-more : (c d : Contents) → d.lines ≡ c.lines → Begins c.literals d.literals → Begins c.names d.names → AllPairs (λ x y. x ≢ y) d.names → IsSound c → IsSound d
+IsSound-more c d same literals names distinct h = record {
+  resolved = subst (All (Resolves (length d.literals) (length d.names))) (sym same)
+      (All-weaker _ _ (λ i r. resolves_more (length-Begins c.literals d.literals literals) (length-Begins c.names d.names names) i r) c.lines h.resolved);
+  distinct = distinct;
+}

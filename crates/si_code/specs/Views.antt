@@ -1,0 +1,62 @@
+-- What the contents of a table stand for.
+use Rattle.std.specs.Prelude.{◌≡◌, ℕ, List, [], ◌++◌, Option, Some, None, map, fold, slice_index_or}
+use Rattle.std.specs.List.{filter_map}
+use Rattle.si_semantics.specs.Value.{Text, Nothing, Truth, Int, Str}
+use Rattle.si_semantics.specs.Machine as machine
+use Rattle.si_syntax.specs.Trees.{binary_of, unary_of, comparison_of, boolean_of}
+use Rattle.si_code.specs.declared.instr.Instr.{Instr}
+use Rattle.si_code.specs.declared.instr.Instr.TheVariants.{PushInt, PushNone, PushTruth, PushLiteral, LoadGlobal, StoreGlobal, Unary, Binary, Compare, KeepRight, EndChain, JumpOrDiscard, JumpIfFalse, Jump, EnterLoop, Break, Continue, Call, Discard, Finish}
+use Rattle.si_code.specs.Contents.{Contents}
+use Rattle.si_plain.specs.Names.{with_name}
+
+-- the text at a place of the literals or at a slot of the names
+abbrev pub text_at : List Text → ℕ → Text
+text_at texts place = slice_index_or texts place []
+
+-- an instruction, with the literals and the names that it speaks of
+abbrev pub instr_of : List Text → List Text → Instr → machine.Instr
+instr_of literals names (PushInt n) = machine.Push (Int n)
+instr_of literals names PushNone = machine.Push Nothing
+instr_of literals names (PushTruth b) = machine.Push (Truth b)
+instr_of literals names (PushLiteral place) = machine.Push (Str (text_at literals place))
+instr_of literals names (LoadGlobal slot) = machine.LoadGlobal (text_at names slot)
+instr_of literals names (StoreGlobal slot) = machine.StoreGlobal (text_at names slot)
+instr_of literals names (Unary o) = machine.ApplyUnary (unary_of o)
+instr_of literals names (Binary o) = machine.ApplyBinary (binary_of o)
+instr_of literals names (Compare o) = machine.ApplyComparison (comparison_of o)
+instr_of literals names KeepRight = machine.KeepRight
+instr_of literals names (EndChain n) = machine.EndChain n
+instr_of literals names (JumpOrDiscard o n) = machine.JumpOrDiscard (boolean_of o) n
+instr_of literals names (JumpIfFalse n) = machine.JumpIfFalse n
+instr_of literals names (Jump n) = machine.Jump n
+instr_of literals names (EnterLoop back ahead) = machine.EnterLoop back ahead
+instr_of literals names Break = machine.DoBreak
+instr_of literals names Continue = machine.DoContinue
+instr_of literals names (Call n) = machine.CallTop n
+instr_of literals names Discard = machine.Discard
+instr_of literals names Finish = machine.Finish
+
+-- the instructions of a table
+abbrev pub code_of : Contents → List machine.Instr
+code_of c = map (instr_of c.literals c.names) c.lines
+
+-- a table
+abbrev pub table_of : Contents → machine.Table
+table_of c = record { lines = code_of c }
+
+-- the str literal that an instruction speaks of
+abbrev pub literal_of : machine.Instr → Option Text
+literal_of (machine.Push (Str t)) = Some t
+literal_of _ = None
+
+-- the global that an instruction speaks of, by its name
+abbrev pub global_of : machine.Instr → Option Text
+global_of (machine.LoadGlobal x) = Some x
+global_of (machine.StoreGlobal x) = Some x
+global_of _ = None
+
+-- a table has this code more, with its literals in order and a slot for each global that had none
+pub record Gains (old new : Contents) (code : List machine.Instr) : Type 0 where
+  pub lines : code_of new ≡ code_of old ++ code
+  pub literals : new.literals ≡ old.literals ++ filter_map literal_of code
+  pub names : new.names ≡ fold with_name old.names (filter_map global_of code)

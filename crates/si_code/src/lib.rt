@@ -1,0 +1,15 @@
+// The code of scripts.
+//
+// A `CodeTable` has the code of the texts that one interpreter has read. It only grows, and each of its calls says by
+// how much: by which instructions, with which literals and which slots.
+//
+// In reading order: `instr`, the instructions, each with what it takes and leaves; `table`, their lines, literals and
+// slots. specs/Contents.antt and specs/Views.antt say what a table has and what it stands for; specs/Jumps.antt is for
+// the proofs alone.
+#![tactic(auto)]
+
+pub mod instr;
+pub mod table;
+
+pub use instr::Instr;
+pub use table::{CodeTable, Entry, Mark};

@@ -1,0 +1,39 @@
+-- The trees that forms with lists of pairs stand for.
+use Rattle.std.proofs.Common.{◌≡◌, List, [], ◌∷◌, map, Box, Vec, Global, refl, sym, ap, ◌∙◌}
+use Rattle.si_semantics.specs.Tree as tree
+use Rattle.si_semantics.specs.Grammar.{chain_of, Branch, stmts_of, elifs_of}
+use Rattle.si_syntax.specs.declared.operators.ComparisonOperator.{ComparisonOperator}
+use Rattle.si_syntax.specs.declared.expr.Expr.{Expr}
+use Rattle.si_syntax.specs.declared.expr.Expr.TheFolds.{fold-roll-Expr}
+use Rattle.si_syntax.specs.declared.expr.Expr.TheOpen.{Expr-F}
+use Rattle.si_syntax.specs.declared.expr.Expr.TheVariants.{rolls-Compare}
+use Rattle.si_syntax.specs.declared.expr.Expr.TheViews as views
+use Rattle.si_syntax.specs.declared.stmt.Stmt.{Stmt}
+use Rattle.si_syntax.specs.declared.stmt.Stmt.TheFolds.{fold-Stmt, fold-roll-Stmt}
+use Rattle.si_syntax.specs.declared.stmt.Stmt.TheShapes.{former-Stmt-If-2-at-3}
+use Rattle.si_syntax.specs.declared.stmt.Stmt.TheOpen.{Stmt-F}
+use Rattle.si_syntax.specs.declared.stmt.Stmt.TheVariants.{rolls-If}
+use Rattle.si_syntax.specs.declared.stmt.Stmt.TheViews as stmts
+use Rattle.si_syntax.specs.Trees.{comparison_of, expr_of, view_step, link_of, stmt_of, stmt_step, branch_of}
+
+links_are : (ls : List (ComparisonOperator × Expr)) → map {A = ComparisonOperator × tree.Expr} {B = tree.ComparisonOperator × tree.Expr} (λ l. (comparison_of l.0, l.1)) (map {B = ComparisonOperator × tree.Expr} (λ l. (l.0, expr_of l.1)) ls) ≡ map link_of ls
+links_are [] = refl
+links_are (l ∷ ls) = ap (λ r. link_of l ∷ r) (links_are ls)
+
+pub compare_is : (a : Box Expr Global) (ls : Vec (ComparisonOperator × Expr) Global) → expr_of (views.Compare a ls) ≡ tree.Compare (expr_of a.value) (chain_of (map link_of ls.items))
+compare_is a ls =
+    ap expr_of (sym (rolls-Compare a ls)) ∙ fold-roll-Expr tree.Expr view_step (Expr-F.Compare a ls) ∙ ap (λ l. tree.Compare (expr_of a.value) (chain_of l)) (links_are ls.items)
+
+abbrev branch_seen : Expr × Vec Stmt Global → Branch
+branch_seen b = branch_of b.0 b.1.items
+
+branches_are : (bs : List (Expr × Vec Stmt Global))
+    → map {A = Expr × Vec tree.Stmt Global} {B = Branch} (λ b. (expr_of b.0, stmts_of b.1.items)) (map (former-Stmt-If-2-at-3.map Stmt tree.Stmt (fold-Stmt tree.Stmt stmt_step)) bs) ≡ map branch_seen bs
+branches_are [] = refl
+branches_are (b ∷ bs) = ap (λ r. branch_seen b ∷ r) (branches_are bs)
+
+pub if_is : (test : Expr) (body : Vec Stmt Global) (elifs : Vec (Expr × Vec Stmt Global) Global) (last : Vec Stmt Global)
+    → stmt_of (stmts.If test body elifs last) ≡ tree.If (expr_of test) (stmts_of (map stmt_of body.items)) (elifs_of (map (λ b. branch_of b.0 b.1.items) elifs.items) (stmts_of (map stmt_of last.items)))
+if_is test body elifs last =
+    ap stmt_of (sym (rolls-If test body elifs last)) ∙ fold-roll-Stmt tree.Stmt stmt_step (Stmt-F.If test body elifs last)
+    ∙ ap (λ l. tree.If (expr_of test) (stmts_of (map stmt_of body.items)) (elifs_of l (stmts_of (map stmt_of last.items)))) (branches_are elifs.items)

@@ -1,0 +1,29 @@
+// Expressions.
+
+use crate::operators::{BinaryOperator, BooleanOperator, ComparisonOperator, UnaryOperator};
+use si_plain::Text;
+
+/// An expression.
+#[derive(Debug, Drop)]
+pub enum Expr {
+    /// A name, which is ASCII.
+    Name(String),
+    /// An integer literal, from 0 to 9223372036854775807.
+    Int(i64),
+    /// `None`.
+    Nothing,
+    /// `True` or `False`.
+    Truth(bool),
+    /// One str literal or several beside each other, with their escapes read.
+    Str(Text),
+    Unary(UnaryOperator, Box<Expr>),
+    Binary(BinaryOperator, Box<Expr>, Box<Expr>),
+    /// A callee and its positional arguments.
+    Call(Box<Expr>, Vec<Expr>),
+    /// Operands of `and` or of `or` in a row: the first, and the others, of which there is one at least.
+    Boolean(BooleanOperator, Box<Expr>, Vec<Expr>),
+    /// A chain of comparisons: the first operand, and each operator with the operand behind it.
+    Compare(Box<Expr>, Vec<(ComparisonOperator, Expr)>),
+    /// `value if test else other`: the test, the value, the other.
+    Conditional(Box<Expr>, Box<Expr>, Box<Expr>),
+}

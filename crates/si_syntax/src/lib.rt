@@ -1,0 +1,17 @@
+// The trees of scripts.
+//
+// Each value stands for one tree of `si_semantics`: specs/Trees.antt says which, and specs/Modules.antt for a whole
+// script.
+//
+// In reading order: `operators`, `expr` (expressions), `stmt` (statements), and `modules` (whole scripts).
+#![tactic(auto)]
+
+pub mod expr;
+pub mod modules;
+pub mod operators;
+pub mod stmt;
+
+pub use expr::Expr;
+pub use modules::Module;
+pub use operators::{BinaryOperator, BooleanOperator, ComparisonOperator, UnaryOperator};
+pub use stmt::Stmt;
