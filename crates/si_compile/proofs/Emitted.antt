@@ -20,6 +20,7 @@ use Rattle.si_compile.specs.Code.{count, expr_code, exprs_code, stmt_code, stmts
 use Rattle.si_code.specs.Contents.{Contents}
 use Rattle.si_code.specs.Views.{Gains}
 use Rattle.si_code.proofs.Codes.{Gains-nil, Gains-append}
+use Rattle.si_syntax.proofs.Rows.{rest_is}
 
 -- ---- expressions
 

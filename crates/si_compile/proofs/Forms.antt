@@ -4,20 +4,20 @@ use Rattle.std.specs.List.{AllByRecursion}
 use Rattle.std.proofs.lemmas.List.{drop_all}
 use Rattle.si_semantics.specs.Tree as tree
 use Rattle.si_semantics.specs.Machine as machine
-use Rattle.si_semantics.specs.Grammar.{exprs_of, chain_of, elifs_of, Branch}
+use Rattle.si_semantics.specs.Grammar.{exprs_of, chain_of, elifs_of}
 use Rattle.si_syntax.specs.declared.operators.BooleanOperator.{BooleanOperator}
 use Rattle.si_syntax.specs.declared.operators.ComparisonOperator.{ComparisonOperator}
 use Rattle.si_syntax.specs.declared.expr.Expr.{Expr}
 use Rattle.si_syntax.specs.declared.expr.Expr.TheFolds.{fold-roll-Expr}
 use Rattle.si_syntax.specs.declared.expr.Expr.TheOpen.{Expr-F}
-use Rattle.si_syntax.specs.declared.expr.Expr.TheVariants.{rolls-Boolean, rolls-Compare, rolls-Conditional}
+use Rattle.si_syntax.specs.declared.expr.Expr.TheVariants.{rolls-Boolean, rolls-Conditional}
 use Rattle.si_syntax.specs.declared.expr.Expr.TheViews as views
 use Rattle.si_syntax.specs.declared.stmt.Stmt.{Stmt}
 use Rattle.si_syntax.specs.declared.stmt.Stmt.TheFolds.{fold-roll-Stmt}
 use Rattle.si_syntax.specs.declared.stmt.Stmt.TheOpen.{Stmt-F}
-use Rattle.si_syntax.specs.declared.stmt.Stmt.TheVariants.{rolls-If, rolls-While}
+use Rattle.si_syntax.specs.declared.stmt.Stmt.TheVariants.{rolls-While}
 use Rattle.si_syntax.specs.declared.stmt.Stmt.TheViews as stmt_views
-use Rattle.si_syntax.specs.Trees.{boolean_of, body_of, comparison_of, expr_of, stmt_of, stmt_step, view_step, link_of, elif_of}
+use Rattle.si_syntax.specs.Trees.{boolean_of, body_of, expr_of, stmt_of, stmt_step, view_step, link_of, elif_of}
 use Rattle.si_compile.specs.Code.{expr_code, operands_code, chain_code, stmt_code, stmts_code}
 use Rattle.si_code.specs.Contents.{Contents, Extends}
 use Rattle.si_code.specs.Jumps.{Due, Aims}
@@ -27,6 +27,7 @@ use Rattle.si_code.proofs.Codes.{Gains-append}
 use Rattle.si_plain.proofs.Begins.{length-Begins}
 use Rattle.si_code.proofs.Jumped.{length_gained, All-push}
 use Rattle.si_compile.proofs.Emitted.{Code, at_value, at_tree, at_stmt}
+use Rattle.si_syntax.proofs.Forms.{compare_is, if_is}
 use Rattle.si_syntax.proofs.Rows.{rest_is}
 use Rattle.si_compile.proofs.Branches.{MakesAll, MakesAll-end, Elifs, branch_gains, branch_ends, tested_branch, elif_due, loop_gains}
 
@@ -40,15 +41,6 @@ pub boolean_gains : {t0 t1 t2 : Contents} (o : BooleanOperator) (a : Box Expr Gl
 boolean_gains {t0} {t1} {t2} o a others x e es is at all h k =
     at_tree e (views.Boolean o a others) (tree.Boolean (boolean_of o) (expr_of a.value) (exprs_of (map expr_of others.items))) is (boolean_is o a others)
     (Gains-append t0 t1 t2 _ _ (at_value x a.value at h) (subst (λ l. Gains t1 t2 (operands_code (boolean_of o) (exprs_of (map expr_of l)))) all k))
-
-links_are : (ls : List (ComparisonOperator × Expr)) → map {A = ComparisonOperator × tree.Expr} (λ l. (comparison_of l.0, l.1)) (map {A = ComparisonOperator × Expr} (λ l. (l.0, expr_of l.1)) ls) ≡ map link_of ls
-links_are [] = refl
-links_are (l ∷ ls) = ap (λ r. link_of l ∷ r) (links_are ls)
-
-compare_is : (a : Box Expr Global) (ls : Vec (ComparisonOperator × Expr) Global) → expr_of (views.Compare a ls) ≡ tree.Compare (expr_of a.value) (chain_of (map link_of ls.items))
-compare_is a ls =
-    ap expr_of (sym (rolls-Compare a ls)) ∙ fold-roll-Expr tree.Expr view_step (Expr-F.Compare a ls)
-    ∙ ap (λ l. tree.Compare (expr_of a.value) (chain_of l)) (links_are ls.items)
 
 pub compare_gains : {t0 t1 t2 : Contents} (a : Box Expr Global) (others : Vec (ComparisonOperator × Expr) Global) (x e : Expr) (ls : List (ComparisonOperator × Expr)) → e ≡ views.Compare a others → x ≡ a.value → ls ≡ others.items
     → Gains t0 t1 (Code x) → Gains t1 t2 (chain_code (chain_of (map link_of ls))) → Gains t0 t2 (Code e)
@@ -80,16 +72,6 @@ pub while_gains : {t0 t1 t2 : Contents} (test : Expr) (body : Vec Stmt Global) (
 while_gains {t0} {t1} {t2} test body ss s start is all here h k =
     at_stmt s (stmt_views.While test body) (tree.While (expr_of test) (body_of body.items) tree.NoStmts) is (while_is test body)
     (loop_gains (Code test) (stmts_code (body_of body.items)) start here h (subst (λ l. Gains t1 t2 (turn_code (length t1.lines - start + 2) (stmts_code (body_of l)))) all k))
-
-branches_are : (g : Expr × Vec Stmt Global → Expr × Vec tree.Stmt Global) (f : Expr × Vec tree.Stmt Global → Branch) → ((b : Expr × Vec Stmt Global) → f (g b) ≡ elif_of b) → (bs : List (Expr × Vec Stmt Global)) → map f (map g bs) ≡ map elif_of bs
-branches_are g f same [] = refl
-branches_are g f same (b ∷ bs) = ap (λ x. x ∷ map f (map g bs)) (same b) ∙ ap (λ r. elif_of b ∷ r) (branches_are g f same bs)
-
-if_is : (test : Expr) (body : Vec Stmt Global) (elifs : Vec (Expr × Vec Stmt Global) Global) (last : Vec Stmt Global)
-    → stmt_of (stmt_views.If test body elifs last) ≡ tree.If (expr_of test) (body_of body.items) (elifs_of (map elif_of elifs.items) (body_of last.items))
-if_is test body elifs last =
-    ap stmt_of (sym (rolls-If test body elifs last)) ∙ fold-roll-Stmt tree.Stmt stmt_step (Stmt-F.If test body elifs last)
-    ∙ ap (λ bs. tree.If (expr_of test) (body_of body.items) (elifs_of bs (body_of last.items))) (branches_are _ _ (λ b. refl) elifs.items)
 
 pub if_gains : {t0 t1 t2 t3 t4 : Contents} (test : Expr) (body : Vec Stmt Global) (elifs : Vec (Expr × Vec Stmt Global) Global) (last : Vec Stmt Global) (ss ls : List Stmt) (bs : List (Expr × Vec Stmt Global)) (s : Stmt) (end : ℕ)
     → s ≡ stmt_views.If test body elifs last → ss ≡ body.items → bs ≡ elifs.items → ls ≡ last.items → end + 1 ≡ length t2.lines

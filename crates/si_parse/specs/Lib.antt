@@ -1,4 +1,3 @@
-pub mod Trees
 pub mod Modules
 pub mod Reading
 pub mod Gives

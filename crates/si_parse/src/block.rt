@@ -56,7 +56,7 @@ pub(crate) fn block(
 
 // The statement from behind its `if`.
 #[cycle(blocks)]
-#[tactic(auto, using(crate::proofs::Forms::if_is))]
+#[tactic(auto, using(si_syntax::proofs::Forms::if_is))]
 fn if_statement(
     alloc: Global,
     parts: u32,

@@ -255,7 +255,7 @@ fn call(alloc: Global, parts: u32, left: Expr, depth: u32, tokens: &[Token], at:
 
 // The operand with a chain of comparisons, whose first operator stands at the place.
 #[cycle(expressions)]
-#[tactic(auto, using(crate::proofs::Forms::compare_is))]
+#[tactic(auto, using(si_syntax::proofs::Forms::compare_is))]
 fn compare(alloc: Global, parts: u32, left: Expr, depth: u32, tokens: &[Token], at: usize) -> Read
     requires limit { parts < 999 }
     requires shallow { depth ≤ parts + 1 }

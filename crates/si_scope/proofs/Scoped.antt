@@ -2,15 +2,13 @@
 use Rattle.std.proofs.Common.{◌≡◌, ℕ, ◌+◌, ◌<◌, ◌≤◌, Bool, true, false, ◌&&◌, List, [], ◌∷◌, map, length, drop, get_or, Vec, Global, refl, sym, ap, ◌∙◌}
 use Rattle.std.proofs.lemmas.List.{drop_all}
 use Rattle.si_semantics.specs.Tree as tree
-use Rattle.si_semantics.specs.Grammar.{elifs_of, Branch}
+use Rattle.si_semantics.specs.Grammar.{elifs_of}
 use Rattle.si_semantics.specs.Scope.{stmt_scoped, stmts_scoped}
 use Rattle.si_syntax.specs.declared.expr.Expr.{Expr}
 use Rattle.si_syntax.specs.declared.stmt.Stmt.{Stmt}
-use Rattle.si_syntax.specs.declared.stmt.Stmt.TheFolds.{fold-roll-Stmt}
-use Rattle.si_syntax.specs.declared.stmt.Stmt.TheOpen.{Stmt-F}
-use Rattle.si_syntax.specs.declared.stmt.Stmt.TheVariants.{rolls-If}
 use Rattle.si_syntax.specs.declared.stmt.Stmt.TheViews as views
-use Rattle.si_syntax.specs.Trees.{body_of, expr_of, stmt_of, stmt_step, elif_of}
+use Rattle.si_syntax.specs.Trees.{body_of, stmt_of, elif_of}
+use Rattle.si_syntax.proofs.Forms.{if_is}
 use Rattle.si_syntax.proofs.Rows.{rest_is}
 
 abbrev pub Elifs : List (Expr × Vec Stmt Global) → tree.Stmts → tree.Stmts
@@ -23,15 +21,6 @@ and_true false = refl
 and_false : (b : Bool) → (b && false) ≡ false
 and_false true = refl
 and_false false = refl
-
-branches_are : (g : Expr × Vec Stmt Global → Expr × Vec tree.Stmt Global) (f : Expr × Vec tree.Stmt Global → Branch) → ((b : Expr × Vec Stmt Global) → f (g b) ≡ elif_of b) → (bs : List (Expr × Vec Stmt Global)) → map f (map g bs) ≡ map elif_of bs
-branches_are g f same [] = refl
-branches_are g f same (b ∷ bs) = ap (λ x. x ∷ map f (map g bs)) (same b) ∙ ap (λ r. elif_of b ∷ r) (branches_are g f same bs)
-
-if_is : (test : Expr) (body : Vec Stmt Global) (elifs : Vec (Expr × Vec Stmt Global) Global) (last : Vec Stmt Global) → stmt_of (views.If test body elifs last) ≡ tree.If (expr_of test) (body_of body.items) (Elifs elifs.items (body_of last.items))
-if_is test body elifs last =
-    ap stmt_of (sym (rolls-If test body elifs last)) ∙ fold-roll-Stmt tree.Stmt stmt_step (Stmt-F.If test body elifs last)
-    ∙ ap (λ bs. tree.If (expr_of test) (body_of body.items) (elifs_of bs (body_of last.items))) (branches_are _ _ (λ b. refl) elifs.items)
 
 -- an `if`, by its parts
 pub if_scoped : (test : Expr) (body : Vec Stmt Global) (elifs : Vec (Expr × Vec Stmt Global) Global) (last : Vec Stmt Global) (in_loop : Bool) (s : Stmt) → s ≡ views.If test body elifs last

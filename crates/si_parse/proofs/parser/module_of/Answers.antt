@@ -1,4 +1,6 @@
+use Rattle.std.proofs.Common.{sym, subst, ◌∙◌}
 use Rattle.std.proofs.lemmas.Result.{err_from_is_err_and}
+use Rattle.si_semantics.specs.Grammar.{Derives}
 use Rattle.si_parse.specs.Gives.{from}
 use Rattle.si_parse.proofs.Modules.{found, shallow, one_module}
 use Rattle.si_parse.proofs.Refusals.{refused}
@@ -9,11 +11,11 @@ returns-in_err-body-clause-refused c =
     let p = err_from_is_err_and c.from_residual.result c.from_residual.ensures.1 in
     rw (p.1, p.2) (refused (from c.args.tokens.now 0) c.in_err-body.field-0.0 c.in_err-body.ensures)
 
-pub invariant_of-result : goal.invariant_of-result
-invariant_of-result c = record { shallow = ∣ shallow (from c.args.tokens.now 0) _ c.in_ok-body.ensures ∣₁ }
+pub new-requires : goal.new-requires
+new-requires c = shallow (from c.args.tokens.now 0) _ c.in_ok-body.ensures
 
 pub returns-clause-found : goal.returns-clause-found
-returns-clause-found c = found (from c.args.tokens.now 0) _ c.in_ok-body.ensures
+returns-clause-found c = subst (λ t. Derives t (from c.args.tokens.now 0)) (sym c.new.ensures) (found (from c.args.tokens.now 0) _ c.in_ok-body.ensures)
 
 pub returns-clause-only : goal.returns-clause-only
-returns-clause-only c = λ body d. one_module _ body (from c.args.tokens.now 0) (found (from c.args.tokens.now 0) _ c.in_ok-body.ensures) d
+returns-clause-only c = λ body d. c.new.ensures ∙ one_module _ body (from c.args.tokens.now 0) (found (from c.args.tokens.now 0) _ c.in_ok-body.ensures) d
