@@ -1,5 +1,5 @@
 -- What the code of a tree's parts gives is what the tree's code gives.
-use Rattle.std.proofs.Common.{◌≡◌, ℕ, ◌+◌, ◌<◌, ◌≤◌, List, [], ◌∷◌, map, length, drop, get_or, suc, Box, Vec, String, Global, string_bytes, refl, sym, ap, subst, ◌∙◌, drop-cons, add-one, arith}
+use Rattle.std.proofs.Common.{◌≡◌, ℕ, ◌+◌, ◌<◌, ◌≤◌, List, [], ◌∷◌, map, length, drop, get_or, Box, Vec, String, Global, string_bytes, refl, sym, ap, subst, ◌∙◌, arith}
 use Rattle.std.proofs.lemmas.List.{drop_all}
 use Rattle.si_semantics.specs.Tree as tree
 use Rattle.si_semantics.specs.Machine as machine
