@@ -1,12 +1,15 @@
 -- With more turns and more answers an evaluation and a life go further, and go alike as far as they went.
 use Rattle.std.proofs.Common.{◌≡◌, ℕ, zero, suc, ◌+◌, ◌≤◌, List, [], ◌∷◌, ◌++◌, length, Bool, true, false, Option, Some, None, refl, sym, ap, ◌∙◌, subst, arith, append_assoc, length-append}
+use Rattle.std.specs.Prelude.{nat_eq, slice_get}
 use Rattle.std.proofs.lemmas.List.{append-nil}
-use Rattle.si_semantics.specs.Value.{Text, Value, Exception}
-use Rattle.si_semantics.specs.Tree.{BooleanOperator, Expr, Constant, Name, Unary, Binary, Call, Boolean, Compare, Conditional, Exprs, NoExprs, MoreExprs, Comparisons, NoComparisons, MoreComparisons, Stmt, Evaluate, Assign, Augment, Pass, If, While, Break, Continue, Stmts, NoStmts, MoreStmts}
+use Rattle.si_semantics.specs.Value.{Text, Value, Nothing, Truth, Int, Str, Provided, Function, Exception}
+use Rattle.si_semantics.specs.Tree.{BooleanOperator, Expr, Constant, Name, Unary, Binary, Call, Boolean, Compare, Conditional, Exprs, NoExprs, MoreExprs, Comparisons, NoComparisons, MoreComparisons, Stmt, Evaluate, Assign, Augment, Pass, If, While, Break, Continue, Define, Return, Global, Stmts, NoStmts, MoreStmts, functions_of, functions_in}
+use Rattle.si_semantics.specs.Tree as tree
+use Rattle.si_semantics.specs.Scope.{place_of, locals_of}
 use Rattle.si_semantics.specs.World.{World, Request, Bind, Run, Closing, Answer, Taken, Done, Replied, Got, Failed, Wants, Ran, Gave, Threw, Asked, bind_all}
-use Rattle.si_semantics.specs.Operations.{exception, operate, operate_unary, is_true, compare, load_global, call, reply}
-use Rattle.si_semantics.specs.Meaning.{State, Raises, Breaks, Continues, Result, Gives, Leaves, Asks, Cut, Meaning, Scope, visit, then, printed, raised, asked, ran, assign, choose, decides, compared, expr, exprs, operands, chain, after_turn, loop, stmt, stmts}
-use Rattle.si_semantics.specs.Life.{Outcome, Returned, Told, Stops, IsGone, IsCut, Action, outcome_of, not_read, after_end, ends_with, run_ended, module_scope, takes, life, newborn, life_of}
+use Rattle.si_semantics.specs.Operations.{exception, operate, operate_unary, is_true, compare, load_global, load_local, call_provided, call_by_name, not_callable, wrong_arguments, too_deep, reply}
+use Rattle.si_semantics.specs.Meaning.{State, Raises, Returns, Breaks, Continues, Result, Gives, Leaves, Asks, Cut, Meaning, Scope, behind, visit, then, printed, raised, asked, ran, slot_at, read, assign, calls, choose, decides, compared, expr, exprs, operands, chain, after_turn, loop, returning, stmt, stmts, returned, entered, fitting, run_body, call, max_calls}
+use Rattle.si_semantics.specs.Life.{Outcome, Returned, Told, Stops, IsGone, IsCut, Action, outcome_of, not_read, after_end, ends_with, run_ended, module_scope, run_of, takes, life, newborn, life_of}
 use Rattle.si_semantics.specs.Shows.{end_of}
 use Rattle.si_semantics.specs.Laws.{Grows, state_of, OneLife, LivesGrow, GoneStays}
 
@@ -71,44 +74,69 @@ compared_adds : (cs : Comparisons) (t : Value) (rest : Meaning Value) → Adds r
 compared_adds NoComparisons t rest h s = same s
 compared_adds (MoreComparisons o a cs) t rest h s = choose_adds (is_true t) (rest s) (Gives t s) (h s) (same s)
 
-mutual
-  expr_adds : (e : Scope) (a : Expr) → Adds (expr e a)
-  expr_adds e (Constant v) s = visit_adds s
-  expr_adds e (Name x) s = trans (visit_adds s) (ran_adds (load_global x s.world) (visit s))
-  expr_adds e (Unary o a) s = both_add s (expr e a (visit s)) _ (trans (visit_adds s) (expr_adds e a (visit s))) (λ v s1. ran_adds (operate_unary o v s1.world) s1)
-  expr_adds e (Binary o a b) s =
-      both_add s (expr e a (visit s)) _ (trans (visit_adds s) (expr_adds e a (visit s))) (λ u s1. both_add s1 (expr e b s1) _ (expr_adds e b s1) (λ v s2. ran_adds (operate o u v s2.world) s2))
-  expr_adds e (Call f args) s =
-      both_add s (expr e f (visit s)) _ (trans (visit_adds s) (expr_adds e f (visit s))) (λ g s1. both_add s1 (exprs e args s1) _ (exprs_add e args s1) (λ vs s2. ran_adds (call g vs s2.world) s2))
-  expr_adds e (Boolean o a more) s = both_add s (expr e a (visit s)) _ (trans (visit_adds s) (expr_adds e a (visit s))) (λ u s1. operands_add e o u more s1)
-  expr_adds e (Compare a cs) s = both_add s (expr e a (visit s)) _ (trans (visit_adds s) (expr_adds e a (visit s))) (λ u s1. chain_adds e u cs s1)
-  expr_adds e (Conditional a b c) s =
-      both_add s (expr e a (visit s)) _ (trans (visit_adds s) (expr_adds e a (visit s))) (λ t s1. choose_adds (is_true t) (expr e b s1) (expr e c s1) (expr_adds e b s1) (expr_adds e c s1))
+read_adds : (x : Text) (p : Option ℕ) → Adds (read x p)
+read_adds x None s = ran_adds (load_global x s.world) s
+read_adds x (Some k) s = ran_adds (load_local x (slot_at k s.slots) s.world) s
 
-  exprs_add : (e : Scope) (args : Exprs) → Adds (exprs e args)
-  exprs_add e NoExprs s = same s
-  exprs_add e (MoreExprs a args) s =
-      both_add s (expr e a s) _ (expr_adds e a s) (λ v s1. both_add s1 (exprs e args s1) _ (exprs_add e args s1) (λ vs s2. same s2))
+assign_adds : (x : Text) (p : Option ℕ) (v : Value) → Adds (assign x p v)
+assign_adds x None v s = record { pieces = (same s).pieces; visits = (same s).visits }
+assign_adds x (Some k) v s = record { pieces = (same s).pieces; visits = (same s).visits }
 
-  operands_add : (e : Scope) (o : BooleanOperator) (u : Value) (more : Exprs) → Adds (operands e o u more)
-  operands_add e o u NoExprs s = same s
-  operands_add e o u (MoreExprs a more) s =
-      choose_adds (decides o u) (Gives u s) (then (expr e a s) (λ v s1. operands e o v more s1)) (same s) (both_add s (expr e a s) _ (expr_adds e a s) (λ v s1. operands_add e o v more s1))
+-- the calls of functions that were read only add
+abbrev Calls_add : Scope → Type 0
+Calls_add e = (k : ℕ) (vs : List Value) → Adds (e.call k vs)
 
-  chain_adds : (e : Scope) (u : Value) (cs : Comparisons) → Adds (chain e u cs)
-  chain_adds e u NoComparisons s = same s
-  chain_adds e u (MoreComparisons o a cs) s =
-      both_add s (expr e a s) _ (expr_adds e a s)
-      (λ v s1. both_add s1 (ran (compare o u v s1.world) s1) _ (ran_adds (compare o u v s1.world) s1) (λ t s2. compared_adds cs t (chain e v cs) (λ s3. chain_adds e v cs s3) s2))
+calls_add : (e : Scope) → Calls_add e → (g : Value) (vs : List Value) (names : List Text) → Adds (calls e g vs names)
+calls_add e h (Function f k) vs [] s = h k vs s
+calls_add e h Nothing vs [] s = ran_adds (call_provided Nothing vs s.world) s
+calls_add e h (Truth t) vs [] s = ran_adds (call_provided (Truth t) vs s.world) s
+calls_add e h (Int i) vs [] s = ran_adds (call_provided (Int i) vs s.world) s
+calls_add e h (Str t) vs [] s = ran_adds (call_provided (Str t) vs s.world) s
+calls_add e h (Provided f) vs [] s = ran_adds (call_provided (Provided f) vs s.world) s
+calls_add e h g vs (x ∷ names) s = ran_adds (call_by_name g s.world) s
 
-assign_adds : (x : Text) (v : Value) → Adds (assign x v)
-assign_adds x v s = record { pieces = (same s).pieces; visits = (same s).visits }
+module _ (e : Scope) (calling : Calls_add e) where
+  mutual
+    expr_adds : (a : Expr) → Adds (expr e a)
+    expr_adds (Constant v) s = visit_adds s
+    expr_adds (Name x) s = trans (visit_adds s) (read_adds x (place_of x e.locals) (visit s))
+    expr_adds (Unary o a) s = both_add s (expr e a (visit s)) _ (trans (visit_adds s) (expr_adds a (visit s))) (λ v s1. ran_adds (operate_unary o v s1.world) s1)
+    expr_adds (Binary o a b) s =
+        both_add s (expr e a (visit s)) _ (trans (visit_adds s) (expr_adds a (visit s))) (λ u s1. both_add s1 (expr e b s1) _ (expr_adds b s1) (λ v s2. ran_adds (operate o u v s2.world) s2))
+    expr_adds (Call f args names) s =
+        both_add s (expr e f (visit s)) _ (trans (visit_adds s) (expr_adds f (visit s)))
+        (λ g s1. both_add s1 (exprs e args s1) _ (exprs_add args s1) (λ vs s2. calls_add e calling g vs names s2))
+    expr_adds (Boolean o a more) s = both_add s (expr e a (visit s)) _ (trans (visit_adds s) (expr_adds a (visit s))) (λ u s1. operands_add o u more s1)
+    expr_adds (Compare a cs) s = both_add s (expr e a (visit s)) _ (trans (visit_adds s) (expr_adds a (visit s))) (λ u s1. chain_adds u cs s1)
+    expr_adds (Conditional a b c) s =
+        both_add s (expr e a (visit s)) _ (trans (visit_adds s) (expr_adds a (visit s))) (λ t s1. choose_adds (is_true t) (expr e b s1) (expr e c s1) (expr_adds b s1) (expr_adds c s1))
+
+    exprs_add : (args : Exprs) → Adds (exprs e args)
+    exprs_add NoExprs s = same s
+    exprs_add (MoreExprs a args) s =
+        both_add s (expr e a s) _ (expr_adds a s) (λ v s1. both_add s1 (exprs e args s1) _ (exprs_add args s1) (λ vs s2. same s2))
+
+    operands_add : (o : BooleanOperator) (u : Value) (more : Exprs) → Adds (operands e o u more)
+    operands_add o u NoExprs s = same s
+    operands_add o u (MoreExprs a more) s =
+        choose_adds (decides o u) (Gives u s) (then (expr e a s) (λ v s1. operands e o v more s1)) (same s) (both_add s (expr e a s) _ (expr_adds a s) (λ v s1. operands_add o v more s1))
+
+    chain_adds : (u : Value) (cs : Comparisons) → Adds (chain e u cs)
+    chain_adds u NoComparisons s = same s
+    chain_adds u (MoreComparisons o a cs) s =
+        both_add s (expr e a s) _ (expr_adds a s)
+        (λ v s1. both_add s1 (ran (compare o u v s1.world) s1) _ (ran_adds (compare o u v s1.world) s1) (λ t s2. compared_adds cs t (chain e v cs) (λ s3. chain_adds v cs s3) s2))
+
+  returning_adds : (a : Option Expr) → Adds (returning e a)
+  returning_adds None s = same s
+  returning_adds (Some a) s = both_add s (expr e a s) _ (expr_adds a s) (λ v s1. same s1)
 
 after_turn_adds : (r : Result (Unit {0})) (again : Meaning (Unit {0})) → Adds again → Grows (state_at r) (state_at (after_turn r again))
 after_turn_adds (Gives u s) again h = h s
 after_turn_adds (Leaves Continues s) again h = h s
 after_turn_adds (Leaves Breaks s) again h = same s
 after_turn_adds (Leaves (Raises x) s) again h = same s
+after_turn_adds (Leaves (Returns v) s) again h = same s
 after_turn_adds (Asks q s) again h = same s
 after_turn_adds (Cut s) again h = same s
 
@@ -119,24 +147,66 @@ loop_adds (suc n) test body last h k l s =
     (λ t s1. choose_adds (is_true t) (after_turn (body s1) (loop n test body last)) (last s1) (trans (k s1) (after_turn_adds (body s1) (loop n test body last) (loop_adds n test body last h k l))) (l s1))
 
 mutual
-  stmt_adds : (e : Scope) (a : Stmt) → Adds (stmt e a)
-  stmt_adds e (Evaluate a) s = both_add s (expr e a (visit s)) _ (trans (visit_adds s) (expr_adds e a (visit s))) (λ v s1. same s1)
-  stmt_adds e (Assign x a) s = both_add s (expr e a (visit s)) _ (trans (visit_adds s) (expr_adds e a (visit s))) (λ v s1. trans (visit_adds s1) (assign_adds x v (visit s1)))
-  stmt_adds e (Augment x o a) s =
-      both_add s (ran (load_global x s.world) (visit (visit s))) _ (trans (trans (visit_adds s) (visit_adds (visit s))) (ran_adds (load_global x s.world) (visit (visit s))))
-      (λ u s1. both_add s1 (expr e a s1) _ (expr_adds e a s1)
-      (λ v s2. both_add s2 (ran (operate o u v s2.world) s2) _ (ran_adds (operate o u v s2.world) s2) (λ z s3. assign_adds x z s3)))
-  stmt_adds e Pass s = visit_adds s
-  stmt_adds e (If a b c) s =
-      both_add s (expr e a (visit s)) _ (trans (visit_adds s) (expr_adds e a (visit s))) (λ t s1. choose_adds (is_true t) (stmts e b s1) (stmts e c s1) (stmts_add e b s1) (stmts_add e c s1))
-  stmt_adds e (While a b c) s =
-      trans (visit_adds s) (loop_adds e.turns (expr e a) (stmts e b) (stmts e c) (λ s1. expr_adds e a s1) (λ s1. stmts_add e b s1) (λ s1. stmts_add e c s1) (visit s))
-  stmt_adds e Break s = visit_adds s
-  stmt_adds e Continue s = visit_adds s
+  stmt_adds : (e : Scope) → Calls_add e → (a : Stmt) → Adds (stmt e a)
+  stmt_adds e h (Evaluate a) s = both_add s (expr e a (visit s)) _ (trans (visit_adds s) (expr_adds e h a (visit s))) (λ v s1. same s1)
+  stmt_adds e h (Assign x a) s =
+      both_add s (expr e a (visit s)) _ (trans (visit_adds s) (expr_adds e h a (visit s))) (λ v s1. trans (visit_adds s1) (assign_adds x (place_of x e.locals) v (visit s1)))
+  stmt_adds e h (Augment x o a) s =
+      both_add s (read x (place_of x e.locals) (visit (visit s))) _
+      (trans (trans (visit_adds s) (visit_adds (visit s))) (read_adds x (place_of x e.locals) (visit (visit s))))
+      (λ u s1. both_add s1 (expr e a s1) _ (expr_adds e h a s1)
+      (λ v s2. both_add s2 (ran (operate o u v s2.world) s2) _ (ran_adds (operate o u v s2.world) s2) (λ z s3. assign_adds x (place_of x e.locals) z s3)))
+  stmt_adds e h Pass s = visit_adds s
+  stmt_adds e h (If a b c) s =
+      both_add s (expr e a (visit s)) _ (trans (visit_adds s) (expr_adds e h a (visit s)))
+      (λ t s1. choose_adds (is_true t) (stmts e b s1) (stmts (behind (functions_in b) e) c s1) (stmts_add e h b s1) (stmts_add (behind (functions_in b) e) h c s1))
+  stmt_adds e h (While a b c) s =
+      trans (visit_adds s)
+      (loop_adds e.turns (expr e a) (stmts e b) (stmts (behind (functions_in b) e) c)
+      (λ s1. expr_adds e h a s1) (λ s1. stmts_add e h b s1) (λ s1. stmts_add (behind (functions_in b) e) h c s1) (visit s))
+  stmt_adds e h Break s = visit_adds s
+  stmt_adds e h Continue s = visit_adds s
+  stmt_adds e h (Define f ps b) s = trans (visit_adds s) (assign_adds f (place_of f e.locals) (Function f e.first) (visit s))
+  stmt_adds e h (Return a) s = trans (visit_adds s) (returning_adds e h a (visit s))
+  stmt_adds e h (Global xs) s = visit_adds s
 
-  stmts_add : (e : Scope) (b : Stmts) → Adds (stmts e b)
-  stmts_add e NoStmts s = same s
-  stmts_add e (MoreStmts a b) s = both_add s (stmt e a s) _ (stmt_adds e a s) (λ u s1. stmts_add e b s1)
+  stmts_add : (e : Scope) → Calls_add e → (b : Stmts) → Adds (stmts e b)
+  stmts_add e h NoStmts s = same s
+  stmts_add e h (MoreStmts a b) s = both_add s (stmt e a s) _ (stmt_adds e h a s) (λ u s1. stmts_add (behind (functions_of a) e) h b s1)
+
+-- ---- growing, of a call
+
+returned_adds : (old : List (Option Value)) (r : Result (Unit {0})) → Grows (state_at r) (state_at (returned old r))
+returned_adds old (Gives u s) = record { pieces = (same s).pieces; visits = (same s).visits }
+returned_adds old (Leaves (Returns v) s) = record { pieces = (same s).pieces; visits = (same s).visits }
+returned_adds old (Leaves (Raises x) s) = record { pieces = (same s).pieces; visits = (same s).visits }
+returned_adds old (Leaves Breaks s) = record { pieces = (same s).pieces; visits = (same s).visits }
+returned_adds old (Leaves Continues s) = record { pieces = (same s).pieces; visits = (same s).visits }
+returned_adds old (Asks q s) = same s
+returned_adds old (Cut s) = same s
+
+fitting_adds : (f : Option tree.Function) (vs : List Value) (go : tree.Function → Meaning Value) → ((g : tree.Function) → Adds (go g)) → Adds (fitting f vs go)
+fitting_adds None vs go h s = ran_adds (not_callable s.world) s
+fitting_adds (Some f) vs go h s =
+    choose_adds (nat_eq (length vs) (length f.parameters)) (go f s) (ran (wrong_arguments s.world) s) (h f s) (ran_adds (wrong_arguments s.world) s)
+
+-- what the suite of a function is given
+abbrev suite_scope : ℕ → (ℕ → List Value → Meaning Value) → tree.Function → Scope
+suite_scope n calling f = record { locals = locals_of f; first = 0; active = None; turns = n; call = calling }
+
+run_body_adds : (n : ℕ) (calling : ℕ → List Value → Meaning Value) → ((k : ℕ) (vs : List Value) → Adds (calling k vs)) → (f : tree.Function) (vs : List Value) → Adds (run_body n calling f vs)
+run_body_adds n calling h f vs s =
+    let t = record s { slots = entered (length (locals_of f)) vs } in
+    let g = trans (stmts_add (suite_scope n calling f) h f.body t) (returned_adds s.slots (stmts (suite_scope n calling f) f.body t)) in
+    record { pieces = g.pieces; visits = g.visits }
+
+call_adds : (fs : List tree.Function) (n d k : ℕ) (vs : List Value) → Adds (call fs n d k vs)
+call_adds fs n zero k vs s = fitting_adds (slice_get fs k) vs (λ f s1. ran (too_deep s1.world) s1) (λ f s1. ran_adds (too_deep s1.world) s1) s
+call_adds fs n (suc d) k vs s =
+    fitting_adds (slice_get fs k) vs (λ f s1. run_body n (call fs n d) f vs s1) (λ f s1. run_body_adds n (call fs n d) (λ j us. call_adds fs n d j us) f vs s1) s
+
+run_adds : (fs : List tree.Function) (n : ℕ) (body : Stmts) → Adds (run_of fs n body)
+run_adds fs n body s = stmts_add (module_scope (fs ++ functions_in body) (length fs) n) (λ k vs. call_adds (fs ++ functions_in body) n max_calls k vs) body s
 
 -- ---- growing, of a life
 
@@ -158,21 +228,22 @@ run_ended_adds rest h (Leaves p s) = ends_add (outcome_of p s.world) rest h s
 run_ended_adds rest h (Asks q s) = same s
 run_ended_adds rest h (Cut s) = same s
 
-takes_add : (n : ℕ) (rest : State → Told) → Rest_adds rest → (answers : List Answer) (s : State) → Grows s (state_of (takes n rest answers s))
-takes_add n rest h [] s = record { pieces = (same s).pieces; visits = (same s).visits }
-takes_add n rest h (Taken (Bind bs) ∷ more) s =
-    let g = h (record s { answers = more; world = record s.world { globals = bind_all bs s.world.globals } }) in record { pieces = g.pieces; visits = g.visits }
-takes_add n rest h (Taken (Run None) ∷ more) s = let g = ends_add not_read rest h (record s { answers = more }) in record { pieces = g.pieces; visits = g.visits }
-takes_add n rest h (Taken (Run (Some m)) ∷ more) s =
+takes_add : (n : ℕ) (fs : List tree.Function) (rest : List tree.Function → State → Told) → ((gs : List tree.Function) → Rest_adds (rest gs)) → (answers : List Answer) (s : State) → Grows s (state_of (takes n fs rest answers s))
+takes_add n fs rest h [] s = record { pieces = (same s).pieces; visits = (same s).visits }
+takes_add n fs rest h (Taken (Bind bs) ∷ more) s =
+    let g = h fs (record s { answers = more; world = record s.world { globals = bind_all bs s.world.globals } }) in record { pieces = g.pieces; visits = g.visits }
+takes_add n fs rest h (Taken (Run None) ∷ more) s = let g = ends_add not_read (rest fs) (h fs) (record s { answers = more }) in record { pieces = g.pieces; visits = g.visits }
+takes_add n fs rest h (Taken (Run (Some m)) ∷ more) s =
     let t = record s { answers = more; slots = [] } in
-    let g = trans (stmts_add (module_scope n) m.body t) (run_ended_adds rest h (stmts (module_scope n) m.body t)) in
+    let gs = fs ++ functions_in m.body in
+    let g = trans (run_adds fs n m.body t) (run_ended_adds (rest gs) (h gs) (run_of fs n m.body t)) in
     record { pieces = g.pieces; visits = g.visits }
-takes_add n rest h (Taken Closing ∷ more) s = record { pieces = (same s).pieces; visits = (same s).visits }
-takes_add n rest h (Done ∷ more) s = record { pieces = (same s).pieces; visits = (same s).visits }
+takes_add n fs rest h (Taken Closing ∷ more) s = record { pieces = (same s).pieces; visits = (same s).visits }
+takes_add n fs rest h (Done ∷ more) s = record { pieces = (same s).pieces; visits = (same s).visits }
 
-life_adds : (n k : ℕ) → Rest_adds (life n k)
-life_adds n zero s = same s
-life_adds n (suc k) s = trans (visit_adds s) (takes_add n (life n k) (life_adds n k) s.answers (visit s))
+life_adds : (n k : ℕ) (fs : List tree.Function) → Rest_adds (life n k fs)
+life_adds n zero fs s = same s
+life_adds n (suc k) fs s = trans (visit_adds s) (takes_add n fs (life n k) (λ gs. life_adds n k gs) s.answers (visit s))
 
 -- ---- going further
 
@@ -227,6 +298,7 @@ after_turn_further b (Gives u s) r' again again' h k g = subst (λ x. Further b 
 after_turn_further b (Leaves Continues s) r' again again' h k g = subst (λ x. Further b (again s) (after_turn x again')) (sym h) (k s)
 after_turn_further b (Leaves Breaks s) r' again again' h k g = ap (λ x. after_turn x again') h
 after_turn_further b (Leaves (Raises x) s) r' again again' h k g = ap (λ x. after_turn x again') h
+after_turn_further b (Leaves (Returns v) s) r' again again' h k g = ap (λ x. after_turn x again') h
 after_turn_further b (Asks q s) r' again again' h k g = (trans h.0 (after_turn_adds r' again' g), λ e. ap (λ x. after_turn x again') (h.1 e))
 after_turn_further b (Cut s) r' again again' h k g = trans h (after_turn_adds r' again' g)
 
@@ -243,84 +315,148 @@ module _ (b : List Answer) (test test' : Meaning Value) (body body' last last' :
       (λ t s1. choose_further b (is_true t) _ _ _ _ (after_turn_further b (body s1) (body' (more b s1)) (loop n test body last) (loop m test' body' last') (bodies s1) (λ s2. loop_further n m (omega arith) s2) adds) (lasts s1))
       (λ t s1. choose_adds (is_true t) (after_turn (body' s1) (loop m test' body' last')) (last' s1) (trans (body_adds s1) (after_turn_adds (body' s1) (loop m test' body' last') adds)) (last_adds s1))
 
--- scopes that differ in the most turns of a loop
-module _ (b : List Answer) (active : Option Exception) (n m : ℕ) (fewer : n ≤ m) where
-  abbrev first : Scope
-  first = record { active = active; turns = n }
+read_further : (b : List Answer) (x : Text) (p : Option ℕ) (s : State) → Further b (read x p s) (read x p (more b s))
+read_further b x None s = ran_further b (load_global x s.world) s
+read_further b x (Some k) s = ran_further b (load_local x (slot_at k s.slots) s.world) s
 
-  abbrev second : Scope
-  second = record { active = active; turns = m }
+assign_further : (b : List Answer) (x : Text) (p : Option ℕ) (v : Value) (s : State) → Further b (assign x p v s) (assign x p v (more b s))
+assign_further b x None v s = refl
+assign_further b x (Some k) v s = refl
+
+-- scopes that differ in the most turns of a loop, and in what a call means, where that goes further too
+module _ (b : List Answer) (locals : List Text) (active : Option Exception) (n m : ℕ) (fewer : n ≤ m) (call1 call2 : ℕ → List Value → Meaning Value)
+    (calls_go : (k : ℕ) (vs : List Value) (s : State) → Further b (call1 k vs s) (call2 k vs (more b s))) (adds : (k : ℕ) (vs : List Value) → Adds (call2 k vs)) where
+  abbrev scope1 : ℕ → Scope
+  scope1 i = record { locals = locals; first = i; active = active; turns = n; call = call1 }
+
+  abbrev scope2 : ℕ → Scope
+  scope2 i = record { locals = locals; first = i; active = active; turns = m; call = call2 }
+
+  calls_further : (i : ℕ) (g : Value) (vs : List Value) (names : List Text) (s : State) → Further b (calls (scope1 i) g vs names s) (calls (scope2 i) g vs names (more b s))
+  calls_further i (Function f k) vs [] s = calls_go k vs s
+  calls_further i Nothing vs [] s = ran_further b (call_provided Nothing vs s.world) s
+  calls_further i (Truth t) vs [] s = ran_further b (call_provided (Truth t) vs s.world) s
+  calls_further i (Int j) vs [] s = ran_further b (call_provided (Int j) vs s.world) s
+  calls_further i (Str t) vs [] s = ran_further b (call_provided (Str t) vs s.world) s
+  calls_further i (Provided f) vs [] s = ran_further b (call_provided (Provided f) vs s.world) s
+  calls_further i g vs (x ∷ names) s = ran_further b (call_by_name g s.world) s
 
   mutual
-    expr_further : (a : Expr) (s : State) → Further b (expr first a s) (expr second a (more b s))
-    expr_further (Constant v) s = refl
-    expr_further (Name x) s = ran_further b (load_global x s.world) (visit s)
-    expr_further (Unary o a) s =
-        then_further b _ _ _ _ (expr_further a (visit s)) (λ v s1. ran_further b (operate_unary o v s1.world) s1) (λ v s1. ran_adds (operate_unary o v s1.world) s1)
-    expr_further (Binary o a c) s =
-        then_further b _ _ _ _ (expr_further a (visit s))
-        (λ u s1. then_further b _ _ _ _ (expr_further c s1) (λ v s2. ran_further b (operate o u v s2.world) s2) (λ v s2. ran_adds (operate o u v s2.world) s2))
-        (λ u s1. both_add s1 (expr second c s1) _ (expr_adds second c s1) (λ v s2. ran_adds (operate o u v s2.world) s2))
-    expr_further (Call f args) s =
-        then_further b _ _ _ _ (expr_further f (visit s))
-        (λ g s1. then_further b _ _ _ _ (exprs_further args s1) (λ vs s2. ran_further b (call g vs s2.world) s2) (λ vs s2. ran_adds (call g vs s2.world) s2))
-        (λ g s1. both_add s1 (exprs second args s1) _ (exprs_add second args s1) (λ vs s2. ran_adds (call g vs s2.world) s2))
-    expr_further (Boolean o a c) s = then_further b _ _ _ _ (expr_further a (visit s)) (λ u s1. operands_further o u c s1) (λ u s1. operands_add second o u c s1)
-    expr_further (Compare a cs) s = then_further b _ _ _ _ (expr_further a (visit s)) (λ u s1. chain_further u cs s1) (λ u s1. chain_adds second u cs s1)
-    expr_further (Conditional a c d) s =
-        then_further b _ _ _ _ (expr_further a (visit s))
-        (λ t s1. choose_further b (is_true t) _ _ _ _ (expr_further c s1) (expr_further d s1))
-        (λ t s1. choose_adds (is_true t) (expr second c s1) (expr second d s1) (expr_adds second c s1) (expr_adds second d s1))
+    expr_further : (i : ℕ) (a : Expr) (s : State) → Further b (expr (scope1 i) a s) (expr (scope2 i) a (more b s))
+    expr_further i (Constant v) s = refl
+    expr_further i (Name x) s = read_further b x (place_of x locals) (visit s)
+    expr_further i (Unary o a) s =
+        then_further b _ _ _ _ (expr_further i a (visit s)) (λ v s1. ran_further b (operate_unary o v s1.world) s1) (λ v s1. ran_adds (operate_unary o v s1.world) s1)
+    expr_further i (Binary o a c) s =
+        then_further b _ _ _ _ (expr_further i a (visit s))
+        (λ u s1. then_further b _ _ _ _ (expr_further i c s1) (λ v s2. ran_further b (operate o u v s2.world) s2) (λ v s2. ran_adds (operate o u v s2.world) s2))
+        (λ u s1. both_add s1 (expr (scope2 i) c s1) _ (expr_adds (scope2 i) adds c s1) (λ v s2. ran_adds (operate o u v s2.world) s2))
+    expr_further i (Call f args names) s =
+        then_further b _ _ _ _ (expr_further i f (visit s))
+        (λ g s1. then_further b _ _ _ _ (exprs_further i args s1) (λ vs s2. calls_further i g vs names s2) (λ vs s2. calls_add (scope2 i) adds g vs names s2))
+        (λ g s1. both_add s1 (exprs (scope2 i) args s1) _ (exprs_add (scope2 i) adds args s1) (λ vs s2. calls_add (scope2 i) adds g vs names s2))
+    expr_further i (Boolean o a c) s =
+        then_further b _ _ _ _ (expr_further i a (visit s)) (λ u s1. operands_further i o u c s1) (λ u s1. operands_add (scope2 i) adds o u c s1)
+    expr_further i (Compare a cs) s = then_further b _ _ _ _ (expr_further i a (visit s)) (λ u s1. chain_further i u cs s1) (λ u s1. chain_adds (scope2 i) adds u cs s1)
+    expr_further i (Conditional a c d) s =
+        then_further b _ _ _ _ (expr_further i a (visit s))
+        (λ t s1. choose_further b (is_true t) _ _ _ _ (expr_further i c s1) (expr_further i d s1))
+        (λ t s1. choose_adds (is_true t) (expr (scope2 i) c s1) (expr (scope2 i) d s1) (expr_adds (scope2 i) adds c s1) (expr_adds (scope2 i) adds d s1))
 
-    exprs_further : (args : Exprs) (s : State) → Further b (exprs first args s) (exprs second args (more b s))
-    exprs_further NoExprs s = refl
-    exprs_further (MoreExprs a args) s =
-        then_further b _ _ _ _ (expr_further a s)
-        (λ v s1. then_further b _ _ _ _ (exprs_further args s1) (λ vs s2. refl) (λ vs s2. same s2))
-        (λ v s1. both_add s1 (exprs second args s1) _ (exprs_add second args s1) (λ vs s2. same s2))
+    exprs_further : (i : ℕ) (args : Exprs) (s : State) → Further b (exprs (scope1 i) args s) (exprs (scope2 i) args (more b s))
+    exprs_further i NoExprs s = refl
+    exprs_further i (MoreExprs a args) s =
+        then_further b _ _ _ _ (expr_further i a s)
+        (λ v s1. then_further b _ _ _ _ (exprs_further i args s1) (λ vs s2. refl) (λ vs s2. same s2))
+        (λ v s1. both_add s1 (exprs (scope2 i) args s1) _ (exprs_add (scope2 i) adds args s1) (λ vs s2. same s2))
 
-    operands_further : (o : BooleanOperator) (u : Value) (c : Exprs) (s : State) → Further b (operands first o u c s) (operands second o u c (more b s))
-    operands_further o u NoExprs s = refl
-    operands_further o u (MoreExprs a c) s =
+    operands_further : (i : ℕ) (o : BooleanOperator) (u : Value) (c : Exprs) (s : State) → Further b (operands (scope1 i) o u c s) (operands (scope2 i) o u c (more b s))
+    operands_further i o u NoExprs s = refl
+    operands_further i o u (MoreExprs a c) s =
         choose_further b (decides o u) _ _ _ _ refl
-        (then_further b _ _ _ _ (expr_further a s) (λ v s1. operands_further o v c s1) (λ v s1. operands_add second o v c s1))
+        (then_further b _ _ _ _ (expr_further i a s) (λ v s1. operands_further i o v c s1) (λ v s1. operands_add (scope2 i) adds o v c s1))
 
-    chain_further : (u : Value) (cs : Comparisons) (s : State) → Further b (chain first u cs s) (chain second u cs (more b s))
-    chain_further u NoComparisons s = refl
-    chain_further u (MoreComparisons o a cs) s =
-        then_further b _ _ _ _ (expr_further a s)
+    chain_further : (i : ℕ) (u : Value) (cs : Comparisons) (s : State) → Further b (chain (scope1 i) u cs s) (chain (scope2 i) u cs (more b s))
+    chain_further i u NoComparisons s = refl
+    chain_further i u (MoreComparisons o a cs) s =
+        then_further b _ _ _ _ (expr_further i a s)
         (λ v s1. then_further b _ _ _ _ (ran_further b (compare o u v s1.world) s1)
-        (λ t s2. compared_further b cs t (chain first v cs) (chain second v cs) (λ s3. chain_further v cs s3) s2)
-        (λ t s2. compared_adds cs t (chain second v cs) (chain_adds second v cs) s2))
-        (λ v s1. both_add s1 (ran (compare o u v s1.world) s1) _ (ran_adds (compare o u v s1.world) s1) (λ t s2. compared_adds cs t (chain second v cs) (chain_adds second v cs) s2))
+        (λ t s2. compared_further b cs t (chain (scope1 i) v cs) (chain (scope2 i) v cs) (λ s3. chain_further i v cs s3) s2)
+        (λ t s2. compared_adds cs t (chain (scope2 i) v cs) (chain_adds (scope2 i) adds v cs) s2))
+        (λ v s1. both_add s1 (ran (compare o u v s1.world) s1) _ (ran_adds (compare o u v s1.world) s1) (λ t s2. compared_adds cs t (chain (scope2 i) v cs) (chain_adds (scope2 i) adds v cs) s2))
+
+  returning_further : (i : ℕ) (a : Option Expr) (s : State) → Further b (returning (scope1 i) a s) (returning (scope2 i) a (more b s))
+  returning_further i None s = refl
+  returning_further i (Some a) s = then_further b _ _ _ _ (expr_further i a s) (λ v s1. refl) (λ v s1. same s1)
 
   mutual
-    stmt_further : (a : Stmt) (s : State) → Further b (stmt first a s) (stmt second a (more b s))
-    stmt_further (Evaluate a) s = then_further b _ _ _ _ (expr_further a (visit s)) (λ v s1. refl) (λ v s1. same s1)
-    stmt_further (Assign x a) s =
-        then_further b _ _ _ _ (expr_further a (visit s)) (λ v s1. refl) (λ v s1. trans (visit_adds s1) (assign_adds x v (visit s1)))
-    stmt_further (Augment x o a) s =
-        then_further b _ _ _ _ (ran_further b (load_global x s.world) (visit (visit s)))
-        (λ u s1. then_further b _ _ _ _ (expr_further a s1)
-        (λ v s2. then_further b _ _ _ _ (ran_further b (operate o u v s2.world) s2) (λ z s3. refl) (λ z s3. assign_adds x z s3))
-        (λ v s2. both_add s2 (ran (operate o u v s2.world) s2) _ (ran_adds (operate o u v s2.world) s2) (λ z s3. assign_adds x z s3)))
-        (λ u s1. both_add s1 (expr second a s1) _ (expr_adds second a s1)
-        (λ v s2. both_add s2 (ran (operate o u v s2.world) s2) _ (ran_adds (operate o u v s2.world) s2) (λ z s3. assign_adds x z s3)))
-    stmt_further Pass s = refl
-    stmt_further (If a c d) s =
-        then_further b _ _ _ _ (expr_further a (visit s))
-        (λ t s1. choose_further b (is_true t) _ _ _ _ (stmts_further c s1) (stmts_further d s1))
-        (λ t s1. choose_adds (is_true t) (stmts second c s1) (stmts second d s1) (stmts_add second c s1) (stmts_add second d s1))
-    stmt_further (While a c d) s =
-        loop_further b (expr first a) (expr second a) (stmts first c) (stmts second c) (stmts first d) (stmts second d)
-        (λ s1. expr_further a s1) (λ s1. stmts_further c s1) (λ s1. stmts_further d s1)
-        (λ s1. expr_adds second a s1) (λ s1. stmts_add second c s1) (λ s1. stmts_add second d s1) n m fewer (visit s)
-    stmt_further Break s = refl
-    stmt_further Continue s = refl
+    stmt_further : (i : ℕ) (a : Stmt) (s : State) → Further b (stmt (scope1 i) a s) (stmt (scope2 i) a (more b s))
+    stmt_further i (Evaluate a) s = then_further b _ _ _ _ (expr_further i a (visit s)) (λ v s1. refl) (λ v s1. same s1)
+    stmt_further i (Assign x a) s =
+        let p = place_of x locals in
+        then_further b _ _ _ _ (expr_further i a (visit s)) (λ v s1. assign_further b x p v (visit s1)) (λ v s1. trans (visit_adds s1) (assign_adds x p v (visit s1)))
+    stmt_further i (Augment x o a) s =
+        let p = place_of x locals in
+        then_further b _ _ _ _ (read_further b x p (visit (visit s)))
+        (λ u s1. then_further b _ _ _ _ (expr_further i a s1)
+        (λ v s2. then_further b _ _ _ _ (ran_further b (operate o u v s2.world) s2) (λ z s3. assign_further b x p z s3) (λ z s3. assign_adds x p z s3))
+        (λ v s2. both_add s2 (ran (operate o u v s2.world) s2) _ (ran_adds (operate o u v s2.world) s2) (λ z s3. assign_adds x p z s3)))
+        (λ u s1. both_add s1 (expr (scope2 i) a s1) _ (expr_adds (scope2 i) adds a s1)
+        (λ v s2. both_add s2 (ran (operate o u v s2.world) s2) _ (ran_adds (operate o u v s2.world) s2) (λ z s3. assign_adds x p z s3)))
+    stmt_further i Pass s = refl
+    stmt_further i (If a c d) s =
+        let j = i + length (functions_in c) in
+        then_further b _ _ _ _ (expr_further i a (visit s))
+        (λ t s1. choose_further b (is_true t) _ _ _ _ (stmts_further i c s1) (stmts_further j d s1))
+        (λ t s1. choose_adds (is_true t) (stmts (scope2 i) c s1) (stmts (scope2 j) d s1) (stmts_add (scope2 i) adds c s1) (stmts_add (scope2 j) adds d s1))
+    stmt_further i (While a c d) s =
+        let j = i + length (functions_in c) in
+        loop_further b (expr (scope1 i) a) (expr (scope2 i) a) (stmts (scope1 i) c) (stmts (scope2 i) c) (stmts (scope1 j) d) (stmts (scope2 j) d)
+        (λ s1. expr_further i a s1) (λ s1. stmts_further i c s1) (λ s1. stmts_further j d s1)
+        (λ s1. expr_adds (scope2 i) adds a s1) (λ s1. stmts_add (scope2 i) adds c s1) (λ s1. stmts_add (scope2 j) adds d s1) n m fewer (visit s)
+    stmt_further i Break s = refl
+    stmt_further i Continue s = refl
+    stmt_further i (Define f ps c) s = assign_further b f (place_of f locals) (Function f i) (visit s)
+    stmt_further i (Return a) s = returning_further i a (visit s)
+    stmt_further i (Global xs) s = refl
 
-    stmts_further : (c : Stmts) (s : State) → Further b (stmts first c s) (stmts second c (more b s))
-    stmts_further NoStmts s = refl
-    stmts_further (MoreStmts a c) s = then_further b _ _ _ _ (stmt_further a s) (λ u s1. stmts_further c s1) (λ u s1. stmts_add second c s1)
+    stmts_further : (i : ℕ) (c : Stmts) (s : State) → Further b (stmts (scope1 i) c s) (stmts (scope2 i) c (more b s))
+    stmts_further i NoStmts s = refl
+    stmts_further i (MoreStmts a c) s =
+        let j = i + length (functions_of a) in
+        then_further b _ _ _ _ (stmt_further i a s) (λ u s1. stmts_further j c s1) (λ u s1. stmts_add (scope2 j) adds c s1)
+
+-- ---- going further, of a call
+
+returned_further : (b : List Answer) (old : List (Option Value)) (r r' : Result (Unit {0})) → Further b r r' → Further b (returned old r) (returned old r')
+returned_further b old (Gives u s) r' h = ap (returned old) h
+returned_further b old (Leaves (Returns v) s) r' h = ap (returned old) h
+returned_further b old (Leaves (Raises x) s) r' h = ap (returned old) h
+returned_further b old (Leaves Breaks s) r' h = ap (returned old) h
+returned_further b old (Leaves Continues s) r' h = ap (returned old) h
+returned_further b old (Asks q s) r' h = (trans h.0 (returned_adds old r'), λ e. ap (returned old) (h.1 e))
+returned_further b old (Cut s) r' h = trans h (returned_adds old r')
+
+fitting_further : (b : List Answer) (f : Option tree.Function) (vs : List Value) (go go' : tree.Function → Meaning Value) → ((g : tree.Function) (s : State) → Further b (go g s) (go' g (more b s))) → (s : State) → Further b (fitting f vs go s) (fitting f vs go' (more b s))
+fitting_further b None vs go go' h s = ran_further b (not_callable s.world) s
+fitting_further b (Some f) vs go go' h s =
+    choose_further b (nat_eq (length vs) (length f.parameters)) _ _ _ _ (h f s) (ran_further b (wrong_arguments s.world) s)
+
+module _ (b : List Answer) (fs : List tree.Function) (n m : ℕ) (fewer : n ≤ m) where
+  call_further : (d k : ℕ) (vs : List Value) (s : State) → Further b (call fs n d k vs s) (call fs m d k vs (more b s))
+  call_further zero k vs s =
+      fitting_further b (slice_get fs k) vs (λ f s1. ran (too_deep s1.world) s1) (λ f s1. ran (too_deep s1.world) s1) (λ f s1. ran_further b (too_deep s1.world) s1) s
+  call_further (suc d) k vs s =
+      fitting_further b (slice_get fs k) vs (λ f s1. run_body n (call fs n d) f vs s1) (λ f s1. run_body m (call fs m d) f vs s1)
+      (λ f s1. returned_further b s1.slots _ _
+      (stmts_further b (locals_of f) None n m fewer (call fs n d) (call fs m d) (λ j us s2. call_further d j us s2) (λ j us. call_adds fs m d j us) 0 f.body (record s1 { slots = entered (length (locals_of f)) vs })))
+      s
+
+run_further : (b : List Answer) (n m : ℕ) → n ≤ m → (fs : List tree.Function) (body : Stmts) (s : State) → Further b (run_of fs n body s) (run_of fs m body (more b s))
+run_further b n m fewer fs body s =
+    let gs = fs ++ functions_in body in
+    stmts_further b [] None n m fewer (call gs n max_calls) (call gs m max_calls)
+    (λ k vs s1. call_further b gs n m fewer max_calls k vs s1) (λ k vs. call_adds gs m max_calls k vs) (length fs) body s
 
 -- ---- going further, of a life
 
@@ -351,23 +487,25 @@ module _ (b : List Answer) (rest rest' : State → Told) (rests : Rests b rest r
   run_ended_further (Asks q s) r' h = (trans h.0 (run_ended_adds rest' adds r'), λ e. ap (run_ended rest') (h.1 e))
   run_ended_further (Cut s) r' h = trans h (run_ended_adds rest' adds r')
 
-  takes_further : (n m : ℕ) → n ≤ m → (answers : List Answer) (s : State) (l : List Answer) → Lives_further b (takes n rest answers s) (takes m rest' (answers ++ b) (record s { answers = l }))
+module _ (b : List Answer) (fs : List tree.Function) (rest rest' : List tree.Function → State → Told) (rests : (gs : List tree.Function) → Rests b (rest gs) (rest' gs)) (adds : (gs : List tree.Function) → Rest_adds (rest' gs)) where
+  takes_further : (n m : ℕ) → n ≤ m → (answers : List Answer) (s : State) (l : List Answer) → Lives_further b (takes n fs rest answers s) (takes m fs rest' (answers ++ b) (record s { answers = l }))
   takes_further n m fewer [] s l =
-      let g = takes_add m rest' adds b (record s { answers = l }) in
-      (record { pieces = g.pieces; visits = g.visits }, λ e. ap (λ k. takes m rest' k (record s { answers = l })) e)
-  takes_further n m fewer (Taken (Bind bs) ∷ left) s l = rests (record s { answers = left; world = record s.world { globals = bind_all bs s.world.globals } })
-  takes_further n m fewer (Taken (Run None) ∷ left) s l = ends_further not_read (record s { answers = left })
+      let g = takes_add m fs rest' adds b (record s { answers = l }) in
+      (record { pieces = g.pieces; visits = g.visits }, λ e. ap (λ k. takes m fs rest' k (record s { answers = l })) e)
+  takes_further n m fewer (Taken (Bind bs) ∷ left) s l = rests fs (record s { answers = left; world = record s.world { globals = bind_all bs s.world.globals } })
+  takes_further n m fewer (Taken (Run None) ∷ left) s l = ends_further b (rest fs) (rest' fs) (rests fs) (adds fs) not_read (record s { answers = left })
   takes_further n m fewer (Taken (Run (Some t)) ∷ left) s l =
       let s1 = record s { answers = left; slots = [] } in
-      run_ended_further (stmts (module_scope n) t.body s1) (stmts (module_scope m) t.body (more b s1)) (stmts_further b None n m fewer t.body s1)
+      let gs = fs ++ functions_in t.body in
+      run_ended_further b (rest gs) (rest' gs) (rests gs) (adds gs) (run_of fs n t.body s1) (run_of fs m t.body (more b s1)) (run_further b n m fewer fs t.body s1)
   takes_further n m fewer (Taken Closing ∷ left) s l = refl
   takes_further n m fewer (Done ∷ left) s l = refl
 
-life_further : (b : List Answer) (n m : ℕ) → n ≤ m → (j k : ℕ) → j ≤ k → Rests b (life n j) (life m k)
-life_further b n m fewer zero k less s = let g = life_adds m k (more b s) in record { pieces = g.pieces; visits = g.visits }
-life_further b n m fewer (suc j) zero less s = absurd (omega arith)
-life_further b n m fewer (suc j) (suc k) less s =
-    takes_further b (life n j) (life m k) (life_further b n m fewer j k (omega arith)) (life_adds m k) n m fewer s.answers (visit s) (s.answers ++ b)
+life_further : (b : List Answer) (n m : ℕ) → n ≤ m → (j k : ℕ) → j ≤ k → (fs : List tree.Function) → Rests b (life n j fs) (life m k fs)
+life_further b n m fewer zero k less fs s = let g = life_adds m k fs (more b s) in record { pieces = g.pieces; visits = g.visits }
+life_further b n m fewer (suc j) zero less fs s = absurd (omega arith)
+life_further b n m fewer (suc j) (suc k) less fs s =
+    takes_further b fs (life n j) (life m k) (λ gs. life_further b n m fewer j k (omega arith) gs) (λ gs. life_adds m k gs) n m fewer s.answers (visit s) (s.answers ++ b)
 
 -- ---- the laws
 
@@ -379,8 +517,8 @@ told (IsCut s) r' e h f = cc
 
 pub one_life : OneLife
 one_life n m answers e fewer f =
-    let h = life_further [] n m fewer (length answers + 1) (length answers + 1) (omega arith) (newborn answers) in
-    ap (λ l. life m (length answers + 1) (newborn l)) (sym (append-nil answers)) ∙ told (life_of n answers) _ e h f
+    let h = life_further [] n m fewer (length answers + 1) (length answers + 1) (omega arith) [] (newborn answers) in
+    ap (λ l. life m (length answers + 1) [] (newborn l)) (sym (append-nil answers)) ∙ told (life_of n answers) _ e h f
 
 -- it only adds, whatever the life told
 only_adds : (b : List Answer) (r r' : Told) → Lives_further b r r' → Grows (state_of r) (state_of r')
@@ -391,7 +529,7 @@ only_adds b (IsCut s) r' h = h
 -- a life under more answers goes further
 under_more : (n m : ℕ) (answers b : List Answer) → n ≤ m → Lives_further b (life_of n answers) (life_of m (answers ++ b))
 under_more n m answers b fewer =
-    life_further b n m fewer (length answers + 1) (length (answers ++ b) + 1) (omega (arith, length-append answers b)) (newborn answers)
+    life_further b n m fewer (length answers + 1) (length (answers ++ b) + 1) (omega (arith, length-append answers b)) [] (newborn answers)
 
 pub lives_grow : LivesGrow
 lives_grow n m answers b fewer = only_adds b (life_of n answers) (life_of m (answers ++ b)) (under_more n m answers b fewer)

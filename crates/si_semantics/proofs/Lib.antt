@@ -1,6 +1,8 @@
 pub mod Growing
 pub mod Courses
 pub mod Worked
+pub mod WorkedFunctions
+pub mod WorkedScope
 pub mod Names
 pub mod WorkedLiterals
 pub mod Scoped

@@ -1,96 +1,159 @@
--- A text whose `break` and `continue` stand in loops is left by exceptions alone.
-use Rattle.std.proofs.Common.{◌≡◌, ℕ, zero, suc, List, [], ◌∷◌, Bool, true, false, ◌&&◌, refl, subst}
-use Rattle.si_semantics.specs.Value.{Value, Exception}
-use Rattle.si_semantics.specs.Tree.{BooleanOperator, Expr, Constant, Name, Unary, Binary, Call, Boolean, Compare, Conditional, Exprs, NoExprs, MoreExprs, Comparisons, NoComparisons, MoreComparisons, Stmt, Evaluate, Assign, Augment, Pass, If, While, Break, Continue, Stmts, NoStmts, MoreStmts}
+-- A well scoped text is left by exceptions alone.
+use Rattle.std.proofs.Common.{◌≡◌, ℕ, zero, suc, List, [], ◌∷◌, ◌++◌, length, Bool, true, false, ◌&&◌, Option, Some, None, refl, subst}
+use Rattle.std.specs.Prelude.{nat_eq, slice_get}
+use Rattle.si_semantics.specs.Value.{Text, Value, Nothing, Truth, Int, Str, Provided, Function, Exception}
+use Rattle.si_semantics.specs.Tree.{BooleanOperator, Expr, Constant, Name, Unary, Binary, Call, Boolean, Compare, Conditional, Exprs, NoExprs, MoreExprs, Comparisons, NoComparisons, MoreComparisons, Stmt, Evaluate, Assign, Augment, Pass, If, While, Break, Continue, Define, Return, Global, Stmts, NoStmts, MoreStmts, functions_of, functions_in}
+use Rattle.si_semantics.specs.Tree as tree
 use Rattle.si_semantics.specs.World.{Request, Answer, Replied, Got, Failed, Wants, Ran, Gave, Threw, Asked}
-use Rattle.si_semantics.specs.Operations.{exception, operate, operate_unary, is_true, compare, load_global, call, reply}
-use Rattle.si_semantics.specs.Meaning.{State, Leave, Raises, Breaks, Continues, Result, Gives, Leaves, Asks, Cut, Meaning, Scope, visit, then, raised, asked, ran, choose, decides, compared, expr, exprs, operands, chain, after_turn, loop, stmt, stmts}
-use Rattle.si_semantics.specs.Scope.{stmt_scoped, stmts_scoped, LeftByExceptions}
+use Rattle.si_semantics.specs.Operations.{exception, operate, operate_unary, is_true, compare, load_global, load_local, call_provided, call_by_name, not_callable, wrong_arguments, too_deep, reply}
+use Rattle.si_semantics.specs.Meaning.{State, Leave, Raises, Returns, Breaks, Continues, Result, Gives, Leaves, Asks, Cut, Meaning, Scope, behind, visit, then, raised, asked, ran, slot_at, read, assign, calls, choose, decides, compared, expr, exprs, operands, chain, after_turn, loop, returning, stmt, stmts, returned, fitting, run_body, call, max_calls}
+use Rattle.si_semantics.specs.Scope.{place_of, Within, InText, InFunction, in_loop, in_function, looping, stmt_scoped, stmts_scoped}
+use Rattle.si_semantics.specs.Life.{module_scope}
+use Rattle.si_semantics.specs.Laws.{LeftByExceptions}
 
--- a result is left by `break` and `continue` in a loop alone
-abbrev Keeps : {A : Type 0} → Bool → Result A → Type 0
-Keeps l (Gives a s) = Unit {0}
-Keeps l (Leaves (Raises x) s) = Unit {0}
-Keeps l (Leaves Breaks s) = l ≡ true
-Keeps l (Leaves Continues s) = l ≡ true
-Keeps l (Asks q s) = Unit {0}
-Keeps l (Cut s) = Unit {0}
+-- a result is left by `break` and `continue` in a loop alone, and by `return` in a function alone
+abbrev Keeps : {A : Type 0} → Within → Result A → Type 0
+Keeps w (Gives a s) = Unit {0}
+Keeps w (Leaves (Raises x) s) = Unit {0}
+Keeps w (Leaves (Returns v) s) = in_function w ≡ true
+Keeps w (Leaves Breaks s) = in_loop w ≡ true
+Keeps w (Leaves Continues s) = in_loop w ≡ true
+Keeps w (Asks q s) = Unit {0}
+Keeps w (Cut s) = Unit {0}
 
-then_keeps : {A B : Type 0} (l : Bool) (r : Result A) (f : A → Meaning B) → Keeps l r → ((a : A) (s : State) → Keeps l (f a s)) → Keeps l (then r f)
-then_keeps l (Gives a s) f h k = k a s
-then_keeps l (Leaves (Raises x) s) f h k = tt
-then_keeps l (Leaves Breaks s) f h k = h
-then_keeps l (Leaves Continues s) f h k = h
-then_keeps l (Asks q s) f h k = tt
-then_keeps l (Cut s) f h k = tt
+then_keeps : {A B : Type 0} (w : Within) (r : Result A) (f : A → Meaning B) → Keeps w r → ((a : A) (s : State) → Keeps w (f a s)) → Keeps w (then r f)
+then_keeps w (Gives a s) f h k = k a s
+then_keeps w (Leaves (Raises x) s) f h k = tt
+then_keeps w (Leaves (Returns v) s) f h k = h
+then_keeps w (Leaves Breaks s) f h k = h
+then_keeps w (Leaves Continues s) f h k = h
+then_keeps w (Asks q s) f h k = tt
+then_keeps w (Cut s) f h k = tt
 
-choose_keeps : {A : Type 0} (l t : Bool) (r q : Result A) → Keeps l r → Keeps l q → Keeps l (choose t r q)
-choose_keeps l true r q h k = h
-choose_keeps l false r q h k = k
+choose_keeps : {A : Type 0} (w : Within) (t : Bool) (r q : Result A) → Keeps w r → Keeps w q → Keeps w (choose t r q)
+choose_keeps w true r q h k = h
+choose_keeps w false r q h k = k
 
-replied_keeps : (l : Bool) (rest : List Answer) (o : Replied) (s : State) → ((q : Request) (t : State) → Keeps l (asked rest q t))
-    → Keeps l (elim o [ Got v w ↦ Gives v (record s { world = w; answers = rest }) | Failed k a w ↦ raised (exception k a w) (record s { answers = rest }) | Wants q w ↦ asked rest q (record s { world = w }) ])
-replied_keeps l rest (Got v w) s h = tt
-replied_keeps l rest (Failed k a w) s h = tt
-replied_keeps l rest (Wants q w) s h = h q (record s { world = w })
+replied_keeps : (w : Within) (rest : List Answer) (o : Replied) (s : State) → ((q : Request) (t : State) → Keeps w (asked rest q t))
+    → Keeps w (elim o [ Got v x ↦ Gives v (record s { world = x; answers = rest }) | Failed k a x ↦ raised (exception k a x) (record s { answers = rest }) | Wants q x ↦ asked rest q (record s { world = x }) ])
+replied_keeps w rest (Got v x) s h = tt
+replied_keeps w rest (Failed k a x) s h = tt
+replied_keeps w rest (Wants q x) s h = h q (record s { world = x })
 
-asked_keeps : (l : Bool) (answers : List Answer) (q : Request) (s : State) → Keeps l (asked answers q s)
-asked_keeps l [] q s = tt
-asked_keeps l (a ∷ rest) q s = replied_keeps l rest (reply q a s.world) s (λ p t. asked_keeps l rest p t)
+asked_keeps : (w : Within) (answers : List Answer) (q : Request) (s : State) → Keeps w (asked answers q s)
+asked_keeps w [] q s = tt
+asked_keeps w (a ∷ rest) q s = replied_keeps w rest (reply q a s.world) s (λ p t. asked_keeps w rest p t)
 
-ran_keeps : (l : Bool) (o : Ran) (s : State) → Keeps l (ran o s)
-ran_keeps l (Gave v out w) s = tt
-ran_keeps l (Threw k a w) s = tt
-ran_keeps l (Asked q w) s = asked_keeps l s.answers q (record s { world = w })
+ran_keeps : (w : Within) (o : Ran) (s : State) → Keeps w (ran o s)
+ran_keeps w (Gave v out x) s = tt
+ran_keeps w (Threw k a x) s = tt
+ran_keeps w (Asked q x) s = asked_keeps w s.answers q (record s { world = x })
 
-compared_keeps : (l : Bool) (cs : Comparisons) (t : Value) (rest : Meaning Value) → ((s : State) → Keeps l (rest s)) → (s : State) → Keeps l (compared cs t rest s)
-compared_keeps l NoComparisons t rest h s = tt
-compared_keeps l (MoreComparisons o a cs) t rest h s = choose_keeps l (is_true t) (rest s) (Gives t s) (h s) tt
+read_keeps : (w : Within) (x : Text) (p : Option ℕ) (s : State) → Keeps w (read x p s)
+read_keeps w x None s = ran_keeps w (load_global x s.world) s
+read_keeps w x (Some k) s = ran_keeps w (load_local x (slot_at k s.slots) s.world) s
 
-module _ (l : Bool) (e : Scope) where
+assign_keeps : (w : Within) (x : Text) (p : Option ℕ) (v : Value) (s : State) → Keeps w (assign x p v s)
+assign_keeps w x None v s = tt
+assign_keeps w x (Some k) v s = tt
+
+compared_keeps : (w : Within) (cs : Comparisons) (t : Value) (rest : Meaning Value) → ((s : State) → Keeps w (rest s)) → (s : State) → Keeps w (compared cs t rest s)
+compared_keeps w NoComparisons t rest h s = tt
+compared_keeps w (MoreComparisons o a cs) t rest h s = choose_keeps w (is_true t) (rest s) (Gives t s) (h s) tt
+
+-- ---- calls
+
+-- a call is left by an exception alone, whatever its suite was left by
+returned_keeps : (w : Within) (old : List (Option Value)) (r : Result (Unit {0})) → Keeps w (returned old r)
+returned_keeps w old (Gives u s) = tt
+returned_keeps w old (Leaves (Raises x) s) = tt
+returned_keeps w old (Leaves (Returns v) s) = tt
+returned_keeps w old (Leaves Breaks s) = tt
+returned_keeps w old (Leaves Continues s) = tt
+returned_keeps w old (Asks q s) = tt
+returned_keeps w old (Cut s) = tt
+
+fitting_keeps : (w : Within) (f : Option tree.Function) (vs : List Value) (go : tree.Function → Meaning Value) → ((g : tree.Function) (s : State) → Keeps w (go g s)) → (s : State) → Keeps w (fitting f vs go s)
+fitting_keeps w None vs go h s = ran_keeps w (not_callable s.world) s
+fitting_keeps w (Some f) vs go h s =
+    choose_keeps w (nat_eq (length vs) (length f.parameters)) (go f s) (ran (wrong_arguments s.world) s) (h f s) (ran_keeps w (wrong_arguments s.world) s)
+
+call_keeps : (w : Within) (fs : List tree.Function) (n d k : ℕ) (vs : List Value) (s : State) → Keeps w (call fs n d k vs s)
+call_keeps w fs n zero k vs s = fitting_keeps w (slice_get fs k) vs (λ f s1. ran (too_deep s1.world) s1) (λ f s1. ran_keeps w (too_deep s1.world) s1) s
+call_keeps w fs n (suc d) k vs s =
+    fitting_keeps w (slice_get fs k) vs (λ f s1. run_body n (call fs n d) f vs s1) (λ f s1. returned_keeps w s1.slots _) s
+
+-- the calls of functions that were read are left by exceptions alone
+abbrev Calls_keep : Scope → Type 0
+Calls_keep e = (w : Within) (k : ℕ) (vs : List Value) (s : State) → Keeps w (e.call k vs s)
+
+calls_keep : (w : Within) (e : Scope) → Calls_keep e → (g : Value) (vs : List Value) (names : List Text) (s : State) → Keeps w (calls e g vs names s)
+calls_keep w e h (Function f k) vs [] s = h w k vs s
+calls_keep w e h Nothing vs [] s = ran_keeps w (call_provided Nothing vs s.world) s
+calls_keep w e h (Truth t) vs [] s = ran_keeps w (call_provided (Truth t) vs s.world) s
+calls_keep w e h (Int i) vs [] s = ran_keeps w (call_provided (Int i) vs s.world) s
+calls_keep w e h (Str t) vs [] s = ran_keeps w (call_provided (Str t) vs s.world) s
+calls_keep w e h (Provided f) vs [] s = ran_keeps w (call_provided (Provided f) vs s.world) s
+calls_keep w e h g vs (x ∷ names) s = ran_keeps w (call_by_name g s.world) s
+
+-- ---- expressions
+
+module _ (w : Within) (e : Scope) (calling : Calls_keep e) where
   mutual
-    expr_keeps : (a : Expr) (s : State) → Keeps l (expr e a s)
+    expr_keeps : (a : Expr) (s : State) → Keeps w (expr e a s)
     expr_keeps (Constant v) s = tt
-    expr_keeps (Name x) s = ran_keeps l (load_global x s.world) (visit s)
-    expr_keeps (Unary o a) s = then_keeps l (expr e a (visit s)) _ (expr_keeps a (visit s)) (λ v s1. ran_keeps l (operate_unary o v s1.world) s1)
+    expr_keeps (Name x) s = read_keeps w x (place_of x e.locals) (visit s)
+    expr_keeps (Unary o a) s = then_keeps w (expr e a (visit s)) _ (expr_keeps a (visit s)) (λ v s1. ran_keeps w (operate_unary o v s1.world) s1)
     expr_keeps (Binary o a b) s =
-        then_keeps l (expr e a (visit s)) _ (expr_keeps a (visit s)) (λ u s1. then_keeps l (expr e b s1) _ (expr_keeps b s1) (λ v s2. ran_keeps l (operate o u v s2.world) s2))
-    expr_keeps (Call f args) s =
-        then_keeps l (expr e f (visit s)) _ (expr_keeps f (visit s)) (λ g s1. then_keeps l (exprs e args s1) _ (exprs_keep args s1) (λ vs s2. ran_keeps l (call g vs s2.world) s2))
-    expr_keeps (Boolean o a more) s = then_keeps l (expr e a (visit s)) _ (expr_keeps a (visit s)) (λ u s1. operands_keep o u more s1)
-    expr_keeps (Compare a cs) s = then_keeps l (expr e a (visit s)) _ (expr_keeps a (visit s)) (λ u s1. chain_keeps u cs s1)
+        then_keeps w (expr e a (visit s)) _ (expr_keeps a (visit s)) (λ u s1. then_keeps w (expr e b s1) _ (expr_keeps b s1) (λ v s2. ran_keeps w (operate o u v s2.world) s2))
+    expr_keeps (Call f args names) s =
+        then_keeps w (expr e f (visit s)) _ (expr_keeps f (visit s)) (λ g s1. then_keeps w (exprs e args s1) _ (exprs_keep args s1) (λ vs s2. calls_keep w e calling g vs names s2))
+    expr_keeps (Boolean o a more) s = then_keeps w (expr e a (visit s)) _ (expr_keeps a (visit s)) (λ u s1. operands_keep o u more s1)
+    expr_keeps (Compare a cs) s = then_keeps w (expr e a (visit s)) _ (expr_keeps a (visit s)) (λ u s1. chain_keeps u cs s1)
     expr_keeps (Conditional a b c) s =
-        then_keeps l (expr e a (visit s)) _ (expr_keeps a (visit s)) (λ t s1. choose_keeps l (is_true t) (expr e b s1) (expr e c s1) (expr_keeps b s1) (expr_keeps c s1))
+        then_keeps w (expr e a (visit s)) _ (expr_keeps a (visit s)) (λ t s1. choose_keeps w (is_true t) (expr e b s1) (expr e c s1) (expr_keeps b s1) (expr_keeps c s1))
 
-    exprs_keep : (args : Exprs) (s : State) → Keeps l (exprs e args s)
+    exprs_keep : (args : Exprs) (s : State) → Keeps w (exprs e args s)
     exprs_keep NoExprs s = tt
-    exprs_keep (MoreExprs a args) s = then_keeps l (expr e a s) _ (expr_keeps a s) (λ v s1. then_keeps l (exprs e args s1) _ (exprs_keep args s1) (λ vs s2. tt))
+    exprs_keep (MoreExprs a args) s = then_keeps w (expr e a s) _ (expr_keeps a s) (λ v s1. then_keeps w (exprs e args s1) _ (exprs_keep args s1) (λ vs s2. tt))
 
-    operands_keep : (o : BooleanOperator) (u : Value) (more : Exprs) (s : State) → Keeps l (operands e o u more s)
+    operands_keep : (o : BooleanOperator) (u : Value) (more : Exprs) (s : State) → Keeps w (operands e o u more s)
     operands_keep o u NoExprs s = tt
     operands_keep o u (MoreExprs a more) s =
-        choose_keeps l (decides o u) (Gives u s) (then (expr e a s) (λ v s1. operands e o v more s1)) tt (then_keeps l (expr e a s) _ (expr_keeps a s) (λ v s1. operands_keep o v more s1))
+        choose_keeps w (decides o u) (Gives u s) (then (expr e a s) (λ v s1. operands e o v more s1)) tt (then_keeps w (expr e a s) _ (expr_keeps a s) (λ v s1. operands_keep o v more s1))
 
-    chain_keeps : (u : Value) (cs : Comparisons) (s : State) → Keeps l (chain e u cs s)
+    chain_keeps : (u : Value) (cs : Comparisons) (s : State) → Keeps w (chain e u cs s)
     chain_keeps u NoComparisons s = tt
     chain_keeps u (MoreComparisons o a cs) s =
-        then_keeps l (expr e a s) _ (expr_keeps a s)
-        (λ v s1. then_keeps l (ran (compare o u v s1.world) s1) _ (ran_keeps l (compare o u v s1.world) s1) (λ t s2. compared_keeps l cs t (chain e v cs) (λ s3. chain_keeps v cs s3) s2))
+        then_keeps w (expr e a s) _ (expr_keeps a s)
+        (λ v s1. then_keeps w (ran (compare o u v s1.world) s1) _ (ran_keeps w (compare o u v s1.world) s1) (λ t s2. compared_keeps w cs t (chain e v cs) (λ s3. chain_keeps v cs s3) s2))
 
--- a turn's body may be left by both
-turn_keeps : (l : Bool) (r : Result (Unit {0})) (again : Meaning (Unit {0})) → Keeps true r → ((s : State) → Keeps l (again s)) → Keeps l (after_turn r again)
-turn_keeps l (Gives u s) again h k = k s
-turn_keeps l (Leaves Continues s) again h k = k s
-turn_keeps l (Leaves Breaks s) again h k = tt
-turn_keeps l (Leaves (Raises x) s) again h k = tt
-turn_keeps l (Asks q s) again h k = tt
-turn_keeps l (Cut s) again h k = tt
+-- ---- statements
 
-loop_keeps : (l : Bool) (test : Meaning Value) (body last : Meaning (Unit {0})) → ((s : State) → Keeps l (test s)) → ((s : State) → Keeps true (body s)) → ((s : State) → Keeps l (last s)) → (n : ℕ) (s : State) → Keeps l (loop n test body last s)
-loop_keeps l test body last h k m zero s = tt
-loop_keeps l test body last h k m (suc n) s =
-    then_keeps l (test (visit s)) _ (h (visit s))
-    (λ t s1. choose_keeps l (is_true t) (after_turn (body s1) (loop n test body last)) (last s1) (turn_keeps l (body s1) (loop n test body last) (k s1) (λ s2. loop_keeps l test body last h k m n s2)) (m s1))
+-- in a loop of a function one is in that function
+out_of_loop : (w : Within) → in_function (looping w) ≡ true → in_function w ≡ true
+out_of_loop (InText l) h = h
+out_of_loop (InFunction l) h = h
+
+-- a turn's body may be left by `break` and `continue`
+turn_keeps : (w : Within) (r : Result (Unit {0})) (again : Meaning (Unit {0})) → Keeps (looping w) r → ((s : State) → Keeps w (again s)) → Keeps w (after_turn r again)
+turn_keeps w (Gives u s) again h k = k s
+turn_keeps w (Leaves Continues s) again h k = k s
+turn_keeps w (Leaves Breaks s) again h k = tt
+turn_keeps w (Leaves (Raises x) s) again h k = tt
+turn_keeps w (Leaves (Returns v) s) again h k = out_of_loop w h
+turn_keeps w (Asks q s) again h k = tt
+turn_keeps w (Cut s) again h k = tt
+
+loop_keeps : (w : Within) (test : Meaning Value) (body last : Meaning (Unit {0})) → ((s : State) → Keeps w (test s)) → ((s : State) → Keeps (looping w) (body s)) → ((s : State) → Keeps w (last s)) → (n : ℕ) (s : State) → Keeps w (loop n test body last s)
+loop_keeps w test body last h k m zero s = tt
+loop_keeps w test body last h k m (suc n) s =
+    then_keeps w (test (visit s)) _ (h (visit s))
+    (λ t s1. choose_keeps w (is_true t) (after_turn (body s1) (loop n test body last)) (last s1) (turn_keeps w (body s1) (loop n test body last) (k s1) (λ s2. loop_keeps w test body last h k m n s2)) (m s1))
+
+returning_keeps : (w : Within) (e : Scope) → Calls_keep e → (a : Option Expr) (s : State) → in_function w ≡ true → Keeps w (returning e a s)
+returning_keeps w e h None s g = g
+returning_keeps w e h (Some a) s g = then_keeps w (expr e a s) _ (expr_keeps w e h a s) (λ v s1. g)
 
 both_true : (a b : Bool) → (a && b) ≡ true → (a ≡ true) × (b ≡ true)
 both_true true true h = (refl, refl)
@@ -98,32 +161,44 @@ both_true true false h = cc
 both_true false b h = cc
 
 mutual
-  stmt_keeps : (l : Bool) (e : Scope) (a : Stmt) (s : State) → stmt_scoped l a ≡ true → Keeps l (stmt e a s)
-  stmt_keeps l e (Evaluate a) s h = then_keeps l (expr e a (visit s)) _ (expr_keeps l e a (visit s)) (λ v s1. tt)
-  stmt_keeps l e (Assign x a) s h = then_keeps l (expr e a (visit s)) _ (expr_keeps l e a (visit s)) (λ v s1. tt)
-  stmt_keeps l e (Augment x o a) s h =
-      then_keeps l (ran (load_global x s.world) (visit (visit s))) _ (ran_keeps l (load_global x s.world) (visit (visit s)))
-      (λ u s1. then_keeps l (expr e a s1) _ (expr_keeps l e a s1) (λ v s2. then_keeps l (ran (operate o u v s2.world) s2) _ (ran_keeps l (operate o u v s2.world) s2) (λ z s3. tt)))
-  stmt_keeps l e Pass s h = tt
-  stmt_keeps l e (If a b c) s h =
-      let g = both_true (stmts_scoped l b) (stmts_scoped l c) h in
-      then_keeps l (expr e a (visit s)) _ (expr_keeps l e a (visit s)) (λ t s1. choose_keeps l (is_true t) (stmts e b s1) (stmts e c s1) (stmts_keep l e b s1 g.0) (stmts_keep l e c s1 g.1))
-  stmt_keeps l e (While a b c) s h =
-      let g = both_true (stmts_scoped true b) (stmts_scoped l c) h in
-      loop_keeps l (expr e a) (stmts e b) (stmts e c) (λ s1. expr_keeps l e a s1) (λ s1. stmts_keep true e b s1 g.0) (λ s1. stmts_keep l e c s1 g.1) e.turns (visit s)
-  stmt_keeps l e Break s h = h
-  stmt_keeps l e Continue s h = h
+  stmt_keeps : (w : Within) (e : Scope) → Calls_keep e → (a : Stmt) (s : State) → stmt_scoped w a ≡ true → Keeps w (stmt e a s)
+  stmt_keeps w e k (Evaluate a) s h = then_keeps w (expr e a (visit s)) _ (expr_keeps w e k a (visit s)) (λ v s1. tt)
+  stmt_keeps w e k (Assign x a) s h =
+      then_keeps w (expr e a (visit s)) _ (expr_keeps w e k a (visit s)) (λ v s1. assign_keeps w x (place_of x e.locals) v (visit s1))
+  stmt_keeps w e k (Augment x o a) s h =
+      then_keeps w (read x (place_of x e.locals) (visit (visit s))) _ (read_keeps w x (place_of x e.locals) (visit (visit s)))
+      (λ u s1. then_keeps w (expr e a s1) _ (expr_keeps w e k a s1)
+      (λ v s2. then_keeps w (ran (operate o u v s2.world) s2) _ (ran_keeps w (operate o u v s2.world) s2) (λ z s3. assign_keeps w x (place_of x e.locals) z s3)))
+  stmt_keeps w e k Pass s h = tt
+  stmt_keeps w e k (If a b c) s h =
+      let g = both_true (stmts_scoped w b) (stmts_scoped w c) h in
+      then_keeps w (expr e a (visit s)) _ (expr_keeps w e k a (visit s))
+      (λ t s1. choose_keeps w (is_true t) (stmts e b s1) (stmts (behind (functions_in b) e) c s1) (stmts_keep w e k b s1 g.0) (stmts_keep w (behind (functions_in b) e) k c s1 g.1))
+  stmt_keeps w e k (While a b c) s h =
+      let g = both_true (stmts_scoped (looping w) b) (stmts_scoped w c) h in
+      loop_keeps w (expr e a) (stmts e b) (stmts (behind (functions_in b) e) c)
+      (λ s1. expr_keeps w e k a s1) (λ s1. stmts_keep (looping w) e k b s1 g.0) (λ s1. stmts_keep w (behind (functions_in b) e) k c s1 g.1) e.turns (visit s)
+  stmt_keeps w e k Break s h = h
+  stmt_keeps w e k Continue s h = h
+  stmt_keeps w e k (Define f ps b) s h = assign_keeps w f (place_of f e.locals) (Function f e.first) (visit s)
+  stmt_keeps w e k (Return a) s h = returning_keeps w e k a (visit s) h
+  stmt_keeps w e k (Global xs) s h = tt
 
-  stmts_keep : (l : Bool) (e : Scope) (b : Stmts) (s : State) → stmts_scoped l b ≡ true → Keeps l (stmts e b s)
-  stmts_keep l e NoStmts s h = tt
-  stmts_keep l e (MoreStmts a b) s h =
-      let g = both_true (stmt_scoped l a) (stmts_scoped l b) h in
-      then_keeps l (stmt e a s) _ (stmt_keeps l e a s g.0) (λ u s1. stmts_keep l e b s1 g.1)
+  stmts_keep : (w : Within) (e : Scope) → Calls_keep e → (b : Stmts) (s : State) → stmts_scoped w b ≡ true → Keeps w (stmts e b s)
+  stmts_keep w e k NoStmts s h = tt
+  stmts_keep w e k (MoreStmts a b) s h =
+      let g = both_true (stmt_scoped w a) (stmts_scoped w b) h in
+      then_keeps w (stmt e a s) _ (stmt_keeps w e k a s g.0) (λ u s1. stmts_keep w (behind (functions_of a) e) k b s1 g.1)
 
-raises : (p : Leave) (t : State) → Keeps {A = Unit {0}} false (Leaves p t) → (x : Exception) × (p ≡ Raises x)
+-- ---- a run
+
+raises : (p : Leave) (t : State) → Keeps {A = Unit {0}} (InText false) (Leaves p t) → (x : Exception) × (p ≡ Raises x)
 raises (Raises x) t h = (x, refl)
+raises (Returns v) t h = cc
 raises Breaks t h = cc
 raises Continues t h = cc
 
 pub left_by_exceptions : LeftByExceptions
-left_by_exceptions e body s t p h is = raises p t (subst (Keeps false) is (stmts_keep false e body s h))
+left_by_exceptions fs n body s t p h is =
+    let gs = fs ++ functions_in body in
+    raises p t (subst (Keeps (InText false)) is (stmts_keep (InText false) (module_scope gs (length fs) n) (λ w k vs s1. call_keeps w gs n max_calls k vs s1) body s h))

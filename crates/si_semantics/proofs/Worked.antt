@@ -50,7 +50,4 @@ worked = record {
   number_behind_a_loop = refl;
   visits_of_a_loop = refl;
   last_turn_counts = refl;
-  break_in_a_loop = refl;
-  break_alone = refl;
-  continue_in_an_else_suite = refl;
 }

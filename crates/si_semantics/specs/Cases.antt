@@ -4,7 +4,6 @@ use Rattle.si_semantics.specs.Value.{Text, Nothing, Truth, Int, Str}
 use Rattle.si_semantics.specs.Tree.{Add, Subtract, Multiply, FloorDivide, Modulo, Power, BitOr, BitXor, BitAnd, ShiftLeft, ShiftRight, Minus, Invert, Not, ComparisonOperator, Less, Greater, LessEqual, Equal, NotEqual, Is, And, Or, Expr, Constant, Name, Unary, Binary, Call, Boolean, Compare, Conditional, Exprs, NoExprs, MoreExprs, NoComparisons, MoreComparisons, Stmt, Evaluate, Assign, Augment, Pass, If, While, Break, Continue, Stmts, NoStmts, MoreStmts}
 use Rattle.si_semantics.specs.Text.{repr_text}
 use Rattle.si_semantics.specs.World.{Answer, Taken, Done, Bind, Run, Closing}
-use Rattle.si_semantics.specs.Scope.{is_scoped}
 use Rattle.si_semantics.specs.Life.{Outcome, Returned, End, Told, Stops, life_of}
 use Rattle.si_semantics.specs.Shows.{pieces_of, end_of, joined, texts_of}
 use Rattle.si_semantics.specs.Report.{AtEnd, report}
@@ -25,7 +24,7 @@ arguments [] = NoExprs
 arguments (a ∷ more) = MoreExprs a (arguments more)
 
 abbrev pub print : List Expr → Expr
-print args = Call (Name (codes "print")) (arguments args)
+print args = Call (Name (codes "print")) (arguments args) []
 
 abbrev pub suite : List Stmt → Stmts
 suite [] = NoStmts
@@ -139,9 +138,9 @@ pub record Cases : Type 0 where
   -- `print()`
   pub print_of_nothing : report_of (Evaluate (print []) ∷ []) ≡ codes "== interpreter 0 ==\n\nend: finished\n"
   -- `f(print('a'))` where f is not bound: the callee comes before the arguments
-  pub callee_first : report_of (Evaluate (Call (Name (codes "f")) (arguments (print (a_text ∷ []) ∷ []))) ∷ []) ≡ codes "== interpreter 0 ==\nraised NameError: name f is not defined\nend: finished\n"
+  pub callee_first : report_of (Evaluate (Call (Name (codes "f")) (arguments (print (a_text ∷ []) ∷ [])) []) ∷ []) ≡ codes "== interpreter 0 ==\nraised NameError: name f is not defined\nend: finished\n"
   -- `'a'(print('a'))`: the arguments are evaluated, then the call is refused
-  pub arguments_before_the_call : report_of (Evaluate (Call a_text (arguments (print (a_text ∷ []) ∷ []))) ∷ []) ≡ codes "== interpreter 0 ==\na\nraised TypeError: not callable\nend: finished\n"
+  pub arguments_before_the_call : report_of (Evaluate (Call a_text (arguments (print (a_text ∷ []) ∷ [])) []) ∷ []) ≡ codes "== interpreter 0 ==\na\nraised TypeError: not callable\nend: finished\n"
   -- `print('a') + print(2)`: the left operand comes first
   pub left_operand_first : report_of (Evaluate (Binary Add (print (a_text ∷ [])) (print (int 2 ∷ []))) ∷ []) ≡ codes "== interpreter 0 ==\na\n2\nraised TypeError: wrong type\nend: finished\n"
   -- `x = x`: the name is looked up before it is bound
@@ -201,7 +200,3 @@ pub record Cases : Type 0 where
   pub visits_of_a_loop : end_of (run_within 3 counting) ≡ Some (Some (End Returned), 28)
   -- the test that ends a loop is a turn
   pub last_turn_counts : end_of (run_within 2 counting) ≡ None
-  -- `break` and `continue` within an `if` in a loop stand in the loop; alone they don't, nor in a loop's else suite
-  pub break_in_a_loop : is_scoped (suite left_by_break) ≡ true
-  pub break_alone : is_scoped (suite (If i_name (suite (Break ∷ [])) NoStmts ∷ [])) ≡ false
-  pub continue_in_an_else_suite : is_scoped (suite (While i_name (suite (Pass ∷ [])) (suite (Continue ∷ [])) ∷ [])) ≡ false

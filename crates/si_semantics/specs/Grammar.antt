@@ -1,9 +1,10 @@
 -- The grammar: which tokens derive which tree (Python Language Reference 3.14, 6, 7, 8 and 10).
 -- Each rule stands in the line above its production, in the notation of the reference.
-use Rattle.std.specs.Prelude.{◌≡◌, ℕ, zero, suc, ◌+◌, ◌<◌, ◌≤◌, max, Bool, true, false, List, [], ◌∷◌, ◌++◌, length, flat_map, ◌⊎◌, Some}
-use Rattle.si_semantics.specs.Value.{Text, Nothing, Truth, Int, Str, Provided}
-use Rattle.si_semantics.specs.Tree.{BinaryOperator, Add, Subtract, Multiply, FloorDivide, Modulo, Power, BitOr, BitXor, BitAnd, ShiftLeft, ShiftRight, UnaryOperator, ComparisonOperator, BooleanOperator, Expr, Constant, Name, Unary, Binary, Call, Boolean, Compare, Conditional, Exprs, NoExprs, MoreExprs, Comparisons, NoComparisons, MoreComparisons, Stmt, Evaluate, Assign, Augment, Pass, If, While, Break, Continue, Stmts, NoStmts, MoreStmts}
+use Rattle.std.specs.Prelude.{◌≡◌, ℕ, zero, suc, ◌+◌, ◌<◌, ◌≤◌, max, Bool, true, false, List, [], ◌∷◌, ◌++◌, length, map, flat_map, ◌⊎◌, Option, Some, None}
+use Rattle.si_semantics.specs.Value.{Text, Nothing, Truth, Int, Str, Provided, Function}
+use Rattle.si_semantics.specs.Tree.{BinaryOperator, Add, Subtract, Multiply, FloorDivide, Modulo, Power, BitOr, BitXor, BitAnd, ShiftLeft, ShiftRight, UnaryOperator, ComparisonOperator, BooleanOperator, Expr, Constant, Name, Unary, Binary, Call, Boolean, Compare, Conditional, Exprs, NoExprs, MoreExprs, Comparisons, NoComparisons, MoreComparisons, Stmt, Evaluate, Assign, Augment, Pass, If, While, Break, Continue, Define, Return, Global, Stmts, NoStmts, MoreStmts}
 use Rattle.si_semantics.specs.Tree as tree
+use Rattle.si_semantics.specs.Scope.{are_distinct}
 use Rattle.si_semantics.specs.Tokens.{Symbol, Keyword, TokenKind, Token}
 use Rattle.si_semantics.specs.Tokens as token
 pub use Rattle.si_semantics.specs.Literals.{value_of_int, value_of_str}
@@ -198,6 +199,25 @@ Strings s [] = s ≡ []
 Strings s (STRING literal ∷ ts) = (a : Text) × (b : Text) × (s ≡ a ++ b) × (value_of_str literal ≡ Some a) × Strings b ts
 Strings s (_ ∷ ts) = ⊥
 
+-- an argument of a call: an expression, or a name and the expression that is passed by it
+pub data Argument : Type 0 where
+  Positional : Expr → Argument
+  ByName : Text → Expr → Argument
+
+-- argument: expression | NAME '=' expression
+abbrev pub Passes : Language → Argument → List Terminal → Type 0
+Passes E (Positional e) ts = E 1 e ts
+Passes E (ByName x e) ts = (f : List Terminal) × (ts ≡ NAME x ∷ (Sign token.Equal ∷ f)) × E 1 e f
+
+-- the arguments of a call: those that are passed by name stand behind the others, and no name comes twice
+pub record IsPassed (arguments : List Argument) (values : List Expr) (names : List Text) : Type 0 where
+  pub positional : List Expr
+  pub named : List (Text × Expr)
+  pub in_order : arguments ≡ map Positional positional ++ map (λ p. ByName p.0 p.1) named
+  pub values_are : values ≡ positional ++ map (λ p. p.1) named
+  pub names_are : names ≡ map (λ p. p.0) named
+  pub once : are_distinct names ≡ true
+
 -- one production for each kind of tree, over the language of the parts
 abbrev pub Produces : Language → Language
 -- atom: NAME | NUMBER | STRING+ | 'None' | 'True' | 'False'
@@ -207,15 +227,18 @@ Produces E l (Constant (Str s)) ts = (0 < length ts) × Strings s ts
 Produces E l (Constant Nothing) ts = ts ≡ Word token.NoneWord ∷ []
 Produces E l (Constant (Truth b)) ts = ts ≡ Word (truth_word b) ∷ []
 Produces E l (Constant (Provided b)) ts = ⊥
+Produces E l (Constant (Function x k)) ts = ⊥
 -- factor: ('+' | '-' | '~') factor; inversion: 'not' inversion
 Produces E l (Unary op a) ts = (f : List Terminal) × (ts ≡ prefix_of op ∷ f) × (l ≤ prefix_level op) × E (prefix_level op) a f
 -- bitor: bitor '|' bitxor; bitxor: bitxor '^' bitand; bitand: bitand '&' shift; shift: shift ('<<' | '>>') sum;
 -- sum: sum ('+' | '-') term; term: term ('*' | '//' | '%') factor; power: primary '**' factor
 Produces E l (Binary op a b) ts =
     (f : List Terminal) × (g : List Terminal) × (ts ≡ f ++ Sign (symbol_of op) ∷ g) × (l ≤ level_of op) × E (left_level op) a f × E (right_level op) b g
--- primary: primary '(' [ expression { ',' expression } [','] ] ')'
-Produces E l (Call a args) ts =
-    (f : List Terminal) × (g : List Terminal) × (ts ≡ f ++ Sign token.LeftParenthesis ∷ (g ++ Sign token.RightParenthesis ∷ [])) × (l ≤ 18) × E 18 a f × Separated (E 1) token.Comma (items_of args) g
+-- primary: primary '(' [ argument { ',' argument } [','] ] ')'
+Produces E l (Call a args names) ts =
+    (f : List Terminal) × (g : List Terminal) × (arguments : List Argument)
+    × (ts ≡ f ++ Sign token.LeftParenthesis ∷ (g ++ Sign token.RightParenthesis ∷ [])) × (l ≤ 18) × E 18 a f
+    × IsPassed arguments (items_of args) names × Separated (Passes E) token.Comma arguments g
 -- comparison: bitor comparator { comparator }
 Produces E l (Compare a cs) ts =
     (f : List Terminal) × (g : List Terminal) × (ts ≡ f ++ g) × (l ≤ 8) × E 10 a f × (0 < length (links_of cs)) × Many (Compares E) (links_of cs) g
@@ -258,8 +281,17 @@ augmented_of FloorDivide = token.DoubleSlashEqual
 augmented_of Modulo = token.PercentEqual
 augmented_of Power = token.DoubleStarEqual
 
--- small: expression | NAME '=' expression | NAME augmented expression | 'pass' | 'break' | 'continue',
--- where brackets may stand round the name
+-- a name
+abbrev pub IsName : Text → List Terminal → Type 0
+IsName x ts = ts ≡ NAME x ∷ []
+
+-- NAME { ',' NAME }
+abbrev pub Names : List Text → List Terminal → Type 0
+Names [] ts = ⊥
+Names (x ∷ xs) ts = (f : List Terminal) × (ts ≡ NAME x ∷ f) × Many (Behind (Sign token.Comma) IsName) xs f
+
+-- small: expression | NAME '=' expression | NAME augmented expression | 'pass' | 'break' | 'continue' | 'return' [expression]
+-- | 'global' NAME { ',' NAME }, where brackets may stand round the name that is assigned to
 abbrev pub Small : Stmt → List Terminal → Type 0
 Small (Evaluate e) ts = IsExpression e ts
 Small (Assign x e) ts = (f : List Terminal) × (g : List Terminal) × (ts ≡ f ++ Sign token.Equal ∷ g) × IsExpression (Name x) f × IsExpression e g
@@ -268,6 +300,10 @@ Small (Augment x op e) ts =
 Small Pass ts = ts ≡ Word token.PassWord ∷ []
 Small Break ts = ts ≡ Word token.BreakWord ∷ []
 Small Continue ts = ts ≡ Word token.ContinueWord ∷ []
+Small (Return None) ts = ts ≡ Word token.ReturnWord ∷ []
+Small (Return (Some e)) ts = Behind (Word token.ReturnWord) IsExpression e ts
+Small (Global xs) ts = Behind (Word token.GlobalWord) Names xs ts
+Small (Define x ps body) ts = ⊥
 Small (If test body other) ts = ⊥
 Small (While test body other) ts = ⊥
 
@@ -310,6 +346,10 @@ abbrev pub elifs_of : List Branch → Stmts → Stmts
 elifs_of [] last = last
 elifs_of (b ∷ more) last = MoreStmts (If b.0 b.1 (elifs_of more last)) NoStmts
 
+-- the most parameters of a function (this project's own)
+abbrev pub max_parameters : ℕ
+max_parameters = 255
+
 abbrev pub Compound : Lines → Stmt → List Terminal → Type 0
 -- if: 'if' expression suite { 'elif' expression suite } ['else' suite]
 Compound L (If test body other) ts =
@@ -318,10 +358,15 @@ Compound L (If test body other) ts =
     × Tested L (test, body) f × Many (Behind (Word token.ElifWord) (Tested L)) elifs g × Otherwise L last h
 -- while: 'while' expression suite
 Compound L (While test body other) ts = (other ≡ NoStmts) × Behind (Word token.WhileWord) (Tested L) (test, body) ts
+-- def: 'def' NAME '(' [ NAME { ',' NAME } [','] ] ')' suite
+Compound L (Define x ps body) ts =
+    (f : List Terminal) × (g : List Terminal)
+    × (ts ≡ Word token.DefWord ∷ (NAME x ∷ (Sign token.LeftParenthesis ∷ (f ++ Sign token.RightParenthesis ∷ g))))
+    × Separated IsName token.Comma ps f × (length ps ≤ max_parameters) × Suite L body g
 Compound L _ ts = ⊥
 
 -- The tokens of a line, in which compound statements are nested this deep at most.
--- line: simple | if | while
+-- line: simple | if | while | def
 abbrev pub Nests : ℕ → Lines
 Nests zero ss ts = Simple ss ts
 Nests (suc n) ss ts = Simple ss ts ⊎ ((s : Stmt) × (ss ≡ s ∷ []) × Compound (Nests n) s ts)
@@ -343,7 +388,7 @@ abbrev mutual
   depth_of (Name x) = 1
   depth_of (Unary op a) = depth_of a + 1
   depth_of (Binary op a b) = max (depth_of a) (depth_of b) + 1
-  depth_of (Call a args) = max (depth_of a) (depth_of_all args) + 1
+  depth_of (Call a args names) = max (depth_of a) (depth_of_all args) + 1
   depth_of (Boolean o a more) = max (depth_of a) (depth_of_all more) + 1
   depth_of (Compare a cs) = max (depth_of a) (depth_of_chain cs) + 1
   depth_of (Conditional a b c) = max (depth_of a) (max (depth_of b) (depth_of c)) + 1
@@ -356,7 +401,12 @@ abbrev mutual
   depth_of_chain NoComparisons = 0
   depth_of_chain (MoreComparisons o e cs) = max (depth_of e) (depth_of_chain cs)
 
--- no expression of the statement is deeper than the limit
+-- the depth of an expression that may be left out
+abbrev pub depth_of_value : Option Expr → ℕ
+depth_of_value None = 0
+depth_of_value (Some e) = depth_of e
+
+-- no expression of the statement is deeper than the limit, and no function of it has more parameters than the limit
 abbrev mutual
   pub IsShallow : Stmt → Type 0
   IsShallow (Evaluate e) = depth_of e ≤ max_depth
@@ -367,6 +417,9 @@ abbrev mutual
   IsShallow (While test body other) = (depth_of test ≤ max_depth) × AreShallow body × AreShallow other
   IsShallow Break = Unit {0}
   IsShallow Continue = Unit {0}
+  IsShallow (Define x ps body) = (length ps ≤ max_parameters) × AreShallow body
+  IsShallow (Return a) = depth_of_value a ≤ max_depth
+  IsShallow (Global xs) = Unit {0}
 
   pub AreShallow : Stmts → Type 0
   AreShallow NoStmts = Unit {0}

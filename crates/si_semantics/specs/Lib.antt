@@ -11,6 +11,8 @@ pub mod Machine
 pub mod Shows
 pub mod Report
 pub mod Cases
+pub mod FunctionCases
+pub mod ScopeCases
 pub mod Laws
 pub mod Literals
 pub mod LiteralCases

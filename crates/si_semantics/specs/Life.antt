@@ -1,11 +1,12 @@
 -- The life of an interpreter: one function of the answers that it is given (this project's own).
-use Rattle.std.specs.Prelude.{codes, ℕ, zero, suc, ◌+◌, List, [], ◌∷◌, length, Some, None}
+use Rattle.std.specs.Prelude.{codes, ℕ, zero, suc, ◌+◌, List, [], ◌∷◌, ◌++◌, length, Some, None}
 use Rattle.si_plain.specs.declared.kind.Kind.{Kind}
 use Rattle.si_plain.specs.declared.kind.Kind.TheVariants.{SyntaxError}
 use Rattle.si_semantics.specs.Value.{Text, Thrown}
 use Rattle.si_semantics.specs.Text.{message_of}
 use Rattle.si_semantics.specs.World.{World, Request, Bind, Run, Closing, Answer, Taken, Done, bind_all, first_world}
-use Rattle.si_semantics.specs.Meaning.{State, Leave, Raises, Breaks, Continues, Result, Gives, Leaves, Asks, Cut, Scope, visit, stmts}
+use Rattle.si_semantics.specs.Tree.{Function, Stmts, functions_in}
+use Rattle.si_semantics.specs.Meaning.{State, Leave, Raises, Returns, Breaks, Continues, Result, Gives, Leaves, Asks, Cut, Meaning, Scope, visit, stmts, call, max_calls}
 
 -- how a run ended: at its end, or left by an exception of a kind with a message
 pub data Outcome : Type 0 where
@@ -24,9 +25,10 @@ pub data Told : Type 0 where
   IsGone : State → Told
   IsCut : State → Told
 
--- the outcome of a run that was left; `break` and `continue` stand in loops alone (Language Reference, 7.9 and 7.10), and leave no run
+-- the outcome of a run that was left; `return` stands in functions alone and `break` and `continue` in loops (Language Reference, 7.6, 7.9 and 7.10), and leave no run
 abbrev pub outcome_of : Leave → World → Outcome
 outcome_of (Raises (Thrown k a)) w = Raised k (message_of (Thrown k a))
+outcome_of (Returns v) w = Returned
 outcome_of Breaks w = Returned
 outcome_of Continues w = Returned
 
@@ -51,23 +53,29 @@ run_ended rest (Leaves p s) = ends_with (outcome_of p s.world) rest s
 run_ended rest (Asks r s) = Stops (Calls r) s
 run_ended rest (Cut s) = IsCut s
 
--- a text is evaluated as a module: no exception is active, and a loop has at most n turns
-abbrev pub module_scope : ℕ → Scope
-module_scope n = record { active = None; turns = n }
+-- a text is evaluated as a module: no name is local, no exception is active, and a loop has at most n turns; its functions are
+-- numbered behind those that were read before
+abbrev pub module_scope : List Function → ℕ → ℕ → Scope
+module_scope fs first n = record { locals = []; first = first; active = None; turns = n; call = call fs n max_calls }
 
--- a job is taken; an answer that does not fit closes the interpreter
-abbrev pub takes : ℕ → (State → Told) → List Answer → State → Told
-takes n rest [] s = Stops Take (record s { answers = [] })
-takes n rest (Taken (Bind bs) ∷ more) s = rest (record s { answers = more; world = record s.world { globals = bind_all bs s.world.globals } })
-takes n rest (Taken (Run None) ∷ more) s = ends_with not_read rest (record s { answers = more })
-takes n rest (Taken (Run (Some m)) ∷ more) s = run_ended rest (stmts (module_scope n) m.body (record s { answers = more; slots = [] }))
-takes n rest (Taken Closing ∷ more) s = IsGone (record s { answers = more })
-takes n rest (Done ∷ more) s = IsGone (record s { answers = more })
+-- the run of a text, where these functions were read before it
+abbrev pub run_of : List Function → ℕ → Stmts → Meaning (Unit {0})
+run_of fs n body s = stmts (module_scope (fs ++ functions_in body) (length fs) n) body s
 
--- a life of fewer than k jobs; to wait for a job is a visit
-abbrev pub life : ℕ → ℕ → State → Told
-life n zero s = IsCut s
-life n (suc k) s = takes n (life n k) s.answers (visit s)
+-- a job is taken, where these functions were read before it; an answer that does not fit closes the interpreter
+abbrev pub takes : ℕ → List Function → (List Function → State → Told) → List Answer → State → Told
+takes n fs rest [] s = Stops Take (record s { answers = [] })
+takes n fs rest (Taken (Bind bs) ∷ more) s = rest fs (record s { answers = more; world = record s.world { globals = bind_all bs s.world.globals } })
+takes n fs rest (Taken (Run None) ∷ more) s = ends_with not_read (rest fs) (record s { answers = more })
+takes n fs rest (Taken (Run (Some m)) ∷ more) s =
+    run_ended (rest (fs ++ functions_in m.body)) (run_of fs n m.body (record s { answers = more; slots = [] }))
+takes n fs rest (Taken Closing ∷ more) s = IsGone (record s { answers = more })
+takes n fs rest (Done ∷ more) s = IsGone (record s { answers = more })
+
+-- a life of fewer than k jobs, where these functions were read before; to wait for a job is a visit
+abbrev pub life : ℕ → ℕ → List Function → State → Told
+life n zero fs s = IsCut s
+life n (suc k) fs s = takes n fs (life n k) s.answers (visit s)
 
 -- a new interpreter
 abbrev pub newborn : List Answer → State
@@ -75,4 +83,4 @@ newborn answers = record { world = first_world; answers = answers; slots = []; v
 
 -- the life under these answers, with at most n turns of a loop
 abbrev pub life_of : ℕ → List Answer → Told
-life_of n answers = life n (length answers + 1) (newborn answers)
+life_of n answers = life n (length answers + 1) [] (newborn answers)

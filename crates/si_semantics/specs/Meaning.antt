@@ -1,9 +1,11 @@
 -- What a tree means (Python Language Reference 3.14, 6 to 8): no program counter, no frame, no stack.
-use Rattle.std.specs.Prelude.{ℕ, zero, suc, ◌+◌, List, [], ◌∷◌, ◌++◌, Bool, true, false, not, Option, Some, None}
-use Rattle.si_semantics.specs.Value.{Text, Value, Exception}
-use Rattle.si_semantics.specs.Tree.{BooleanOperator, And, Or, Expr, Constant, Name, Unary, Binary, Call, Boolean, Compare, Conditional, Exprs, NoExprs, MoreExprs, Comparisons, NoComparisons, MoreComparisons, Stmt, Evaluate, Assign, Augment, Pass, If, While, Break, Continue, Stmts, NoStmts, MoreStmts}
+use Rattle.std.specs.Prelude.{ℕ, zero, suc, ◌+◌, List, [], ◌∷◌, ◌++◌, ◌-◌, length, Bool, true, false, not, Option, Some, None, nat_eq, slice_get, slice_set}
+use Rattle.si_semantics.specs.Value.{Text, Value, Nothing, Function, Exception}
+use Rattle.si_semantics.specs.Tree.{BooleanOperator, And, Or, Expr, Constant, Name, Unary, Binary, Call, Boolean, Compare, Conditional, Exprs, NoExprs, MoreExprs, Comparisons, NoComparisons, MoreComparisons, Stmt, Evaluate, Assign, Augment, Pass, If, While, Break, Continue, Define, Return, Global, Stmts, NoStmts, MoreStmts, functions_of, functions_in}
+use Rattle.si_semantics.specs.Tree as tree
+use Rattle.si_semantics.specs.Scope.{place_of, locals_of}
 use Rattle.si_semantics.specs.World.{World, Request, Answer, Got, Failed, Wants, Ran, Gave, Threw, Asked, set_global}
-use Rattle.si_semantics.specs.Operations.{exception, operate, operate_unary, is_true, compare, load_global, call, reply}
+use Rattle.si_semantics.specs.Operations.{exception, operate, operate_unary, is_true, compare, load_global, load_local, call_provided, call_by_name, not_callable, wrong_arguments, too_deep, reply}
 
 -- a printed text, and its number: the visits begun before it
 pub record Piece : Type 0 where
@@ -21,6 +23,7 @@ pub record State : Type 0 where
 -- how a suite is left other than at its end (Language Reference, 4.3)
 pub data Leave : Type 0 where
   Raises : Exception → Leave
+  Returns : Value → Leave
   Breaks : Leave
   Continues : Leave
 
@@ -35,10 +38,18 @@ pub data Result (A : Type 0) : Type 0 where
 abbrev pub Meaning : Type 0 → Type 0
 Meaning A = State → Result A
 
--- what a suite's evaluation is given: the active exception, and the most turns of a loop
+-- what a suite's evaluation is given: the names that are local, the number of the next function that it defines, the active exception,
+-- the most turns of a loop, and what a call of the function of a number means
 pub record Scope : Type 0 where
+  pub locals : List Text
+  pub first : ℕ
   pub active : Option Exception
   pub turns : ℕ
+  pub call : ℕ → List Value → Meaning Value
+
+-- the same behind so many functions
+abbrev pub behind : List tree.Function → Scope → Scope
+behind fs e = record e { first = e.first + length fs }
 
 -- the evaluation of a statement, an expression or a target begins, or a turn of a loop
 abbrev pub visit : State → State
@@ -76,9 +87,25 @@ ran (Gave v out w) s = Gives v (printed out (record s { world = w }))
 ran (Threw k o w) s = raised (exception k o w) s
 ran (Asked r w) s = asked s.answers r (record s { world = w })
 
--- a target is given a value (Language Reference, 7.2)
-abbrev pub assign : Text → Value → Meaning (Unit {0})
-assign x v s = Gives tt (record s { world = set_global x v s.world })
+-- the value of a local's slot
+abbrev pub slot_at : ℕ → List (Option Value) → Option Value
+slot_at k slots = elim (slice_get slots k) [ None ↦ None | Some v ↦ v ]
+
+-- a name is read, by its place among the local ones, or it is global (Language Reference, 4.2.2)
+abbrev pub read : Text → Option ℕ → Meaning Value
+read x None s = ran (load_global x s.world) s
+read x (Some k) s = ran (load_local x (slot_at k s.slots) s.world) s
+
+-- a name is bound to a value (Language Reference, 4.2.1 and 7.2)
+abbrev pub assign : Text → Option ℕ → Value → Meaning (Unit {0})
+assign x None v s = Gives tt (record s { world = set_global x v s.world })
+assign x (Some k) v s = Gives tt (record s { slots = slice_set s.slots k (Some v) })
+
+-- a call of a value with its arguments, some of them perhaps by name (Language Reference, 6.3.4)
+abbrev pub calls : Scope → Value → List Value → List Text → Meaning Value
+calls e (Function f k) vs [] s = e.call k vs s
+calls e g vs [] s = ran (call_provided g vs s.world) s
+calls e g vs (x ∷ names) s = ran (call_by_name g s.world) s
 
 -- one of two, by a test
 abbrev pub choose : {A : Type 0} → Bool → A → A → A
@@ -99,10 +126,10 @@ abbrev mutual
   -- an expression, its operands from left to right (Language Reference, 6.16); of a call the callee first (6.3.4), of a conditional expression the test (6.13)
   pub expr : Scope → Expr → Meaning Value
   expr e (Constant v) s = Gives v (visit s)
-  expr e (Name x) s = ran (load_global x s.world) (visit s)
+  expr e (Name x) s = read x (place_of x e.locals) (visit s)
   expr e (Unary o a) s = then (expr e a (visit s)) (λ v s1. ran (operate_unary o v s1.world) s1)
   expr e (Binary o a b) s = then (expr e a (visit s)) (λ u s1. then (expr e b s1) (λ v s2. ran (operate o u v s2.world) s2))
-  expr e (Call f args) s = then (expr e f (visit s)) (λ g s1. then (exprs e args s1) (λ vs s2. ran (call g vs s2.world) s2))
+  expr e (Call f args names) s = then (expr e f (visit s)) (λ g s1. then (exprs e args s1) (λ vs s2. calls e g vs names s2))
   expr e (Boolean o a more) s = then (expr e a (visit s)) (λ u s1. operands e o u more s1)
   expr e (Compare a cs) s = then (expr e a (visit s)) (λ u s1. chain e u cs s1)
   expr e (Conditional a b c) s = then (expr e a (visit s)) (λ t s1. choose (is_true t) (expr e b s1) (expr e c s1))
@@ -123,12 +150,13 @@ abbrev mutual
   chain e u (MoreComparisons o a cs) s =
       then (expr e a s) (λ v s1. then (ran (compare o u v s1.world) s1) (λ t s2. compared cs t (chain e v cs) s2))
 
--- after the body of a turn there is another turn, unless the body was left by `break`, which ends the loop without its else suite (Language Reference, 7.9 and 7.10), or by an exception
+-- after the body of a turn there is another turn, unless the body was left by `break`, which ends the loop without its else suite (Language Reference, 7.9 and 7.10), or by `return` or an exception
 abbrev pub after_turn : Result (Unit {0}) → Meaning (Unit {0}) → Result (Unit {0})
 after_turn (Gives u s) again = again s
 after_turn (Leaves Continues s) again = again s
 after_turn (Leaves Breaks s) again = Gives tt s
 after_turn (Leaves (Raises x) s) again = Leaves (Raises x) s
+after_turn (Leaves (Returns v) s) again = Leaves (Returns v) s
 after_turn (Asks r s) again = Asks r s
 after_turn (Cut s) again = Cut s
 
@@ -137,20 +165,75 @@ abbrev pub loop : ℕ → Meaning Value → Meaning (Unit {0}) → Meaning (Unit
 loop zero test body last s = Cut s
 loop (suc n) test body last s = then (test (visit s)) (λ t s1. choose (is_true t) (after_turn (body s1) (loop n test body last)) (last s1))
 
+-- `return` with the value of its expression, or with None (Language Reference, 7.6)
+abbrev pub returning : Scope → Option Expr → Meaning (Unit {0})
+returning e None s = Leaves (Returns Nothing) s
+returning e (Some a) s = then (expr e a s) (λ v s1. Leaves (Returns v) s1)
+
 abbrev mutual
-  -- a statement (Language Reference, 7 and 8): of an assignment the right side first, then its target; of an augmented one the target, its value, the right side, the operation, and then the name is bound (7.2.1)
+  -- a statement (Language Reference, 7 and 8): of an assignment the right side first, then its target; of an augmented one the target, its value, the right side, the operation, and then the name is bound (7.2.1);
+  -- `def` binds its name to the function (8.7), `global` does nothing (7.12)
   pub stmt : Scope → Stmt → Meaning (Unit {0})
   stmt e (Evaluate a) s = then (expr e a (visit s)) (λ v s1. Gives tt s1)
-  stmt e (Assign x a) s = then (expr e a (visit s)) (λ v s1. assign x v (visit s1))
+  stmt e (Assign x a) s = then (expr e a (visit s)) (λ v s1. assign x (place_of x e.locals) v (visit s1))
   stmt e (Augment x o a) s =
-      then (ran (load_global x s.world) (visit (visit s))) (λ u s1. then (expr e a s1) (λ v s2. then (ran (operate o u v s2.world) s2) (λ z s3. assign x z s3)))
+      then (read x (place_of x e.locals) (visit (visit s))) (λ u s1. then (expr e a s1) (λ v s2. then (ran (operate o u v s2.world) s2) (λ z s3. assign x (place_of x e.locals) z s3)))
   stmt e Pass s = Gives tt (visit s)
-  stmt e (If a b c) s = then (expr e a (visit s)) (λ t s1. choose (is_true t) (stmts e b s1) (stmts e c s1))
-  stmt e (While a b c) s = loop e.turns (expr e a) (stmts e b) (stmts e c) (visit s)
+  stmt e (If a b c) s = then (expr e a (visit s)) (λ t s1. choose (is_true t) (stmts e b s1) (stmts (behind (functions_in b) e) c s1))
+  stmt e (While a b c) s = loop e.turns (expr e a) (stmts e b) (stmts (behind (functions_in b) e) c) (visit s)
   stmt e Break s = Leaves Breaks (visit s)
   stmt e Continue s = Leaves Continues (visit s)
+  stmt e (Define f ps b) s = assign f (place_of f e.locals) (Function f e.first) (visit s)
+  stmt e (Return a) s = returning e a (visit s)
+  stmt e (Global xs) s = Gives tt (visit s)
 
   -- statements in a row
   pub stmts : Scope → Stmts → Meaning (Unit {0})
   stmts e NoStmts s = Gives tt s
-  stmts e (MoreStmts a b) s = then (stmt e a s) (λ u s1. stmts e b s1)
+  stmts e (MoreStmts a b) s = then (stmt e a s) (λ u s1. stmts (behind (functions_of a) e) b s1)
+
+-- ---- calls
+
+-- back in the caller, with its locals; a function that comes to its end returns None (Language Reference, 6.3.4 and 7.6); `break` and
+-- `continue` stand in loops, and leave no function
+abbrev pub returned : List (Option Value) → Result (Unit {0}) → Result Value
+returned old (Gives u s) = Gives Nothing (record s { slots = old })
+returned old (Leaves (Returns v) s) = Gives v (record s { slots = old })
+returned old (Leaves (Raises x) s) = Leaves (Raises x) (record s { slots = old })
+returned old (Leaves Breaks s) = Gives Nothing (record s { slots = old })
+returned old (Leaves Continues s) = Gives Nothing (record s { slots = old })
+returned old (Asks r s) = Asks r s
+returned old (Cut s) = Cut s
+
+-- so many locals that are not bound
+abbrev pub unbound : ℕ → List (Option Value)
+unbound zero = []
+unbound (suc n) = None ∷ unbound n
+
+-- locals that are bound to these values
+abbrev pub passed : List Value → List (Option Value)
+passed [] = []
+passed (v ∷ vs) = Some v ∷ passed vs
+
+-- the locals of a function as it begins, so many: its parameters have the arguments (Language Reference, 8.7)
+abbrev pub entered : ℕ → List Value → List (Option Value)
+entered locals vs = passed vs ++ unbound (locals - length vs)
+
+-- a call of a function that was read, with as many arguments as it has parameters
+abbrev pub fitting : Option tree.Function → List Value → (tree.Function → Meaning Value) → Meaning Value
+fitting None vs go s = ran (not_callable s.world) s
+fitting (Some f) vs go s = choose (nat_eq (length vs) (length f.parameters)) (go f s) (ran (wrong_arguments s.world) s)
+
+-- the suite of a function runs, with its own locals
+abbrev pub run_body : ℕ → (ℕ → List Value → Meaning Value) → tree.Function → List Value → Meaning Value
+run_body n calling f vs s =
+    returned s.slots (stmts (record { locals = locals_of f; first = 0; active = None; turns = n; call = calling }) f.body (record s { slots = entered (length (locals_of f)) vs }))
+
+-- what a call means of the function of a number among these, where calls are at most so many within each other
+abbrev pub call : List tree.Function → (turns depth : ℕ) → ℕ → List Value → Meaning Value
+call fs n zero k vs s = fitting (slice_get fs k) vs (λ f s1. ran (too_deep s1.world) s1) s
+call fs n (suc d) k vs s = fitting (slice_get fs k) vs (λ f s1. run_body n (call fs n d) f vs s1) s
+
+-- the most calls within each other (this project's own)
+abbrev pub max_calls : ℕ
+max_calls = 200

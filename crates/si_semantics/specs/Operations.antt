@@ -1,9 +1,9 @@
 -- What operations on values do (Python Language Reference 3.14, 6.5 to 6.10). They never see answers.
 use Rattle.std.specs.Prelude.{codes, ℕ, zero, suc, ◌*◌, ℤ, pos, negsuc, int_lt, int_le, List, [], ◌∷◌, ◌++◌, length, Bool, true, false, not, ◌&&◌, ◌||◌, Option, Some, None, option_map, Result, Ok, Err, nat_lt, nat_eq, if◌then◌else◌}
 use Rattle.si_plain.specs.declared.kind.Kind.{Kind}
-use Rattle.si_plain.specs.declared.kind.Kind.TheVariants.{TypeError, ValueError, NameError, OverflowError, ZeroDivisionError}
+use Rattle.si_plain.specs.declared.kind.Kind.TheVariants.{TypeError, ValueError, NameError, UnboundLocalError, RecursionError, OverflowError, ZeroDivisionError}
 use Rattle.si_plain.specs.Integers.{sum_of, difference_of, product_of, floor_quotient, floor_remainder, power_result, negative_of, shifted_left, shifted_right, inverted, bits_and, bits_or, bits_xor}
-use Rattle.si_semantics.specs.Value.{Text, Value, Nothing, Truth, Int, Str, Provided, BuiltIn, Print, Exception, Thrown}
+use Rattle.si_semantics.specs.Value.{Text, Value, Nothing, Truth, Int, Str, Provided, Function, BuiltIn, Print, Exception, Thrown}
 use Rattle.si_semantics.specs.Tree.{BinaryOperator, Add, Subtract, Multiply, FloorDivide, Modulo, Power, BitOr, BitXor, BitAnd, ShiftLeft, ShiftRight, UnaryOperator, Plus, Minus, Invert, Not, ComparisonOperator, Less, Greater, LessEqual, GreaterEqual, Equal, NotEqual, Is, IsNot}
 use Rattle.si_semantics.specs.Text.{max_length, same_text, line_of}
 use Rattle.si_semantics.specs.World.{World, Request, Answer, Ran, Gave, Threw, Replied}
@@ -137,16 +137,17 @@ abbrev pub same_int : ℤ → ℤ → Bool
 same_int i j = int_le i j && int_le j i
 
 -- `==`: integers, True and False by their values, str by their characters, built-ins by name, None is equal to itself;
--- what is of different kinds is unequal (Language Reference, 6.10.1)
-abbrev pub are_equal : Value → Value → Bool
-are_equal Nothing Nothing = true
-are_equal (Int i) (Int j) = same_int i j
-are_equal (Int i) (Truth b) = same_int i (int_of_truth b)
-are_equal (Truth a) (Int j) = same_int (int_of_truth a) j
-are_equal (Truth a) (Truth b) = not (differ a b)
-are_equal (Str s) (Str t) = same_text s t
-are_equal (Provided f) (Provided g) = same_built_in f g
-are_equal _ _ = false
+-- what is of different kinds is unequal (Language Reference, 6.10.1); of two functions there is no answer (this project's own)
+abbrev pub are_equal : Value → Value → Option Bool
+are_equal Nothing Nothing = Some true
+are_equal (Int i) (Int j) = Some (same_int i j)
+are_equal (Int i) (Truth b) = Some (same_int i (int_of_truth b))
+are_equal (Truth a) (Int j) = Some (same_int (int_of_truth a) j)
+are_equal (Truth a) (Truth b) = Some (not (differ a b))
+are_equal (Str s) (Str t) = Some (same_text s t)
+are_equal (Provided f) (Provided g) = Some (same_built_in f g)
+are_equal (Function f k) (Function g l) = None
+are_equal _ _ = Some false
 
 -- `is`: None, True and False are each itself and nothing else (Language Reference, 6.10.3); the grammar lets nothing else stand behind it
 abbrev pub is_same : Value → Value → Bool
@@ -174,8 +175,8 @@ compare Less u v w = truth (is_less u v) w
 compare Greater u v w = truth (is_less v u) w
 compare LessEqual u v w = truth (option_map not (is_less v u)) w
 compare GreaterEqual u v w = truth (option_map not (is_less u v)) w
-compare Equal u v w = gave (Truth (are_equal u v)) w
-compare NotEqual u v w = gave (Truth (not (are_equal u v))) w
+compare Equal u v w = truth (are_equal u v) w
+compare NotEqual u v w = truth (option_map not (are_equal u v)) w
 compare Is u v w = gave (Truth (is_same u v)) w
 compare IsNot u v w = gave (Truth (not (is_same u v))) w
 
@@ -197,14 +198,37 @@ found x None w = refused_within NameError (codes "name " ++ (x ++ codes " is not
 abbrev pub load_global : Text → World → Ran
 load_global x w = found x (or_else (w.globals x) (built_in x)) w
 
+-- the value of a local name, where it is bound (Language Reference, 4.2.2)
+abbrev pub load_local : Text → Option Value → World → Ran
+load_local x (Some v) w = gave v w
+load_local x None w = refused_within UnboundLocalError (codes "local " ++ (x ++ codes " is not bound")) w
+
+-- a call with arguments that do not fit (Language Reference, 6.3.4; the message is this project's own)
+abbrev pub wrong_arguments : World → Ran
+wrong_arguments w = refused TypeError (codes "wrong arguments") w
+
+-- a call of what can't be called (Language Reference, 6.3.4; the message is this project's own)
+abbrev pub not_callable : World → Ran
+not_callable w = refused TypeError (codes "not callable") w
+
+-- one call too many within each other (this project's own)
+abbrev pub too_deep : World → Ran
+too_deep w = refused RecursionError (codes "too deep") w
+
 -- a call of a built-in (Standard Library, "Built-in Functions": print)
 abbrev pub call_built_in : BuiltIn → List Value → World → Ran
 call_built_in Print vs w = Gave Nothing (Some (line_of vs)) w
 
--- a call of a value with its arguments (Language Reference, 6.3.4; the message is this project's own)
-abbrev pub call : Value → List Value → World → Ran
-call (Provided b) vs w = call_built_in b vs w
-call _ vs w = refused TypeError (codes "not callable") w
+-- a call of a value that is no function of a script, with its arguments (Language Reference, 6.3.4)
+abbrev pub call_provided : Value → List Value → World → Ran
+call_provided (Provided b) vs w = call_built_in b vs w
+call_provided _ vs w = not_callable w
+
+-- a call with an argument by name: nothing that can be called takes one yet (this project's own)
+abbrev pub call_by_name : Value → World → Ran
+call_by_name (Provided b) w = wrong_arguments w
+call_by_name (Function f k) w = wrong_arguments w
+call_by_name _ w = not_callable w
 
 -- what an answer makes of a request
 abbrev pub reply : Request → Answer → World → Replied

@@ -1,30 +1,170 @@
--- Where `break` and `continue` stand (Python Language Reference 3.14, 7.9 and 7.10).
-use Rattle.std.specs.Prelude.{◌≡◌, Bool, true, false, ◌&&◌}
-use Rattle.si_semantics.specs.Value.{Exception}
-use Rattle.si_semantics.specs.Tree.{Stmt, Evaluate, Assign, Augment, Pass, If, While, Break, Continue, Stmts, NoStmts, MoreStmts}
-use Rattle.si_semantics.specs.Meaning.{State, Leave, Raises, Leaves, Scope, stmts}
+-- Which names are local, and where statements stand (Python Language Reference 3.14, 4.2.2, 7.6, 7.9, 7.10, 7.12 and 8.7).
+use Rattle.std.specs.Prelude.{ℕ, ◌+◌, List, [], ◌∷◌, ◌++◌, Bool, true, false, not, ◌&&◌, ◌||◌, Option, Some, None, option_map, if◌then◌else◌}
+use Rattle.si_semantics.specs.Value.{Text}
+use Rattle.si_semantics.specs.Text.{same_text}
+use Rattle.si_semantics.specs.Tree.{Expr, Constant, Name, Unary, Binary, Call, Boolean, Compare, Conditional, Exprs, NoExprs, MoreExprs, Comparisons, NoComparisons, MoreComparisons, Stmt, Evaluate, Assign, Augment, Pass, If, While, Break, Continue, Define, Return, Global, Stmts, NoStmts, MoreStmts, Function}
+
+-- ---- lists of names
+
+-- a name is one of these
+abbrev pub is_in : Text → List Text → Bool
+is_in x [] = false
+is_in x (y ∷ ys) = same_text x y || is_in x ys
+
+-- none of the first is one of the second
+abbrev pub are_apart : List Text → List Text → Bool
+are_apart [] ys = true
+are_apart (x ∷ xs) ys = not (is_in x ys) && are_apart xs ys
+
+-- no name comes twice
+abbrev pub are_distinct : List Text → Bool
+are_distinct [] = true
+are_distinct (x ∷ xs) = not (is_in x xs) && are_distinct xs
+
+-- with each of these that is in neither list at its end, once
+abbrev pub with_new : List Text → List Text → List Text → List Text
+with_new names but [] = names
+with_new names but (x ∷ xs) = with_new (if is_in x names || is_in x but then names else names ++ x ∷ []) but xs
+
+-- the place of a name
+abbrev pub place_of : Text → List Text → Option ℕ
+place_of x [] = None
+place_of x (y ∷ ys) = if same_text x y then Some 0 else option_map (λ k. k + 1) (place_of x ys)
+
+-- ---- the names of a suite
 
 abbrev mutual
-  -- `break` and `continue` stand in the body of a loop, or the statement itself stands in one; a loop's else suite is no part of its body
-  pub stmt_scoped : Bool → Stmt → Bool
-  stmt_scoped in_loop (Evaluate a) = true
-  stmt_scoped in_loop (Assign x a) = true
-  stmt_scoped in_loop (Augment x o a) = true
-  stmt_scoped in_loop Pass = true
-  stmt_scoped in_loop (If a b c) = stmts_scoped in_loop b && stmts_scoped in_loop c
-  stmt_scoped in_loop (While a b c) = stmts_scoped true b && stmts_scoped in_loop c
-  stmt_scoped in_loop Break = in_loop
-  stmt_scoped in_loop Continue = in_loop
+  -- the names that an expression uses
+  pub names_of : Expr → List Text
+  names_of (Constant v) = []
+  names_of (Name x) = x ∷ []
+  names_of (Unary o a) = names_of a
+  names_of (Binary o a b) = names_of a ++ names_of b
+  names_of (Call f args keywords) = names_of f ++ names_of_all args
+  names_of (Boolean o a more) = names_of a ++ names_of_all more
+  names_of (Compare a cs) = names_of a ++ names_of_chain cs
+  names_of (Conditional a b c) = names_of a ++ names_of b ++ names_of c
+
+  pub names_of_all : Exprs → List Text
+  names_of_all NoExprs = []
+  names_of_all (MoreExprs a args) = names_of a ++ names_of_all args
+
+  pub names_of_chain : Comparisons → List Text
+  names_of_chain NoComparisons = []
+  names_of_chain (MoreComparisons o a cs) = names_of a ++ names_of_chain cs
+
+-- the names of an expression that may be left out
+abbrev pub names_of_value : Option Expr → List Text
+names_of_value None = []
+names_of_value (Some a) = names_of a
+
+abbrev mutual
+  -- the names that a statement binds (4.2.1)
+  pub bound_by : Stmt → List Text
+  bound_by (Assign x a) = x ∷ []
+  bound_by (Augment x o a) = x ∷ []
+  bound_by (If a b c) = bound_in b ++ bound_in c
+  bound_by (While a b c) = bound_in b ++ bound_in c
+  bound_by (Define f ps b) = f ∷ []
+  bound_by _ = []
+
+  pub bound_in : Stmts → List Text
+  bound_in NoStmts = []
+  bound_in (MoreStmts a b) = bound_by a ++ bound_in b
+
+abbrev mutual
+  -- the names that a statement declares global (7.12)
+  pub declared_by : Stmt → List Text
+  declared_by (Global xs) = xs
+  declared_by (If a b c) = declared_in b ++ declared_in c
+  declared_by (While a b c) = declared_in b ++ declared_in c
+  declared_by _ = []
+
+  pub declared_in : Stmts → List Text
+  declared_in NoStmts = []
+  declared_in (MoreStmts a b) = declared_by a ++ declared_in b
+
+abbrev mutual
+  -- the names that a statement uses or binds; a declaration is no use
+  pub used_by : Stmt → List Text
+  used_by (Evaluate a) = names_of a
+  used_by (Assign x a) = x ∷ names_of a
+  used_by (Augment x o a) = x ∷ names_of a
+  used_by Pass = []
+  used_by (If a b c) = names_of a ++ used_in b ++ used_in c
+  used_by (While a b c) = names_of a ++ used_in b ++ used_in c
+  used_by Break = []
+  used_by Continue = []
+  used_by (Define f ps b) = f ∷ []
+  used_by (Return a) = names_of_value a
+  used_by (Global xs) = []
+
+  pub used_in : Stmts → List Text
+  used_in NoStmts = []
+  used_in (MoreStmts a b) = used_by a ++ used_in b
+
+abbrev mutual
+  -- no name is used in front of its declaration (7.12)
+  pub declares_first : Stmt → Bool
+  declares_first (If a b c) =
+      are_apart (names_of a) (declared_in b ++ declared_in c) && are_apart (used_in b) (declared_in c) && declare_first b && declare_first c
+  declares_first (While a b c) =
+      are_apart (names_of a) (declared_in b ++ declared_in c) && are_apart (used_in b) (declared_in c) && declare_first b && declare_first c
+  declares_first _ = true
+
+  pub declare_first : Stmts → Bool
+  declare_first NoStmts = true
+  declare_first (MoreStmts a b) = are_apart (used_by a) (declared_in b) && declares_first a && declare_first b
+
+-- the names that are local to a function: its parameters, and what it binds and does not declare global (4.2.2); their order is this project's own
+abbrev pub locals_of : Function → List Text
+locals_of f = with_new f.parameters (declared_in f.body) (bound_in f.body)
+
+-- ---- where statements stand
+
+-- what a statement stands in
+pub data Within : Type 0 where
+  -- a text, and no loop of it or one
+  InText : Bool → Within
+  -- a function, and no loop of it or one
+  InFunction : Bool → Within
+
+-- `break` and `continue` stand in a loop of the same function or text (7.9 and 7.10)
+abbrev pub in_loop : Within → Bool
+in_loop (InText loop) = loop
+in_loop (InFunction loop) = loop
+
+-- `return` and `global` stand in a function (7.6; 7.12: at module level this project refuses it), and `def` in none (this project's own)
+abbrev pub in_function : Within → Bool
+in_function (InText loop) = false
+in_function (InFunction loop) = true
+
+-- in the body of a loop there
+abbrev pub looping : Within → Within
+looping (InText loop) = InText true
+looping (InFunction loop) = InFunction true
+
+abbrev mutual
+  -- a statement stands where it may; a loop's else suite is no part of its body
+  pub stmt_scoped : Within → Stmt → Bool
+  stmt_scoped w (Evaluate a) = true
+  stmt_scoped w (Assign x a) = true
+  stmt_scoped w (Augment x o a) = true
+  stmt_scoped w Pass = true
+  stmt_scoped w (If a b c) = stmts_scoped w b && stmts_scoped w c
+  stmt_scoped w (While a b c) = stmts_scoped (looping w) b && stmts_scoped w c
+  stmt_scoped w Break = in_loop w
+  stmt_scoped w Continue = in_loop w
+  stmt_scoped w (Define f ps b) =
+      not (in_function w) && are_distinct ps && are_apart ps (declared_in b) && declare_first b && stmts_scoped (InFunction false) b
+  stmt_scoped w (Return a) = in_function w
+  stmt_scoped w (Global xs) = in_function w
 
   -- statements in a row
-  pub stmts_scoped : Bool → Stmts → Bool
-  stmts_scoped in_loop NoStmts = true
-  stmts_scoped in_loop (MoreStmts a b) = stmt_scoped in_loop a && stmts_scoped in_loop b
+  pub stmts_scoped : Within → Stmts → Bool
+  stmts_scoped w NoStmts = true
+  stmts_scoped w (MoreStmts a b) = stmt_scoped w a && stmts_scoped w b
 
--- the statements of a text, which stand in no loop
+-- the statements of a text are well scoped
 abbrev pub is_scoped : Stmts → Bool
-is_scoped body = stmts_scoped false body
-
--- such a text is left by an exception, if it is left at all
-abbrev pub LeftByExceptions : Type 0
-LeftByExceptions = (e : Scope) (body : Stmts) (s t : State) (p : Leave) → is_scoped body ≡ true → stmts e body s ≡ Leaves p t → (x : Exception) × (p ≡ Raises x)
+is_scoped body = stmts_scoped (InText false) body

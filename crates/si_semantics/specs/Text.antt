@@ -1,7 +1,7 @@
 -- How values are written as text (Python Standard Library 3.14, "Built-in Functions": str and repr).
 use Rattle.std.specs.Prelude.{codes, ℕ, ℤ, ◌/◌, ◌%◌, List, [], ◌∷◌, ◌++◌, Bool, true, false, not, ◌&&◌, ◌||◌, Some, None, nat_eq, nat_lt, if◌then◌else◌}
 use Rattle.std.specs.Fmt.{signed_decimal, digit_glyph}
-use Rattle.si_semantics.specs.Value.{Text, Value, Nothing, Truth, Int, Str, Provided, BuiltIn, Print, Exception, Thrown}
+use Rattle.si_semantics.specs.Value.{Text, Value, Nothing, Truth, Int, Str, Provided, Function, BuiltIn, Print, Exception, Thrown}
 
 -- the most characters of a str (this project's own)
 abbrev pub max_length : ℕ
@@ -58,6 +58,7 @@ repr_of (Truth false) = codes "False"
 repr_of (Int i) = decimal i
 repr_of (Str s) = repr_text s
 repr_of (Provided b) = codes "<built-in " ++ built_in_name b ++ codes ">"
+repr_of (Function f k) = codes "<function " ++ f ++ codes ">"
 
 -- the str of a value: a str is its own
 abbrev pub str_of : Value → Text

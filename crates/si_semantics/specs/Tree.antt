@@ -1,4 +1,5 @@
 -- Syntax trees (Python Language Reference 3.14, 6 to 8).
+use Rattle.std.specs.Prelude.{List, [], ◌∷◌, ◌++◌, Option}
 use Rattle.si_semantics.specs.Value.{Text, Value}
 
 -- an operator between two operands
@@ -46,8 +47,8 @@ mutual
     Name : Text → Expr
     Unary : UnaryOperator → Expr → Expr
     Binary : BinaryOperator → Expr → Expr → Expr
-    -- a callee and its positional arguments
-    Call : Expr → Exprs → Expr
+    -- a callee, its arguments, and the names of those that are passed by name, which stand behind the others (6.3.4)
+    Call : Expr → Exprs → List Text → Expr
     -- operands of `and` or of `or` in a row: the first, and the others, of which there is one at least (6.11)
     Boolean : BooleanOperator → Expr → Exprs → Expr
     -- a chain of comparisons: the first operand, and each operator with the operand behind it (6.10)
@@ -76,11 +77,36 @@ mutual
     While : Expr → Stmts → Stmts → Stmt
     Break : Stmt
     Continue : Stmt
+    -- `def NAME(parameters)` and its suite (8.7)
+    Define : Text → List Text → Stmts → Stmt
+    -- `return`, and its expression where there is one (7.6)
+    Return : Option Expr → Stmt
+    -- `global NAME, ..` (7.12)
+    Global : List Text → Stmt
 
   pub data Stmts : Type 0 where
     NoStmts : Stmts
     MoreStmts : Stmt → Stmts → Stmts
 
+-- a function as it was read
+pub record Function : Type 0 where
+  pub name : Text
+  pub parameters : List Text
+  pub body : Stmts
+
 -- a text as it was read
 pub record Module : Type 0 where
   pub body : Stmts
+
+abbrev mutual
+  -- the functions that a statement defines, in the order in which they stand; a function's suite defines none (8.7)
+  pub functions_of : Stmt → List Function
+  functions_of (Define f ps b) = record { name = f; parameters = ps; body = b } ∷ []
+  functions_of (If a b c) = functions_in b ++ functions_in c
+  functions_of (While a b c) = functions_in b ++ functions_in c
+  functions_of _ = []
+
+  -- those of statements in a row
+  pub functions_in : Stmts → List Function
+  functions_in NoStmts = []
+  functions_in (MoreStmts a b) = functions_of a ++ functions_in b

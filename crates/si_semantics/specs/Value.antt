@@ -17,6 +17,8 @@ pub data Value : Type 0 where
   Int : ℤ → Value
   Str : Text → Value
   Provided : BuiltIn → Value
+  -- a function of a script, by its name and its number among those that its interpreter has read; the number is this project's own
+  Function : Text → ℕ → Value
 
 -- an exception, by its kind and the one argument that it may have
 pub data Exception : Type 0 where

@@ -1,14 +1,25 @@
 // Laws of lives and of courses, for those who build on them.
 
 ghost use Rattle.si_semantics.specs.Cases.{Cases};
+ghost use Rattle.si_semantics.specs.FunctionCases.{FunctionCases};
+ghost use Rattle.si_semantics.specs.ScopeCases.{ScopeCases};
 ghost use Rattle.si_semantics.specs.LiteralCases.{LiteralCases};
 ghost use Rattle.si_semantics.specs.LayoutCases.{LayoutCases};
-ghost use Rattle.si_semantics.specs.Laws.{Binding, OneLife, LivesGrow, GoneStays, AnswersWait, OnePieceALine, OneMoment};
-ghost use Rattle.si_semantics.specs.Scope.{LeftByExceptions};
+ghost use Rattle.si_semantics.specs.Laws.{Binding, OneLife, LivesGrow, GoneStays, AnswersWait, OnePieceALine, OneMoment, LeftByExceptions};
 
 /// The worked cases: what scripts print and how they end.
 pub fn worked_cases()
     ensures { Cases }
+{}
+
+/// The worked cases of functions: what scripts with functions print and how they end.
+pub fn worked_functions()
+    ensures { FunctionCases }
+{}
+
+/// The worked cases of scopes: which texts are well scoped, and which names are local.
+pub fn worked_scope()
+    ensures { ScopeCases }
 {}
 
 /// The worked cases of literals: their values, and which are none.
@@ -26,7 +37,7 @@ pub fn binding()
     ensures { Binding }
 {}
 
-/// A text whose `break` and `continue` stand in loops is left by an exception, if it is left at all.
+/// The run of a well scoped text is left by an exception, if it is left at all.
 pub fn left_by_exceptions()
     ensures { LeftByExceptions }
 {}
