@@ -1,16 +1,18 @@
 -- Compound statements: what is read is in the grammar, and what is in the grammar is read.
-use Rattle.std.proofs.Common.{◌≡◌, ℕ, zero, suc, ◌+◌, ◌<◌, ◌≤◌, List, [], ◌∷◌, ◌++◌, ◌⊎◌, inl, inr, length, Option, Some, None, true, false, refl, sym, ap, ◌∙◌, subst, ⊎_elim, arith, append_assoc, length-append}
+use Rattle.std.proofs.Common.{◌≡◌, ℕ, zero, suc, ◌<◌, List, [], ◌∷◌, ◌++◌, ◌⊎◌, inl, inr, length, Option, Some, None, true, false, refl, sym, ap, ◌∙◌, subst, ⊎_elim, arith, append_assoc, length-append}
 use Rattle.std.specs.Prelude.{flat_map, if◌then◌else◌}
 use Rattle.std.proofs.lemmas.List.{append-nil}
-use Rattle.si_semantics.specs.Tree.{Expr, Stmt, Evaluate, Assign, Augment, Pass, If, While, Break, Continue, Stmts, NoStmts}
+use Rattle.si_semantics.specs.Value.{Text}
+use Rattle.si_semantics.specs.Tree.{Expr, Stmt, Evaluate, Assign, Augment, Pass, If, While, Break, Continue, Define, Return, Global, Stmts, NoStmts}
 use Rattle.si_semantics.specs.Tokens as token
-use Rattle.si_semantics.specs.Grammar.{Terminal, Sign, Word, NEWLINE, INDENT, DEDENT, Many, Behind, max_depth, IsExpression, Simple, stmts_of, Lines, Block, Suite, Branch, Tested, Otherwise, elifs_of, Compound, Nests}
-use Rattle.si_parse.specs.Reading.{then_read, rest_of, after_colon, after_newline, after_indent, after_if, after_elif, after_while, after_else, expression_at, LineParser, simple_line, is_dedent, many_by, indented_by, suite_from, suite_by, branch_by, with_branch, elif_by, is_none, no_elif, elifs_by, otherwise_from, otherwise_by, joined_if, if_by, while_by, with_compound, block_from, block_at}
-use Rattle.si_parse.proofs.Laws.{then_read_some, some_inj, spells_deeper, after_newline_some, after_colon_some, after_indent_some, after_if_some, after_elif_some, after_while_some, after_else_some}
+use Rattle.si_semantics.specs.Grammar.{Terminal, NAME, Sign, Word, NEWLINE, INDENT, DEDENT, Many, Behind, max_depth, IsExpression, Simple, stmts_of, Lines, Block, Suite, Branch, Tested, Otherwise, elifs_of, Compound, Nests}
+use Rattle.si_parse.specs.Reading.{then_read, rest_of, after_colon, after_newline, after_indent, after_if, after_elif, after_while, after_def, after_open, name_at, parameters_by, defined_by, define_by, after_else, expression_at, LineParser, is_dedent, many_by, indented_by, suite_from, suite_by, branch_by, with_branch, elif_by, is_none, no_elif, elifs_by, otherwise_from, otherwise_by, joined_if, if_by, while_by, with_compound, block_from, block_at}
+use Rattle.si_parse.proofs.Laws.{then_read_some, some_inj, spells_deeper, after_newline_some, after_colon_some, after_indent_some, after_if_some, after_elif_some, after_while_some, after_def_some, after_open_some, name_at_some, after_else_some}
 use Rattle.si_parse.proofs.Levels.{at_condition}
-use Rattle.si_parse.proofs.Lists.{chosen, added, many_sound, many_good, many_complete}
-use Rattle.si_parse.proofs.Starts.{newline_not, dedent_not, if_not, while_not, elif_not, else_not}
+use Rattle.si_parse.proofs.Lists.{chosen, added, many_sound, many_complete}
+use Rattle.si_parse.proofs.Starts.{newline_not, dedent_not, if_not, while_not, def_not, elif_not, else_not}
 use Rattle.si_parse.proofs.Sound.{expression_sound}
+use Rattle.si_parse.proofs.Names.{parameters_reads, parameters_complete}
 use Rattle.si_parse.proofs.Complete.{expression_complete}
 use Rattle.si_parse.proofs.Statements.{with_line, line_reads, line_complete, line_starts, line_terminals}
 
@@ -149,6 +151,23 @@ module _ (L : Lines) (line : LineParser) (sound : LineSound L line) where
       let P : Stmt × List Terminal → Type 0 = CompoundRead (Word token.WhileWord ∷ ts) in
       subst P (some_inj (While b.0.0.0 b.0.0.1 NoStmts, b.0.1) r b.2) (Word token.WhileWord ∷ f.0, ap (λ t. Word token.WhileWord ∷ t) f.1, (refl, (f.0, refl, f.2)))
 
+  define_reads : (ts : List Terminal) (r : Stmt × List Terminal) → define_by line ts ≡ Some r → CompoundRead (Word token.DefWord ∷ ts) r
+  define_reads ts r h =
+      let n = then_read_some (name_at ts) (λ n. then_read (after_open n.1) (λ rest. then_read (parameters_by rest) (defined_by line n.0))) r h in
+      let o = then_read_some (after_open n.0.1) (λ rest. then_read (parameters_by rest) (defined_by line n.0.0)) r n.2 in
+      let p = then_read_some (parameters_by o.0) (defined_by line n.0.0) r o.2 in
+      let b = then_read_some (suite_by line p.0.1) (λ b. Some (Define n.0.0 p.0.0 (stmts_of b.0), b.1)) r p.2 in
+      let g = parameters_reads o.0 p.0 p.1 in
+      let s = suite_reads p.0.1 b.0 b.1 in
+      let P : Stmt × List Terminal → Type 0 = CompoundRead (Word token.DefWord ∷ ts) in
+      let opened : n.0.1 ≡ Sign token.LeftParenthesis ∷ ((g.0 ++ Sign token.RightParenthesis ∷ s.0) ++ b.0.1) =
+      after_open_some n.0.1 o.0 o.1 ∙ ap (λ t. Sign token.LeftParenthesis ∷ t) (g.1 ∙ ap (λ t. g.0 ++ Sign token.RightParenthesis ∷ t) s.1 ∙ sym (append_assoc g.0 (Sign token.RightParenthesis ∷ s.0) b.0.1)) in
+      subst P (some_inj (Define n.0.0 p.0.0 (stmts_of b.0.0), b.0.1) r b.2) (
+        Word token.DefWord ∷ (NAME n.0.0 ∷ (Sign token.LeftParenthesis ∷ (g.0 ++ Sign token.RightParenthesis ∷ s.0))),
+        ap (λ t. Word token.DefWord ∷ t) (name_at_some ts n.0 n.1 ∙ ap (λ t. NAME n.0.0 ∷ t) opened),
+        (g.0, s.0, refl, g.2, g.3, s.2),
+      )
+
   abbrev LineRead : List Stmt → List Terminal → List Stmt × List Terminal → Type 0
   LineRead body ts r =
       (ss : List Stmt) × (f : List Terminal) × (r.0 ≡ with_line body ss) × (ts ≡ f ++ r.1) × (Simple ss f ⊎ ((s : Stmt) × (ss ≡ s ∷ []) × Compound L s f))
@@ -157,21 +176,25 @@ module _ (L : Lines) (line : LineParser) (sound : LineSound L line) where
   compound_reads body ts c r f h =
       let P : List Stmt × List Terminal → Type 0 = LineRead body ts in subst P (some_inj (body ++ c.0 ∷ [], c.1) r h) (c.0 ∷ [], f.0, refl, f.1, inr (c.0, refl, f.2))
 
-  block_reads : (body : List Stmt) (ts : List Terminal) (o w : Option (List Terminal)) → after_if ts ≡ o → after_while ts ≡ w → (r : List Stmt × List Terminal) → block_from line body ts o w ≡ Some r → LineRead body ts r
-  block_reads body ts (Some rest) w is also r h =
+  block_reads : (body : List Stmt) (ts : List Terminal) (o w d : Option (List Terminal)) → after_if ts ≡ o → after_while ts ≡ w → after_def ts ≡ d → (r : List Stmt × List Terminal) → block_from line body ts o w d ≡ Some r → LineRead body ts r
+  block_reads body ts (Some rest) w d is also too r h =
       let x = then_read_some (if_by line rest) (with_compound body) r h in
       let P : List Terminal → Type 0 = λ t. LineRead body t r in
       subst P (sym (after_if_some ts rest is)) (compound_reads body (Word token.IfWord ∷ rest) x.0 r (if_reads rest x.0 x.1) x.2)
-  block_reads body ts None (Some rest) is also r h =
+  block_reads body ts None (Some rest) d is also too r h =
       let x = then_read_some (while_by line rest) (with_compound body) r h in
       let P : List Terminal → Type 0 = λ t. LineRead body t r in
       subst P (sym (after_while_some ts rest also)) (compound_reads body (Word token.WhileWord ∷ rest) x.0 r (while_reads rest x.0 x.1) x.2)
-  block_reads body ts None None is also r h = let l = line_reads body ts r h in (l.0, l.1, l.2, l.3, inl l.4)
+  block_reads body ts None None (Some rest) is also too r h =
+      let x = then_read_some (define_by line rest) (with_compound body) r h in
+      let P : List Terminal → Type 0 = λ t. LineRead body t r in
+      subst P (sym (after_def_some ts rest too)) (compound_reads body (Word token.DefWord ∷ rest) x.0 r (define_reads rest x.0 x.1) x.2)
+  block_reads body ts None None None is also too r h = let l = line_reads body ts r h in (l.0, l.1, l.2, l.3, inl l.4)
 
 pub block_sound : (n : ℕ) → LineSound (Nests n) (block_at n)
 unfolding block_at
 block_sound zero body ts r h = line_reads body ts r h
-block_sound (suc n) body ts r h = block_reads (Nests n) (block_at n) (block_sound n) body ts (after_if ts) (after_while ts) refl refl r h
+block_sound (suc n) body ts r h = block_reads (Nests n) (block_at n) (block_sound n) body ts (after_if ts) (after_while ts) (after_def ts) refl refl refl r h
 
 -- ---- what is in the grammar is read
 
@@ -203,6 +226,11 @@ compound_begun L (If test body other) f more h =
 compound_begun L (While test body other) f more h =
     let P : List Terminal → Type 0 = λ f. Begun f more in
     subst P (sym h.1.1) (record { ends = record { elifs = refl; elses = refl; some = omega arith }; in_block = refl; long = omega arith })
+compound_begun L (Define x ps body) f more h =
+    let P : List Terminal → Type 0 = λ f. Begun f more in
+    subst P (sym h.2) (record { ends = record { elifs = refl; elses = refl; some = omega arith }; in_block = refl; long = omega arith })
+compound_begun L (Return a) f more h = absurd h
+compound_begun L (Global xs) f more h = absurd h
 compound_begun L (Evaluate e) f more h = absurd h
 compound_begun L (Assign x e) f more h = absurd h
 compound_begun L (Augment x op e) f more h = absurd h
@@ -325,14 +353,26 @@ module _ (L : Lines) (line : LineParser) (complete : LineComplete L line) (begin
     ap (λ o. then_read o (λ b. Some (While b.0.0 b.0.1 NoStmts, b.1))) (branch_complete (test, body) h.1.0 more h.1.2) ∙ ap (λ rest. Some (While test body rest, more)) (sym h.0),
   )
 
+  define_complete : (x : Text) (ps : List Text) (body : Stmts) (f more : List Terminal) → Compound L (Define x ps body) f → (g : List Terminal) × (f ≡ Word token.DefWord ∷ g) × (define_by line (g ++ more) ≡ Some (Define x ps body, more))
+  define_complete x ps body f more h =
+      let s = suite_complete body h.1 more h.5 in (
+        NAME x ∷ (Sign token.LeftParenthesis ∷ (h.0 ++ Sign token.RightParenthesis ∷ h.1)),
+        h.2,
+        ap (λ t. then_read (parameters_by t) (defined_by line x)) (append_assoc h.0 (Sign token.RightParenthesis ∷ h.1) more)
+            ∙ ap (λ o. then_read o (defined_by line x)) (parameters_complete ps h.0 (h.1 ++ more) h.3 h.4)
+            ∙ ap (λ o. then_read o (λ b. Some (Define x ps (stmts_of b.0), b.1))) s.2
+            ∙ ap (λ l. Some (Define x ps l, more)) (sym s.1),
+      )
+
   abbrev Read : List Stmt → List Stmt → List Terminal → List Terminal → Type 0
-  Read body ss f more = block_from line body (f ++ more) (after_if (f ++ more)) (after_while (f ++ more)) ≡ Some (with_line body ss, more)
+  Read body ss f more = block_from line body (f ++ more) (after_if (f ++ more)) (after_while (f ++ more)) (after_def (f ++ more)) ≡ Some (with_line body ss, more)
 
   simple_read : (body ss : List Stmt) (f more : List Terminal) → Simple ss f → Read body ss f more
   simple_read body ss f more h =
       let start = line_starts ss f more h in
-      ap (λ o. block_from line body (f ++ more) o (after_while (f ++ more))) (if_not (f ++ more) start)
-      ∙ ap (λ o. block_from line body (f ++ more) None o) (while_not (f ++ more) start)
+      ap (λ o. block_from line body (f ++ more) o (after_while (f ++ more)) (after_def (f ++ more))) (if_not (f ++ more) start)
+      ∙ ap (λ o. block_from line body (f ++ more) None o (after_def (f ++ more))) (while_not (f ++ more) start)
+      ∙ ap (λ o. block_from line body (f ++ more) None None o) (def_not (f ++ more) start)
       ∙ line_complete body ss f more h
 
   compound_read : (body : List Stmt) (s : Stmt) (f more : List Terminal) → Compound L s f → Ends more → Read body (s ∷ []) f more
@@ -344,6 +384,12 @@ module _ (L : Lines) (line : LineParser) (complete : LineComplete L line) (begin
       let c = while_complete test rest other f more h in
       let P : List Terminal → Type 0 = λ f. Read body (While test rest other ∷ []) f more in
       subst P (sym c.1) (ap (λ o. then_read o (with_compound body)) c.2)
+  compound_read body (Define x ps rest) f more h e =
+      let c = define_complete x ps rest f more h in
+      let P : List Terminal → Type 0 = λ f. Read body (Define x ps rest ∷ []) f more in
+      subst P (sym c.1) (ap (λ o. then_read o (with_compound body)) c.2)
+  compound_read body (Return x) f more h e = absurd h
+  compound_read body (Global xs) f more h e = absurd h
   compound_read body (Evaluate x) f more h e = absurd h
   compound_read body (Assign x v) f more h e = absurd h
   compound_read body (Augment x op v) f more h e = absurd h

@@ -1,24 +1,22 @@
 -- What is in the grammar is read.
 use Rattle.std.proofs.Common.{◌≡◌, ℕ, zero, suc, ◌+◌, ◌-◌, ◌<◌, ◌≤◌, List, [], ◌∷◌, ◌++◌, inl, inr, length, Bool, Option, Some, None, true, false, refl, sym, ap, ◌∙◌, subst, max, arith, add-one, append_assoc, length-append}
-use Rattle.std.specs.Prelude.{nat_lt, nat_le, not, ◌&&◌, if◌then◌else◌}
+use Rattle.std.specs.Prelude.{nat_lt, not, ◌&&◌, if◌then◌else◌}
 use Rattle.std.proofs.lemmas.Bool.Decides.{nat_tests}
 use Rattle.std.proofs.lemmas.List.{append-nil}
-use Rattle.si_semantics.specs.Value.{Nothing, Truth, Int, Str, Provided}
+use Rattle.si_semantics.specs.Value.{Nothing, Truth, Int, Str, Provided, Function}
 use Rattle.si_semantics.specs.Tree.{BinaryOperator, UnaryOperator, ComparisonOperator, BooleanOperator, Expr, Constant, Name, Unary, Binary, Call, Boolean, Compare, Conditional}
 use Rattle.si_semantics.specs.Tree as tree
 use Rattle.si_semantics.specs.Tokens.{Symbol, Keyword}
 use Rattle.si_semantics.specs.Tokens as token
-use Rattle.si_semantics.specs.Grammar.{Terminal, NAME, NUMBER, STRING, Sign, Word, level_of, left_level, right_level, symbol_of, prefix_level, prefix_of, boolean_level, item_level, word_of, comparison_of, is_identity, Many, Behind, Separated, exprs_of, items_of, Link, links_of, chain_of, Compares, Strings, Spells}
-use Rattle.si_parse.specs.Reading.{arguments, comparison, boolean, condition, continuation_at, strength_of, strength_at, begins_str, then_read, rest_of, after_close, after_comma, after_else, after_boolean, with_word, comparison_at, identity_from, after_not, Found, Parsed, Parser, with_argument, arguments_from, arguments_by, within, call_by, operands_by, boolean_by, is_singleton, compared_to, compared_by, links_by, compare_by, other_by, conditional_by, extended_by, continued_by, closed, strings_by, unary_by, bracketed_by, operand_from, operand_by, expression_at}
-use Rattle.si_parse.proofs.Laws.{exprs_of_items, chain_of_links}
+use Rattle.si_semantics.specs.Grammar.{Terminal, NAME, NUMBER, STRING, Sign, Word, level_of, left_level, right_level, symbol_of, prefix_level, prefix_of, boolean_level, item_level, word_of, comparison_of, is_identity, Many, Behind, Separated, Argument, Positional, ByName, Passes, IsPassed, exprs_of, items_of, Link, links_of, chain_of, Compares, Strings, Spells}
+use Rattle.si_parse.specs.Reading.{Argued, after_equal, named_at, argument_from, argument_by, called, comparison, boolean, continuation_at, strength_of, strength_at, begins_str, then_read, after_close, after_comma, after_else, after_boolean, with_word, comparison_at, identity_from, after_not, Found, Parsed, Parser, with_argument, arguments_from, arguments_by, within, call_by, is_singleton, compared_to, compared_by, other_by, conditional_by, extended_by, continued_by, closed, strings_by, bracketed_by, operand_from, operand_by, expression_at}
+use Rattle.si_parse.proofs.Laws.{some_inj, named_at_some, exprs_of_items, chain_of_links}
 use Rattle.si_parse.proofs.Levels.{right_weaker, right_bound, level_under, role_of_symbol, prefix_gap, prefix_bound, prefix_begins, conditional_gap, boolean_strength, item_bound, role_of_word, after_word, role_of_comparison, boolean_none, comparison_none}
-use Rattle.si_parse.proofs.Lists.{added, Pairwise, separated_complete}
+use Rattle.si_parse.proofs.Lists.{le_to, added, Pairwise, separated_complete}
+use Rattle.si_parse.proofs.Passed.{passed_complete}
 use Rattle.si_parse.proofs.Chains.{many_long, chain_complete}
-use Rattle.si_parse.proofs.Starts.{expression_begins, some_terminals, close_not, Singleton, singleton}
+use Rattle.si_parse.proofs.Starts.{expression_begins, some_terminals, close_not, singleton}
 use Rattle.si_parse.proofs.Steps.{continued_by_step}
-
-le_to : (a b : ℕ) → a ≤ b → nat_le a b ≡ true
-le_to a b h = grind (arith, nat_tests)
 
 lt_to : (a b : ℕ) → a < b → nat_lt a b ≡ true
 lt_to a b h = grind (arith, nat_tests)
@@ -31,6 +29,11 @@ within_ok n e d ts h = ap (λ b. if b then Some (e, d, ts) else None) (le_to d n
 
 not_closed : (m l : ℕ) (e : Expr) (f : List Terminal) → Spells m l e f → (x : List Terminal) → after_close (f ++ x) ≡ None
 not_closed m l e f h x = close_not (f ++ x) (expression_begins m l e f h x)
+
+-- what is spelled has a depth, so a name is spelled at that depth
+spelled_name : (m l : ℕ) (e : Expr) (f : List Terminal) → Spells m l e f → (x : List ℕ) → Spells m 1 (Name x) (NAME x ∷ [])
+spelled_name zero l e f h x = absurd h
+spelled_name (suc m) l e f h x = inl refl
 
 -- ---- str literals
 
@@ -90,33 +93,62 @@ IsComplete n sub = (m l : ℕ) (e : Expr) (front rest : List Terminal) → m ≤
 
 module _ (n : ℕ) (sub : Parser) (complete : IsComplete n sub) where
   module _ (m : ℕ) (le : m ≤ n) where
-    abbrev Read : Expr → Found → Type 0
-    Read e r = (e ≡ r.0) × (r.1 ≤ m)
+    abbrev Read : Argument → Argued → Type 0
+    Read a r = (a ≡ r.0) × (r.1 ≤ m)
 
     abbrev Follows : List Terminal → Type 0
-    Follows more = (strength_at more < 1) × (begins_str more ≡ false)
+    Follows more = (strength_at more < 1) × (begins_str more ≡ false) × (after_equal more ≡ None)
 
-    argument_read : (e : Expr) (f more : List Terminal) → Spells m 1 e f → Follows more → (r : Found) × (sub 1 (f ++ more) ≡ Some r) × (r.2 ≡ more) × Read e r
-    argument_read e f more h ends = let c = complete m 1 e f more le (omega arith) h ends.0 ends.1 in ((e, c.0, more), c.3, refl, (refl, c.1))
+    -- no `=` stands behind the name with which an expression begins, as this would be read up to it
+    not_named : (e : Expr) (f more : List Terminal) → Spells m 1 e f → Follows more → named_at (f ++ more) ≡ None
+    not_named e f more h ends = by (named_at (f ++ more)) refl
+      where
+        by : (o : Option (List ℕ × List Terminal)) → named_at (f ++ more) ≡ o → o ≡ None
+        by None is = refl
+        by (Some name) is =
+            let c = complete m 1 e f more le (omega arith) h ends.0 ends.1 in
+            let d = complete m 1 (Name name.0) (NAME name.0 ∷ []) (Sign token.Equal ∷ name.1) le (omega arith) (spelled_name m 1 e f h name.0) (omega arith) refl in
+            let same = some_inj (e, c.0, more) (Name name.0, d.0, Sign token.Equal ∷ name.1) (sym c.3 ∙ ap (sub 1) (named_at_some (f ++ more) name is) ∙ d.3) in
+            let bad : None ≡ Some name.1 = sym ends.2 ∙ ap (λ r. after_equal r.2) same in cc
 
-    collected : (es xs : List Expr) (d : ℕ) (rs : List Found) → d ≤ m → Pairwise Read xs rs → (top : ℕ) × (top ≤ m) × (added with_argument (es, d) rs ≡ (es ++ xs, top))
-    collected es [] d [] low h = (d, low, ap (λ l. (l, d)) (sym (append-nil es)))
-    collected es [] d (r ∷ rs) low h = absurd h
-    collected es (x ∷ xs) d [] low h = absurd h
-    collected es (x ∷ xs) d (r ∷ rs) low h =
-        let c = collected (es ++ r.0 ∷ []) xs (max d r.1) rs (omega (arith, h.0.1)) h.1 in
-        (c.0, c.1, c.2 ∙ ap (λ l. (l, c.0)) (append_assoc es (r.0 ∷ []) xs ∙ ap (λ y. es ++ y ∷ xs) (sym h.0.0)))
+    argument_read : (a : Argument) (f more : List Terminal) → Passes (Spells m) a f → Follows more → (r : Argued) × (argument_by sub (f ++ more) ≡ Some r) × (r.2 ≡ more) × Read a r
+    argument_read (Positional e) f more h ends =
+        let c = complete m 1 e f more le (omega arith) h ends.0 ends.1 in (
+          (Positional e, c.0, more),
+          ap (argument_from sub (f ++ more)) (not_named e f more h ends) ∙ ap (λ o. then_read o (λ r. Some (Positional r.0, r.1, r.2))) c.3,
+          refl,
+          (refl, c.1),
+        )
+    argument_read (ByName x e) f more h ends =
+        let c = complete m 1 e h.0 more le (omega arith) h.2 ends.0 ends.1 in (
+          (ByName x e, c.0, more),
+          ap (λ t. argument_by sub (t ++ more)) h.1 ∙ ap (λ o. then_read o (λ r. Some (ByName x r.0, r.1, r.2))) c.3,
+          refl,
+          (refl, c.1),
+        )
 
-    arguments_complete : (xs : List Expr) (g rest : List Terminal) → Separated (Spells m 1) token.Comma xs g
+    argument_open : (a : Argument) (f more : List Terminal) → Passes (Spells m) a f → after_close (f ++ more) ≡ None
+    argument_open (Positional e) f more h = not_closed m 1 e f h more
+    argument_open (ByName x e) f more h = ap (λ t. after_close (t ++ more)) h.1
+
+    collected : (before xs : List Argument) (d : ℕ) (rs : List Argued) → d ≤ m → Pairwise Read xs rs → (top : ℕ) × (top ≤ m) × (added with_argument (before, d) rs ≡ (before ++ xs, top))
+    collected before [] d [] low h = (d, low, ap (λ l. (l, d)) (sym (append-nil before)))
+    collected before [] d (r ∷ rs) low h = absurd h
+    collected before (x ∷ xs) d [] low h = absurd h
+    collected before (x ∷ xs) d (r ∷ rs) low h =
+        let c = collected (before ++ r.0 ∷ []) xs (max d r.1) rs (omega (arith, h.0.1)) h.1 in
+        (c.0, c.1, c.2 ∙ ap (λ l. (l, c.0)) (append_assoc before (r.0 ∷ []) xs ∙ ap (λ y. before ++ y ∷ xs) (sym h.0.0)))
+
+    arguments_complete : (xs : List Argument) (g rest : List Terminal) → Separated (Passes (Spells m)) token.Comma xs g
         → (d : ℕ) × (d ≤ m) × (arguments_by sub (g ++ Sign token.RightParenthesis ∷ rest) ≡ Some ((xs, d), rest))
     arguments_complete [] g rest h = (0, omega arith, ap (λ t. arguments_by sub (t ++ Sign token.RightParenthesis ∷ rest)) h)
     arguments_complete (x ∷ xs) g rest h =
         let ts = g ++ Sign token.RightParenthesis ∷ rest in
         let long : length ts ≡ length g + length (Sign token.RightParenthesis ∷ rest) = length-append g (Sign token.RightParenthesis ∷ rest) in
         let split : ts ≡ h.0 ++ (h.1 ++ Sign token.RightParenthesis ∷ rest) = ap (λ t. t ++ Sign token.RightParenthesis ∷ rest) h.2 ∙ append_assoc h.0 h.1 (Sign token.RightParenthesis ∷ rest) in
-        let open_yet : after_close ts ≡ None = ap after_close split ∙ not_closed m 1 x h.0 h.3 (h.1 ++ Sign token.RightParenthesis ∷ rest) in
-        let s = separated_complete with_argument (λ r. r.2) (sub 1) after_comma after_close token.Comma (Sign token.RightParenthesis) (Spells m 1) Read Follows argument_read
-        (λ e f more h. not_closed m 1 e f h more) (λ ts. refl) (λ ts. refl) (λ ts. refl) (λ ts. (omega arith, refl)) (λ ts. (omega arith, refl))
+        let open_yet : after_close ts ≡ None = ap after_close split ∙ argument_open x h.0 (h.1 ++ Sign token.RightParenthesis ∷ rest) h.3 in
+        let s = separated_complete with_argument (λ r. r.2) (argument_by sub) after_comma after_close token.Comma (Sign token.RightParenthesis) (Passes (Spells m)) Read Follows argument_read
+        argument_open (λ ts. refl) (λ ts. refl) (λ ts. refl) (λ ts. (omega arith, refl, refl)) (λ ts. (omega arith, refl, refl))
         (length ts) ([], 0) (x ∷ xs) g rest (omega arith) (omega arith) h in
         let c = collected [] (x ∷ xs) 0 s.0 (omega arith) s.1 in
         (c.0, c.1, ap (arguments_from sub ts) open_yet ∙ s.2 ∙ ap (λ b. Some (b, rest)) c.2)
@@ -271,21 +303,22 @@ module _ (n : ℕ) (sub : Parser) (complete : IsComplete n sub) where
         ∙ within_ok (n + 1) (Binary op a b) d rest shallow
         )
 
-    call_reached : (m : ℕ) → (le : m ≤ n) → Hypothesis m → (a : Expr) (args : tree.Exprs) (f g rest : List Terminal) → Spells m 18 a f → Separated (Spells m 1) token.Comma (items_of args) g
-        → Reaches (suc m) (Call a args) (f ++ Sign token.LeftParenthesis ∷ (g ++ Sign token.RightParenthesis ∷ [])) rest
-    call_reached m le ih a args f g rest ha hs =
+    call_reached : (m : ℕ) → (le : m ≤ n) → Hypothesis m → (a : Expr) (args : tree.Exprs) (names : List (List ℕ)) (passed : List Argument) (f g rest : List Terminal) → Spells m 18 a f
+        → IsPassed passed (items_of args) names → Separated (Passes (Spells m)) token.Comma passed g → Reaches (suc m) (Call a args names) (f ++ Sign token.LeftParenthesis ∷ (g ++ Sign token.RightParenthesis ∷ [])) rest
+    call_reached m le ih a args names passed f g rest ha once hs =
         let tail = Sign token.LeftParenthesis ∷ (g ++ Sign token.RightParenthesis ∷ []) in
         let left = ih 18 a f (tail ++ rest) ha (omega arith) refl (omega arith) in
-        let right = arguments_complete m le (items_of args) g rest hs in
+        let right = arguments_complete m le passed g rest hs in
         let d = max left.0 right.0 + 1 in
         let shallow : d ≤ n + 1 = omega (arith, left.2, right.1) in
         let same : (g ++ Sign token.RightParenthesis ∷ []) ++ rest ≡ g ++ Sign token.RightParenthesis ∷ rest = append_assoc g (Sign token.RightParenthesis ∷ []) rest in
-        extends m a (Call a args) f tail rest d left (omega arith) (omega (arith, left.2, right.1)) (omega arith)
+        extends m a (Call a args names) f tail rest d left (omega arith) (omega (arith, left.2, right.1)) (omega arith)
         (
         ap (λ t. call_by sub (n + 1) a left.0 t) same
-        ∙ ap (λ r. then_read r (λ r. within (n + 1) (Call a (exprs_of r.0.0)) (max left.0 r.0.1 + 1) r.1)) right.2
-        ∙ ap (λ t. within (n + 1) (Call a t) d rest) (exprs_of_items args)
-        ∙ within_ok (n + 1) (Call a args) d rest shallow
+        ∙ ap (λ r. then_read r (called (n + 1) a left.0)) right.2
+        ∙ ap (λ p. then_read p (λ p. within (n + 1) (Call a (exprs_of p.0) p.1) d rest)) (passed_complete passed (items_of args) names once)
+        ∙ ap (λ t. within (n + 1) (Call a t names) d rest) (exprs_of_items args)
+        ∙ within_ok (n + 1) (Call a args names) d rest shallow
         )
 
     unary_reached : (m : ℕ) → m ≤ n → (level : ℕ) (op : UnaryOperator) (a : Expr) (f rest : List Terminal) → level ≤ prefix_level op → Spells m (prefix_level op) a f → strength_at rest ≤ level → begins_str rest ≡ false → l ≤ level
@@ -390,8 +423,10 @@ module _ (n : ℕ) (sub : Parser) (complete : IsComplete n sub) where
         moved (suc m) (Unary op a) (prefix_of op ∷ h.0) front rest h.1 (unary_reached m (omega arith) level op a h.0 rest h.2 h.3 weak plain at)
     reached (suc m) le level (Binary op a b) front rest (inl h) weak plain at =
         moved (suc m) (Binary op a b) (h.0 ++ Sign (symbol_of op) ∷ h.1) front rest h.2 (binary_reached m (omega arith) (reached m (omega arith)) level op a b h.0 h.1 rest h.3 h.4 h.5 weak plain at)
-    reached (suc m) le level (Call a args) front rest (inl h) weak plain at =
-        moved (suc m) (Call a args) (h.0 ++ Sign token.LeftParenthesis ∷ (h.1 ++ Sign token.RightParenthesis ∷ [])) front rest h.2 (call_reached m (omega arith) (reached m (omega arith)) a args h.0 h.1 rest h.4 h.5)
+    reached (suc m) le level (Constant (Function x i)) front rest (inl h) weak plain at = absurd h
+    reached (suc m) le level (Call a args names) front rest (inl h) weak plain at =
+        moved (suc m) (Call a args names) (h.0 ++ Sign token.LeftParenthesis ∷ (h.1 ++ Sign token.RightParenthesis ∷ [])) front rest h.3
+        (call_reached m (omega arith) (reached m (omega arith)) a args names h.2 h.0 h.1 rest h.5 h.6 h.7)
     reached (suc m) le level (Compare a cs) front rest (inl h) weak plain at =
         moved (suc m) (Compare a cs) (h.0 ++ h.1) front rest h.2 (compare_reached m (omega arith) (reached m (omega arith)) level a cs h.0 h.1 rest h.3 h.4 h.5 h.6 weak plain at)
     reached (suc m) le level (Boolean op a others) front rest (inl h) weak plain at =

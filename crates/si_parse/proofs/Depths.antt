@@ -1,23 +1,48 @@
 -- A tree is no deeper than its terminals are nested.
-use Rattle.std.proofs.Common.{◌≡◌, ℕ, zero, suc, ◌+◌, ◌<◌, ◌≤◌, List, [], ◌∷◌, ◌++◌, inl, inr, length, sym, ap, ◌∙◌, subst, arith}
+use Rattle.std.proofs.Common.{◌≡◌, ℕ, zero, suc, ◌≤◌, List, [], ◌∷◌, ◌++◌, inl, inr, map, Some, None, refl, sym, ap, ◌∙◌, subst, arith}
 use Rattle.std.specs.Prelude.{flat_map}
 use Rattle.std.specs.List.{AllByRecursion}
-use Rattle.si_semantics.specs.Tree.{BooleanOperator, Expr, Constant, Name, Unary, Binary, Call, Boolean, Compare, Conditional, Exprs, NoExprs, MoreExprs, Comparisons, NoComparisons, MoreComparisons, Stmt, Evaluate, Assign, Augment, Pass, If, While, Break, Continue, Stmts, NoStmts, MoreStmts}
+use Rattle.si_semantics.specs.Value.{Text}
+use Rattle.si_semantics.specs.Tree.{BooleanOperator, Expr, Constant, Name, Unary, Binary, Call, Boolean, Compare, Conditional, Exprs, NoExprs, MoreExprs, Comparisons, NoComparisons, MoreComparisons, Stmt, Evaluate, Assign, Augment, Pass, If, While, Break, Continue, Define, Return, Global, Stmts}
 use Rattle.si_semantics.specs.Tokens as token
-use Rattle.si_semantics.specs.Grammar.{Terminal, Word, left_level, right_level, prefix_level, item_level, word_of, Many, Behind, Following, Separated, items_of, links_of, Compares, Spells, max_depth, Small, Simple, stmts_of, Lines, Block, Suite, Branch, Tested, Otherwise, elifs_of, Compound, Nests, depth_of, depth_of_all, depth_of_chain, IsShallow, AreShallow}
+use Rattle.si_semantics.specs.Grammar.{Terminal, Word, left_level, right_level, prefix_level, item_level, word_of, Many, Behind, Following, Separated, Argument, Positional, ByName, Passes, IsPassed, items_of, exprs_of, links_of, Compares, Spells, max_depth, Small, Simple, stmts_of, Lines, Suite, Branch, Tested, Otherwise, elifs_of, Compound, Nests, depth_of, depth_of_all, depth_of_chain, IsShallow, AreShallow}
+use Rattle.si_parse.proofs.Laws.{exprs_of_items}
 
 -- ---- expressions
 
 abbrev Bounded : ℕ → Type 0
 Bounded n = (l : ℕ) (e : Expr) (f : List Terminal) → Spells n l e f → depth_of e ≤ n
 
-following_bounded : (n : ℕ) → Bounded n → (args : Exprs) (g : List Terminal) → Following (Spells n 1) token.Comma (items_of args) g → depth_of_all args ≤ n
-following_bounded n b NoExprs g h = omega arith
-following_bounded n b (MoreExprs a rest) g h = omega (arith, b 1 a h.0 h.3, following_bounded n b rest h.1 h.4)
+-- the expression of an argument
+abbrev value_of : Argument → Expr
+value_of (Positional e) = e
+value_of (ByName x e) = e
 
-arguments_bounded : (n : ℕ) → Bounded n → (args : Exprs) (g : List Terminal) → Separated (Spells n 1) token.Comma (items_of args) g → depth_of_all args ≤ n
-arguments_bounded n b NoExprs g h = omega arith
-arguments_bounded n b (MoreExprs a rest) g h = omega (arith, b 1 a h.0 h.3, following_bounded n b rest h.1 h.4)
+argument_bounded : (n : ℕ) → Bounded n → (a : Argument) (f : List Terminal) → Passes (Spells n) a f → depth_of (value_of a) ≤ n
+argument_bounded n b (Positional e) f h = b 1 e f h
+argument_bounded n b (ByName x e) f h = b 1 e h.0 h.2
+
+following_bounded : (n : ℕ) → Bounded n → (arguments : List Argument) (g : List Terminal) → Following (Passes (Spells n)) token.Comma arguments g → depth_of_all (exprs_of (map value_of arguments)) ≤ n
+following_bounded n b [] g h = omega arith
+following_bounded n b (a ∷ rest) g h = omega (arith, argument_bounded n b a h.0 h.3, following_bounded n b rest h.1 h.4)
+
+separated_bounded : (n : ℕ) → Bounded n → (arguments : List Argument) (g : List Terminal) → Separated (Passes (Spells n)) token.Comma arguments g → depth_of_all (exprs_of (map value_of arguments)) ≤ n
+separated_bounded n b [] g h = omega arith
+separated_bounded n b (a ∷ rest) g h = omega (arith, argument_bounded n b a h.0 h.3, following_bounded n b rest h.1 h.4)
+
+named_values : (named : List (Text × Expr)) → map value_of (map (λ p. ByName p.0 p.1) named) ≡ map (λ p. p.1) named
+named_values [] = refl
+named_values (p ∷ named) = ap (λ l. p.1 ∷ l) (named_values named)
+
+ordered_values : (positional : List Expr) (named : List (Text × Expr)) → map value_of (map Positional positional ++ map (λ p. ByName p.0 p.1) named) ≡ positional ++ map (λ p. p.1) named
+ordered_values [] named = named_values named
+ordered_values (e ∷ positional) named = ap (λ l. e ∷ l) (ordered_values positional named)
+
+arguments_bounded : (n : ℕ) → Bounded n → (arguments : List Argument) (args : Exprs) (names : List Text) (g : List Terminal) → IsPassed arguments (items_of args) names → Separated (Passes (Spells n)) token.Comma arguments g
+    → depth_of_all args ≤ n
+arguments_bounded n b arguments args names g p h =
+    let values : map value_of arguments ≡ items_of args = ap (map value_of) p.in_order ∙ ordered_values p.positional p.named ∙ sym p.values_are in
+    subst (λ es. depth_of_all es ≤ n) (ap exprs_of values ∙ exprs_of_items args) (separated_bounded n b arguments g h)
 
 chain_bounded : (n : ℕ) → Bounded n → (cs : Comparisons) (g : List Terminal) → Many (Compares (Spells n)) (links_of cs) g → depth_of_chain cs ≤ n
 chain_bounded n b NoComparisons g h = omega arith
@@ -34,7 +59,7 @@ bounded (suc n) l (Name x) f (inl h) = omega arith
 bounded (suc n) l (Constant v) f (inl h) = omega arith
 bounded (suc n) l (Unary op a) f (inl h) = omega (arith, bounded n (prefix_level op) a h.0 h.3)
 bounded (suc n) l (Binary op a b) f (inl h) = omega (arith, bounded n (left_level op) a h.0 h.4, bounded n (right_level op) b h.1 h.5)
-bounded (suc n) l (Call a args) f (inl h) = omega (arith, bounded n 18 a h.0 h.4, arguments_bounded n (bounded n) args h.1 h.5)
+bounded (suc n) l (Call a args names) f (inl h) = omega (arith, bounded n 18 a h.0 h.5, arguments_bounded n (bounded n) h.2 args names h.1 h.6 h.7)
 bounded (suc n) l (Compare a cs) f (inl h) = omega (arith, bounded n 10 a h.0 h.4, chain_bounded n (bounded n) cs h.1 h.6)
 bounded (suc n) l (Boolean op a others) f (inl h) = omega (arith, bounded n (item_level op) a h.0 h.4, operands_bounded n (bounded n) op others h.1 h.6)
 bounded (suc n) l (Conditional test value other) f (inl h) = omega (arith, bounded n 3 value h.0 h.5, bounded n 3 test h.1 h.6, bounded n 1 other h.2 h.7)
@@ -48,6 +73,10 @@ small_shallow (Augment x op e) f h = bounded max_depth 1 e h.1 h.4
 small_shallow Pass f h = tt
 small_shallow Break f h = tt
 small_shallow Continue f h = tt
+small_shallow (Return None) f h = omega arith
+small_shallow (Return (Some e)) f h = bounded max_depth 1 e h.0 h.2
+small_shallow (Global xs) f h = tt
+small_shallow (Define x ps body) f h = absurd h
 small_shallow (If test body other) f h = absurd h
 small_shallow (While test body other) f h = absurd h
 
@@ -94,6 +123,9 @@ module _ (L : Lines) (shallow : Shallow L) where
   compound_shallow (If test body other) f h =
       (bounded max_depth 1 test h.7.0 h.7.3, suite_shallow body h.7.1 h.7.4, subst AreShallow (sym h.6) (elifs_shallow h.0 h.1 h.3 h.8 (last_shallow h.1 h.4 h.9)))
   compound_shallow (While test body other) f h = (bounded max_depth 1 test h.1.2.0 h.1.2.3, suite_shallow body h.1.2.1 h.1.2.4, subst AreShallow (sym h.0) tt)
+  compound_shallow (Define x ps body) f h = (h.4, suite_shallow body h.1 h.5)
+  compound_shallow (Return a) f h = absurd h
+  compound_shallow (Global xs) f h = absurd h
   compound_shallow (Evaluate e) f h = absurd h
   compound_shallow (Assign x e) f h = absurd h
   compound_shallow (Augment x op e) f h = absurd h

@@ -1,13 +1,13 @@
 -- Laws of the grammar: a limit may be raised, and a looser level asked.
-use Rattle.std.proofs.Common.{◌≡◌, ℕ, zero, suc, ◌+◌, ◌<◌, ◌≤◌, List, [], ◌∷◌, ◌++◌, inl, inr, Option, Some, None, refl, sym, ap, ◌∙◌, subst, arith, add-one}
+use Rattle.std.proofs.Common.{◌≡◌, ℕ, zero, suc, ◌+◌, ◌≤◌, List, [], ◌∷◌, ◌++◌, inl, inr, Option, Some, None, refl, sym, ap, ◌∙◌, subst, arith, add-one}
 use Rattle.std.specs.Prelude.{option_map}
-use Rattle.si_semantics.specs.Value.{Nothing, Truth, Int, Str, Provided}
+use Rattle.si_semantics.specs.Value.{Nothing, Truth, Int, Str, Provided, Function}
 use Rattle.si_semantics.specs.Tree.{UnaryOperator, ComparisonOperator, BooleanOperator, Expr, Constant, Name, Unary, Binary, Call, Boolean, Compare, Conditional, Exprs, NoExprs, MoreExprs, Comparisons, NoComparisons, MoreComparisons}
 use Rattle.si_semantics.specs.Tree as tree
 use Rattle.si_semantics.specs.Tokens.{Symbol}
 use Rattle.si_semantics.specs.Tokens as token
-use Rattle.si_semantics.specs.Grammar.{Terminal, Sign, Word, NEWLINE, INDENT, Language, prefix_level, prefix_of, item_level, word_of, comparison_of, Many, Behind, Following, Separated, items_of, exprs_of, Link, links_of, chain_of, Compares, Produces, Spells}
-use Rattle.si_parse.specs.Reading.{then_read, rest_of, after_close, after_comma, after_semicolon, after_newline, after_colon, after_indent, after_if, after_elif, after_while, after_not, after_else, after_and, after_or, after_boolean, with_word, prefix_at, comparison_symbol, identity_from, comparison_at}
+use Rattle.si_semantics.specs.Grammar.{Terminal, NAME, Sign, Word, NEWLINE, INDENT, Language, prefix_level, prefix_of, item_level, word_of, comparison_of, Many, Behind, Following, Separated, Argument, Positional, ByName, Passes, items_of, exprs_of, Link, links_of, chain_of, Compares, Produces, Spells}
+use Rattle.si_parse.specs.Reading.{then_read, rest_of, after_close, after_equal, after_open, named_at, name_at, after_comma, after_semicolon, after_newline, after_colon, after_indent, after_if, after_elif, after_while, after_def, after_return, after_global, after_not, after_else, after_and, after_or, after_boolean, with_word, prefix_at, comparison_symbol, identity_from, comparison_at}
 
 -- ---- lists of items
 
@@ -36,6 +36,10 @@ Within E F = (l : ℕ) (e : Expr) (ts : List Terminal) → E l e ts → F l e ts
 pub compares_mono : (E F : Language) → Within E F → (x : Link) (ts : List Terminal) → Compares E x ts → Compares F x ts
 compares_mono E F w x ts h = (h.0, h.1, w 10 x.1 h.0 h.2, h.3)
 
+pub passes_mono : (E F : Language) → Within E F → (a : Argument) (ts : List Terminal) → Passes E a ts → Passes F a ts
+passes_mono E F w (Positional e) ts h = w 1 e ts h
+passes_mono E F w (ByName x e) ts h = (h.0, h.1, w 1 e h.0 h.2)
+
 pub behind_mono : (E F : Language) (t : Terminal) (l : ℕ) → Within E F → (e : Expr) (ts : List Terminal) → Behind t (E l) e ts → Behind t (F l) e ts
 behind_mono E F t l w e ts h = (h.0, h.1, w l e h.0 h.2)
 
@@ -48,7 +52,8 @@ produces_mono E F w l (Constant (Truth b)) ts h = h
 produces_mono E F w l (Constant (Provided b)) ts h = h
 produces_mono E F w l (Unary op a) ts h = (h.0, h.1, h.2, w (prefix_level op) a h.0 h.3)
 produces_mono E F w l (Binary op a b) ts h = (h.0, h.1, h.2, h.3, w _ a h.0 h.4, w _ b h.1 h.5)
-produces_mono E F w l (Call a args) ts h = (h.0, h.1, h.2, h.3, w _ a h.0 h.4, separated_mono (E 1) (F 1) token.Comma (w 1) (items_of args) h.1 h.5)
+produces_mono E F w l (Constant (Function x k)) ts h = h
+produces_mono E F w l (Call a args names) ts h = (h.0, h.1, h.2, h.3, h.4, w _ a h.0 h.5, h.6, separated_mono (Passes E) (Passes F) token.Comma (passes_mono E F w) h.2 h.1 h.7)
 produces_mono E F w l (Compare a cs) ts h = (h.0, h.1, h.2, h.3, w 10 a h.0 h.4, h.5, many_mono (Compares E) (Compares F) (compares_mono E F w) (links_of cs) h.1 h.6)
 produces_mono E F w l (Boolean op a others) ts h = (
   h.0,
@@ -70,7 +75,8 @@ produces_looser E k l (Constant (Truth b)) ts le h = h
 produces_looser E k l (Constant (Provided b)) ts le h = h
 produces_looser E k l (Unary op a) ts le h = (h.0, h.1, omega (arith, h.2), h.3)
 produces_looser E k l (Binary op a b) ts le h = (h.0, h.1, h.2, omega (arith, h.3), h.4, h.5)
-produces_looser E k l (Call a args) ts le h = (h.0, h.1, h.2, omega (arith, h.3), h.4, h.5)
+produces_looser E k l (Constant (Function x i)) ts le h = h
+produces_looser E k l (Call a args names) ts le h = (h.0, h.1, h.2, h.3, omega (arith, h.4), h.5, h.6, h.7)
 produces_looser E k l (Compare a cs) ts le h = (h.0, h.1, h.2, omega (arith, h.3), h.4, h.5, h.6)
 produces_looser E k l (Boolean op a others) ts le h = (h.0, h.1, h.2, omega (arith, h.3), h.4, h.5, h.6)
 produces_looser E k l (Conditional test value other) ts le h = (h.0, h.1, h.2, h.3, omega (arith, h.4), h.5, h.6, h.7)
@@ -112,6 +118,21 @@ after_comma_some [] rest h = cc
 after_comma_some (Sign token.Comma ∷ ts) rest h = let e : ts ≡ rest = cc in ap (λ l. Sign token.Comma ∷ l) e
 after_comma_some (_ ∷ ts) rest h = cc
 
+pub after_equal_some : (ts rest : List Terminal) → after_equal ts ≡ Some rest → ts ≡ Sign token.Equal ∷ rest
+after_equal_some [] rest h = cc
+after_equal_some (Sign token.Equal ∷ ts) rest h = let e : ts ≡ rest = cc in ap (λ l. Sign token.Equal ∷ l) e
+after_equal_some (_ ∷ ts) rest h = cc
+
+name_from : (x : List ℕ) (ts : List Terminal) (o : Option (List Terminal)) → after_equal ts ≡ o → (n : List ℕ × List Terminal) → option_map {U = List ℕ × List Terminal} (λ rest. (x, rest)) o ≡ Some n → NAME x ∷ ts ≡ NAME n.0 ∷ (Sign token.Equal ∷ n.1)
+name_from x ts None is n h = cc
+name_from x ts (Some rest) is n h =
+    ap (λ l. NAME x ∷ l) (after_equal_some ts rest is) ∙ ap (λ p. NAME p.0 ∷ (Sign token.Equal ∷ p.1)) (some_inj (x, rest) n h)
+
+pub named_at_some : (ts : List Terminal) (n : List ℕ × List Terminal) → named_at ts ≡ Some n → ts ≡ NAME n.0 ∷ (Sign token.Equal ∷ n.1)
+named_at_some [] n h = cc
+named_at_some (NAME x ∷ ts) n h = name_from x ts (after_equal ts) refl n h
+named_at_some (_ ∷ ts) n h = cc
+
 pub after_semicolon_some : (ts rest : List Terminal) → after_semicolon ts ≡ Some rest → ts ≡ Sign token.Semicolon ∷ rest
 after_semicolon_some [] rest h = cc
 after_semicolon_some (Sign token.Semicolon ∷ ts) rest h = let e : ts ≡ rest = cc in ap (λ l. Sign token.Semicolon ∷ l) e
@@ -146,6 +167,31 @@ pub after_while_some : (ts rest : List Terminal) → after_while ts ≡ Some res
 after_while_some [] rest h = cc
 after_while_some (Word token.WhileWord ∷ ts) rest h = let e : ts ≡ rest = cc in ap (λ l. Word token.WhileWord ∷ l) e
 after_while_some (_ ∷ ts) rest h = cc
+
+pub after_open_some : (ts rest : List Terminal) → after_open ts ≡ Some rest → ts ≡ Sign token.LeftParenthesis ∷ rest
+after_open_some [] rest h = cc
+after_open_some (Sign token.LeftParenthesis ∷ ts) rest h = let e : ts ≡ rest = cc in ap (λ l. Sign token.LeftParenthesis ∷ l) e
+after_open_some (_ ∷ ts) rest h = cc
+
+pub after_def_some : (ts rest : List Terminal) → after_def ts ≡ Some rest → ts ≡ Word token.DefWord ∷ rest
+after_def_some [] rest h = cc
+after_def_some (Word token.DefWord ∷ ts) rest h = let e : ts ≡ rest = cc in ap (λ l. Word token.DefWord ∷ l) e
+after_def_some (_ ∷ ts) rest h = cc
+
+pub after_return_some : (ts rest : List Terminal) → after_return ts ≡ Some rest → ts ≡ Word token.ReturnWord ∷ rest
+after_return_some [] rest h = cc
+after_return_some (Word token.ReturnWord ∷ ts) rest h = let e : ts ≡ rest = cc in ap (λ l. Word token.ReturnWord ∷ l) e
+after_return_some (_ ∷ ts) rest h = cc
+
+pub after_global_some : (ts rest : List Terminal) → after_global ts ≡ Some rest → ts ≡ Word token.GlobalWord ∷ rest
+after_global_some [] rest h = cc
+after_global_some (Word token.GlobalWord ∷ ts) rest h = let e : ts ≡ rest = cc in ap (λ l. Word token.GlobalWord ∷ l) e
+after_global_some (_ ∷ ts) rest h = cc
+
+pub name_at_some : (ts : List Terminal) (n : List ℕ × List Terminal) → name_at ts ≡ Some n → ts ≡ NAME n.0 ∷ n.1
+name_at_some [] n h = cc
+name_at_some (NAME x ∷ ts) n h = ap (λ p. NAME p.0 ∷ p.1) (some_inj (x, ts) n h)
+name_at_some (_ ∷ ts) n h = cc
 
 pub after_not_some : (ts rest : List Terminal) → after_not ts ≡ Some rest → ts ≡ Word token.NotWord ∷ rest
 after_not_some [] rest h = cc

@@ -6,6 +6,8 @@ pub mod Strings
 pub mod Laws
 pub mod Levels
 pub mod Lists
+pub mod Passed
+pub mod Names
 pub mod Chains
 pub mod Starts
 pub mod Sound

@@ -1,6 +1,7 @@
 -- Items one after the other, and items with separators: what is read is spelled, and what is spelled is read.
 use Rattle.std.proofs.Common.{◌≡◌, ℕ, zero, suc, ◌+◌, ◌<◌, ◌≤◌, List, [], ◌∷◌, ◌++◌, ◌⊎◌, inl, inr, length, Option, Some, None, Bool, true, false, refl, sym, ap, ◌∙◌, subst, ⊎_elim, arith, append_assoc, length-append}
-use Rattle.std.specs.Prelude.{if◌then◌else◌}
+use Rattle.std.specs.Prelude.{nat_le, if◌then◌else◌}
+use Rattle.std.proofs.lemmas.Bool.Decides.{nat_tests}
 use Rattle.si_semantics.specs.Tokens.{Symbol}
 use Rattle.si_semantics.specs.Grammar.{Terminal, Sign, Many, Following, Separated}
 use Rattle.si_parse.specs.Reading.{Step, then_read, closing_from, closing, behind_item, separated_by, many_by}
@@ -10,6 +11,12 @@ use Rattle.si_parse.proofs.Laws.{then_read_some, some_inj, Items}
 pub chosen : {A : Type 0} (b : Bool) (x y z : A) → (if b then x else y) ≡ z → ((b ≡ true) × (x ≡ z)) ⊎ ((b ≡ false) × (y ≡ z))
 chosen true x y z h = inl (refl, h)
 chosen false x y z h = inr (refl, h)
+
+pub le_from : (a b : ℕ) → nat_le a b ≡ true → a ≤ b
+le_from a b h = grind (arith, nat_tests)
+
+pub le_to : (a b : ℕ) → a ≤ b → nat_le a b ≡ true
+le_to a b h = grind (arith, nat_tests)
 
 -- all added, from the left
 abbrev pub added : {R B : Type 0} → (B → R → B) → B → List R → B

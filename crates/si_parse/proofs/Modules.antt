@@ -1,5 +1,5 @@
 -- A module: what is read is in the grammar, what is in the grammar is read, and no tree is too deep.
-use Rattle.std.proofs.Common.{◌≡◌, ℕ, zero, suc, ◌+◌, ◌<◌, ◌≤◌, List, [], ◌∷◌, ◌++◌, length, Option, Some, None, true, false, refl, sym, ap, ◌∙◌, subst, arith, length-append}
+use Rattle.std.proofs.Common.{◌≡◌, ◌<◌, List, [], ◌∷◌, ◌++◌, length, Option, Some, None, true, false, refl, sym, ap, ◌∙◌, subst, arith, length-append}
 use Rattle.std.specs.Prelude.{option_map}
 use Rattle.std.specs.List.{AllByRecursion}
 use Rattle.si_semantics.specs.Tree.{Stmt, Stmts}
@@ -8,7 +8,7 @@ use Rattle.si_parse.specs.Reading.{block_at, many_by, is_end, module_by}
 use Rattle.si_parse.proofs.Laws.{some_inj}
 use Rattle.si_parse.proofs.Lists.{many_sound, many_complete}
 use Rattle.si_parse.proofs.Statements.{with_line}
-use Rattle.si_parse.proofs.Blocks.{all_of, added_lines, block_sound, Ends, Begun, begun, block_complete}
+use Rattle.si_parse.proofs.Blocks.{all_of, added_lines, block_sound, Ends, begun, block_complete}
 use Rattle.si_parse.proofs.Depths.{lines_shallow, nests_shallow}
 
 two : (t u : Terminal) (ts : List Terminal) → is_end (t ∷ (u ∷ ts)) ≡ false

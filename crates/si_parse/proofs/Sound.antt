@@ -4,16 +4,17 @@ use Rattle.std.specs.Prelude.{nat_lt, nat_le, nat_eq, ◌&&◌, not}
 use Rattle.std.proofs.lemmas.Bool.Decides.{nat_tests}
 use Rattle.std.proofs.lemmas.Option.{cond_some}
 use Rattle.std.proofs.lemmas.List.{append-nil}
-use Rattle.si_semantics.specs.Value.{Nothing, Truth, Int, Str, Provided}
+use Rattle.si_semantics.specs.Value.{Nothing, Truth, Int, Str}
 use Rattle.si_semantics.specs.Tree.{BinaryOperator, Add, Subtract, Multiply, FloorDivide, Modulo, Power, BitOr, BitXor, BitAnd, ShiftLeft, ShiftRight, UnaryOperator, ComparisonOperator, BooleanOperator, Expr, Constant, Name, Unary, Binary, Call, Boolean, Compare, Conditional}
 use Rattle.si_semantics.specs.Tree as tree
 use Rattle.si_semantics.specs.Tokens.{Symbol, Keyword}
 use Rattle.si_semantics.specs.Tokens as token
-use Rattle.si_semantics.specs.Grammar.{Terminal, NAME, NUMBER, STRING, Sign, Word, value_of_int, value_of_str, level_of, left_level, right_level, symbol_of, prefix_level, prefix_of, boolean_level, item_level, word_of, comparison_of, is_identity, Many, Behind, Following, Separated, exprs_of, items_of, Link, links_of, chain_of, Compares, Strings, Spells}
-use Rattle.si_parse.specs.Reading.{boolean, continuation_at, strength_of, strength_at, then_read, rest_of, after_close, after_comma, after_else, after_boolean, with_word, comparison_at, Found, Parser, Collected, with_argument, arguments_from, arguments_by, within, binary_by, call_by, operands_by, boolean_by, is_singleton, compared_to, compared_by, links_by, compare_by, other_by, conditional_by, extended_by, identity_from, after_not, continued_by, closed, strings_by, prefix_at, unary_by, bracketed_by, atom_by, operand_from, operand_by, expression_at}
-use Rattle.si_parse.proofs.Laws.{spells_looser, spells_deeper, node, bracketed, then_read_some, some_inj, after_close_some, after_comma_some, after_else_some, with_word_some, with_word_none, prefix_at_some, comparison_at_some, links_of_chain, items_of_exprs, separated_mono, many_mono, compares_mono, behind_mono}
+use Rattle.si_semantics.specs.Grammar.{Terminal, NAME, NUMBER, STRING, Sign, Word, value_of_int, value_of_str, level_of, left_level, right_level, symbol_of, prefix_level, prefix_of, boolean_level, item_level, word_of, comparison_of, is_identity, Many, Behind, Following, Separated, Argument, Positional, ByName, Passes, IsPassed, exprs_of, items_of, links_of, chain_of, Compares, Strings, Spells}
+use Rattle.si_parse.specs.Reading.{Argued, named_at, argument_from, argument_by, passed_from, called, boolean, continuation_at, strength_of, strength_at, then_read, rest_of, after_close, after_comma, after_else, after_boolean, with_word, comparison_at, Found, Parser, with_argument, arguments_from, arguments_by, within, binary_by, call_by, operands_by, boolean_by, is_singleton, compared_to, compared_by, links_by, compare_by, other_by, conditional_by, extended_by, identity_from, after_not, continued_by, closed, strings_by, prefix_at, unary_by, bracketed_by, atom_by, operand_from, operand_by, expression_at}
+use Rattle.si_parse.proofs.Laws.{named_at_some, passes_mono, spells_looser, spells_deeper, node, bracketed, then_read_some, some_inj, after_close_some, after_comma_some, after_else_some, with_word_some, with_word_none, prefix_at_some, comparison_at_some, links_of_chain, items_of_exprs, separated_mono, many_mono, compares_mono, behind_mono}
 use Rattle.si_parse.proofs.Levels.{strength_at_most, right_stops, right_bound, level_reached, Apart, high, at_condition, at_disjunction, at_comparison, right_apart, level_apart, prefix_apart, prefix_bound, boolean_apart, item_apart, item_bound, condition_up, condition_down, comparison_up, comparison_down, boolean_up, boolean_down, boolean_strength, after_word, boolean_ends, comparison_ends}
-use Rattle.si_parse.proofs.Lists.{chosen, added, separated_sound}
+use Rattle.si_parse.proofs.Lists.{le_from, chosen, added, separated_sound}
+use Rattle.si_parse.proofs.Passed.{passed_sound}
 use Rattle.si_parse.proofs.Chains.{some_items, chain_sound}
 
 -- what a parser of expressions reads from the terminals
@@ -35,9 +36,6 @@ pub record Stands (l : ℕ) (ts : List Terminal) (r : Found) : Type 0 where
 
 abbrev pub IsSound : ℕ → Parser → Type 0
 IsSound n sub = (l : ℕ) → l ≤ 16 → Apart l → (ts : List Terminal) (r : Found) → sub l ts ≡ Some r → Reads l ts r × (r.1 ≤ n)
-
-le_from : (a b : ℕ) → nat_le a b ≡ true → a ≤ b
-le_from a b h = grind (arith, nat_tests)
 
 lt_from : (a b : ℕ) → nat_lt a b ≡ true → a < b
 lt_from a b h = grind (arith, nat_tests)
@@ -64,57 +62,79 @@ strings_read text (t ∷ ts) r h =
 
 -- ---- arguments
 
-abbrev first : Found → Expr
+abbrev first : Argued → Argument
 first r = r.0
 
-abbrev deepest : ℕ → List Found → ℕ
+abbrev deepest : ℕ → List Argued → ℕ
 deepest d [] = d
 deepest d (x ∷ xs) = deepest (max d x.1) xs
 
-deepest_least : (d : ℕ) (xs : List Found) → d ≤ deepest d xs
+deepest_least : (d : ℕ) (xs : List Argued) → d ≤ deepest d xs
 deepest_least d [] = omega arith
 deepest_least d (x ∷ xs) = omega (arith, deepest_least (max d x.1) xs)
 
-added_is : (es : List Expr) (d : ℕ) (xs : List Found) → added with_argument (es, d) xs ≡ (es ++ map first xs, deepest d xs)
-added_is es d [] = ap (λ l. (l, d)) (sym (append-nil es))
-added_is es d (x ∷ xs) = added_is (es ++ x.0 ∷ []) (max d x.1) xs ∙ ap (λ l. (l, deepest (max d x.1) xs)) (append_assoc es (x.0 ∷ []) (map first xs))
+added_is : (arguments : List Argument) (d : ℕ) (xs : List Argued) → added with_argument (arguments, d) xs ≡ (arguments ++ map first xs, deepest d xs)
+added_is arguments d [] = ap (λ l. (l, d)) (sym (append-nil arguments))
+added_is arguments d (x ∷ xs) = added_is (arguments ++ x.0 ∷ []) (max d x.1) xs ∙ ap (λ l. (l, deepest (max d x.1) xs)) (append_assoc arguments (x.0 ∷ []) (map first xs))
 
 module _ (n : ℕ) (sub : Parser) (sound : IsSound n sub) where
-  abbrev Argument : Found → List Terminal → Type 0
-  Argument r f = Spells r.1 1 r.0 f × (r.1 ≤ n)
+  abbrev ArgumentRead : Argued → List Terminal → Type 0
+  ArgumentRead r f = Passes (Spells r.1) r.0 f × (r.1 ≤ n)
 
-  argument_sound : (ts : List Terminal) (r : Found) → sub 1 ts ≡ Some r → (f : List Terminal) × (ts ≡ f ++ r.2) × Argument r f
-  argument_sound ts r h = let a = sound 1 (omega arith) at_condition ts r h in (a.0.front, a.0.split, (a.0.spelled, a.1))
+  abbrev Stood : List Terminal → Argued → Type 0
+  Stood ts r = (f : List Terminal) × (ts ≡ f ++ r.2) × ArgumentRead r f
 
-  following_trees : (d top : ℕ) (xs : List Found) (g : List Terminal) → deepest d xs ≤ top → Following Argument token.Comma xs g → Following (Spells top 1) token.Comma (map first xs) g
+  argument_from_sound : (ts : List Terminal) (o : Option (List ℕ × List Terminal)) → named_at ts ≡ o → (r : Argued) → argument_from sub ts o ≡ Some r → Stood ts r
+  argument_from_sound ts (Some name) is r h =
+      let s = then_read_some (sub 1 name.1) (λ r. Some (ByName name.0 r.0, r.1, r.2)) r h in
+      let a = sound 1 (omega arith) at_condition name.1 s.0 s.1 in
+      let P : Argued → Type 0 = Stood ts in
+      subst P (some_inj (ByName name.0 s.0.0, s.0.1, s.0.2) r s.2) (
+        NAME name.0 ∷ (Sign token.Equal ∷ a.0.front),
+        named_at_some ts name is ∙ ap (λ l. NAME name.0 ∷ (Sign token.Equal ∷ l)) a.0.split,
+        ((a.0.front, refl, a.0.spelled), a.1),
+      )
+  argument_from_sound ts None is r h =
+      let s = then_read_some (sub 1 ts) (λ r. Some (Positional r.0, r.1, r.2)) r h in
+      let a = sound 1 (omega arith) at_condition ts s.0 s.1 in
+      let P : Argued → Type 0 = Stood ts in
+      subst P (some_inj (Positional s.0.0, s.0.1, s.0.2) r s.2) (a.0.front, a.0.split, (a.0.spelled, a.1))
+
+  argument_sound : (ts : List Terminal) (r : Argued) → argument_by sub ts ≡ Some r → Stood ts r
+  argument_sound ts r h = argument_from_sound ts (named_at ts) refl r h
+
+  deeper : (c d : ℕ) → c ≤ d → (a : Argument) (f : List Terminal) → Passes (Spells c) a f → Passes (Spells d) a f
+  deeper c d le a f h = passes_mono (Spells c) (Spells d) (spells_deeper c d le) a f h
+
+  following_trees : (d top : ℕ) (xs : List Argued) (g : List Terminal) → deepest d xs ≤ top → Following ArgumentRead token.Comma xs g → Following (Passes (Spells top)) token.Comma (map first xs) g
   following_trees d top [] g le h = h
   following_trees d top (x ∷ xs) g le h =
-      (h.0, h.1, h.2, spells_deeper x.1 top (omega (arith, deepest_least (max d x.1) xs)) 1 x.0 h.0 h.3.0, following_trees (max d x.1) top xs h.1 le h.4)
+      (h.0, h.1, h.2, deeper x.1 top (omega (arith, deepest_least (max d x.1) xs)) x.0 h.0 h.3.0, following_trees (max d x.1) top xs h.1 le h.4)
 
-  separated_trees : (d top : ℕ) (xs : List Found) (g : List Terminal) → deepest d xs ≤ top → Separated Argument token.Comma xs g → Separated (Spells top 1) token.Comma (map first xs) g
+  separated_trees : (d top : ℕ) (xs : List Argued) (g : List Terminal) → deepest d xs ≤ top → Separated ArgumentRead token.Comma xs g → Separated (Passes (Spells top)) token.Comma (map first xs) g
   separated_trees d top [] g le h = h
   separated_trees d top (x ∷ xs) g le h =
-      (h.0, h.1, h.2, spells_deeper x.1 top (omega (arith, deepest_least (max d x.1) xs)) 1 x.0 h.0 h.3.0, following_trees (max d x.1) top xs h.1 le h.4)
+      (h.0, h.1, h.2, deeper x.1 top (omega (arith, deepest_least (max d x.1) xs)) x.0 h.0 h.3.0, following_trees (max d x.1) top xs h.1 le h.4)
 
-  following_low : (d : ℕ) (xs : List Found) (g : List Terminal) → d ≤ n → Following Argument token.Comma xs g → deepest d xs ≤ n
+  following_low : (d : ℕ) (xs : List Argued) (g : List Terminal) → d ≤ n → Following ArgumentRead token.Comma xs g → deepest d xs ≤ n
   following_low d [] g le h = le
   following_low d (x ∷ xs) g le h = following_low (max d x.1) xs h.1 (omega (arith, h.3.1)) h.4
 
-  separated_low : (d : ℕ) (xs : List Found) (g : List Terminal) → d ≤ n → Separated Argument token.Comma xs g → deepest d xs ≤ n
+  separated_low : (d : ℕ) (xs : List Argued) (g : List Terminal) → d ≤ n → Separated ArgumentRead token.Comma xs g → deepest d xs ≤ n
   separated_low d [] g le h = le
   separated_low d (x ∷ xs) g le h = following_low (max d x.1) xs h.1 (omega (arith, h.3.1)) h.4
 
-  abbrev ArgumentsRead : List Terminal → Collected × List Terminal → Type 0
-  ArgumentsRead ts r = (g : List Terminal) × (ts ≡ g ++ Sign token.RightParenthesis ∷ r.1) × (r.0.1 ≤ n) × Separated (Spells r.0.1 1) token.Comma r.0.0 g
+  abbrev ArgumentsRead : List Terminal → (List Argument × ℕ) × List Terminal → Type 0
+  ArgumentsRead ts r = (g : List Terminal) × (ts ≡ g ++ Sign token.RightParenthesis ∷ r.1) × (r.0.1 ≤ n) × Separated (Passes (Spells r.0.1)) token.Comma r.0.0 g
 
-  arguments_read : (ts : List Terminal) (o : Option (List Terminal)) → after_close ts ≡ o → (r : Collected × List Terminal) → arguments_from sub ts o ≡ Some r → ArgumentsRead ts r
+  arguments_read : (ts : List Terminal) (o : Option (List Terminal)) → after_close ts ≡ o → (r : (List Argument × ℕ) × List Terminal) → arguments_from sub ts o ≡ Some r → ArgumentsRead ts r
   arguments_read ts (Some rest) is r h =
-      let P : Collected × List Terminal → Type 0 = ArgumentsRead ts in
+      let P : (List Argument × ℕ) × List Terminal → Type 0 = ArgumentsRead ts in
       subst P (some_inj (([], 0), rest) r h) ([], after_close_some ts rest is, omega arith, refl)
   arguments_read ts None is r h =
-      let s = separated_sound with_argument (λ r. r.2) (sub 1) after_comma after_close token.Comma (Sign token.RightParenthesis) Argument argument_sound after_comma_some after_close_some (length ts) ([], 0) ts r h in
+      let s = separated_sound with_argument (λ r. r.2) (argument_by sub) after_comma after_close token.Comma (Sign token.RightParenthesis) ArgumentRead argument_sound after_comma_some after_close_some (length ts) ([], 0) ts r h in
       let all : r.0 ≡ (map first s.0, deepest 0 s.0) = s.2 ∙ added_is [] 0 s.0 in
-      let P : Collected → Type 0 = λ c. (c.1 ≤ n) × Separated (Spells c.1 1) token.Comma c.0 s.1 in
+      let P : List Argument × ℕ → Type 0 = λ c. (c.1 ≤ n) × Separated (Passes (Spells c.1)) token.Comma c.0 s.1 in
       let p = subst P (sym all) (separated_low 0 s.0 s.1 (omega arith) s.5, separated_trees 0 (deepest 0 s.0) s.0 s.1 (omega arith) s.5) in
       (s.1, s.4, p.0, p.1)
 
@@ -253,19 +273,20 @@ module _ (n : ℕ) (sub : Parser) (sound : IsSound n sub) where
   call_reads : (front : List Terminal) (e : Expr) (d m : ℕ) (ts : List Terminal) (l : ℕ) (r : Found) → Spells d m e front → 18 ≤ m → l ≤ 16
       → call_by sub (n + 1) e d ts ≡ Some r → Longer front (Sign token.LeftParenthesis ∷ ts) l r
   call_reads front e d m ts l r spelled low le h =
-      let s = then_read_some (arguments_by sub ts) (λ r. within (n + 1) (Call e (exprs_of r.0.0)) (max d r.0.1 + 1) r.1) r h in
+      let s = then_read_some (arguments_by sub ts) (called (n + 1) e d) r h in
       let a = arguments_read ts (after_close ts) refl s.0 s.1 in
-      let w = within_some (n + 1) (Call e (exprs_of s.0.0.0)) (max d s.0.0.1 + 1) s.0.1 r s.2 in
+      let p = then_read_some (passed_from ([], []) s.0.0.0) (λ p. within (n + 1) (Call e (exprs_of p.0) p.1) (max d s.0.0.1 + 1) s.0.1) r s.2 in
+      let w = within_some (n + 1) (Call e (exprs_of p.0.0) p.0.1) (max d s.0.0.1 + 1) s.0.1 r p.2 in
       let P : Found → Type 0 = Longer front (Sign token.LeftParenthesis ∷ ts) l in
       let top = max d s.0.0.1 in
-      let deeper = separated_mono (Spells s.0.0.1 1) (Spells top 1) token.Comma (spells_deeper s.0.0.1 top (omega arith) 1) s.0.0.0 a.0 a.3 in
-      let read = subst (λ es. Separated (Spells top 1) token.Comma es a.0) (sym (items_of_exprs s.0.0.0)) deeper in
+      let read = separated_mono (Passes (Spells s.0.0.1)) (Passes (Spells top)) token.Comma (deeper s.0.0.1 top (omega arith)) s.0.0.0 a.0 a.3 in
+      let passed = subst (λ es. IsPassed s.0.0.0 es p.0.1) (sym (items_of_exprs p.0.0)) (passed_sound s.0.0.0 p.0 p.1) in
       let left = spells_deeper d top (omega arith) 18 e front (spells_looser d 18 m e front low spelled) in
       subst P w.1 (
         Sign token.LeftParenthesis ∷ (a.0 ++ Sign token.RightParenthesis ∷ []),
         ap (λ l. Sign token.LeftParenthesis ∷ l) (a.1 ∙ sym (append_assoc a.0 (Sign token.RightParenthesis ∷ []) s.0.1)),
         18,
-        node top 18 (Call e (exprs_of s.0.0.0)) (front ++ Sign token.LeftParenthesis ∷ (a.0 ++ Sign token.RightParenthesis ∷ [])) (front, a.0, refl, omega arith, left, read),
+        node top 18 (Call e (exprs_of p.0.0) p.0.1) (front ++ Sign token.LeftParenthesis ∷ (a.0 ++ Sign token.RightParenthesis ∷ [])) (front, a.0, s.0.0.0, refl, omega arith, left, passed, read),
         strength_at_most s.0.1,
         omega arith,
         w.0,

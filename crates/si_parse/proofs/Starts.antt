@@ -1,12 +1,12 @@
 -- How an expression begins: with a terminal of its own kind, and at least one.
-use Rattle.std.proofs.Common.{◌≡◌, ℕ, zero, suc, ◌+◌, ◌<◌, ◌≤◌, List, [], ◌∷◌, ◌++◌, inl, inr, length, Bool, Option, Some, None, true, false, refl, sym, ap, ◌∙◌, subst, arith, append_assoc, length-append}
-use Rattle.si_semantics.specs.Value.{Nothing, Truth, Int, Str, Provided}
+use Rattle.std.proofs.Common.{◌≡◌, ℕ, zero, suc, ◌<◌, ◌≤◌, List, [], ◌∷◌, ◌++◌, inl, inr, length, Bool, None, true, false, refl, sym, ap, ◌∙◌, subst, arith, append_assoc, length-append}
+use Rattle.si_semantics.specs.Value.{Nothing, Truth, Int, Str, Provided, Function}
 use Rattle.si_semantics.specs.Tree.{UnaryOperator, Expr, Constant, Name, Unary, Binary, Call, Boolean, Compare, Conditional}
 use Rattle.si_semantics.specs.Tree as tree
 use Rattle.si_semantics.specs.Tokens.{Keyword}
 use Rattle.si_semantics.specs.Tokens as token
 use Rattle.si_semantics.specs.Grammar.{Terminal, NAME, NUMBER, STRING, Sign, Word, NEWLINE, DEDENT, symbol_of, left_level, prefix_of, prefix_level, item_level, truth_word, Strings, Spells}
-use Rattle.si_parse.specs.Reading.{after_close, after_newline, after_not, after_if, after_while, after_elif, after_else, is_dedent, word_statement, is_singleton}
+use Rattle.si_parse.specs.Reading.{after_close, after_newline, after_not, after_if, after_while, after_def, after_return, after_global, ends_small, after_elif, after_else, is_dedent, word_statement, is_singleton}
 
 -- whether an operand may begin so
 abbrev pub is_operand : Terminal → Bool
@@ -54,10 +54,11 @@ expression_begins (suc m) l (Constant (Provided b)) f (inl h) x = absurd h
 expression_begins (suc m) l (Unary op a) f (inl h) x = ap (λ t. begins (t ++ x)) h.1 ∙ begins_prefix op
 expression_begins (suc m) l (Binary op a b) f (inl h) x =
     ap (λ t. begins (t ++ x)) h.2 ∙ ap begins (append_assoc h.0 (Sign (symbol_of op) ∷ h.1) x) ∙ expression_begins m (left_level op) a h.0 h.4 (Sign (symbol_of op) ∷ (h.1 ++ x))
-expression_begins (suc m) l (Call a args) f (inl h) x =
-    ap (λ t. begins (t ++ x)) h.2
+expression_begins (suc m) l (Constant (Function i k)) f (inl h) x = absurd h
+expression_begins (suc m) l (Call a args names) f (inl h) x =
+    ap (λ t. begins (t ++ x)) h.3
     ∙ ap begins (append_assoc h.0 (Sign token.LeftParenthesis ∷ (h.1 ++ Sign token.RightParenthesis ∷ [])) x)
-    ∙ expression_begins m 18 a h.0 h.4 (Sign token.LeftParenthesis ∷ ((h.1 ++ Sign token.RightParenthesis ∷ []) ++ x))
+    ∙ expression_begins m 18 a h.0 h.5 (Sign token.LeftParenthesis ∷ ((h.1 ++ Sign token.RightParenthesis ∷ []) ++ x))
 expression_begins (suc m) l (Compare a cs) f (inl h) x = ap (λ t. begins (t ++ x)) h.2 ∙ ap begins (append_assoc h.0 h.1 x) ∙ expression_begins m 10 a h.0 h.4 (h.1 ++ x)
 expression_begins (suc m) l (Boolean op a others) f (inl h) x = ap (λ t. begins (t ++ x)) h.2 ∙ ap begins (append_assoc h.0 h.1 x) ∙ expression_begins m (item_level op) a h.0 h.4 (h.1 ++ x)
 expression_begins (suc m) l (Conditional test value other) f (inl h) x =
@@ -83,12 +84,30 @@ word_not (Word token.BreakWord ∷ ts) h = cc
 word_not (Word token.ContinueWord ∷ ts) h = cc
 word_not (_ ∷ ts) h = refl
 
+pub return_not : (ts : List Terminal) → begins ts ≡ true → after_return ts ≡ None
+return_not [] h = cc
+return_not (Word token.ReturnWord ∷ ts) h = cc
+return_not (_ ∷ ts) h = refl
+
+pub global_not : (ts : List Terminal) → begins ts ≡ true → after_global ts ≡ None
+global_not [] h = cc
+global_not (Word token.GlobalWord ∷ ts) h = cc
+global_not (_ ∷ ts) h = refl
+
+pub ends_not : (ts : List Terminal) → begins ts ≡ true → ends_small ts ≡ false
+ends_not [] h = cc
+ends_not (NEWLINE ∷ ts) h = cc
+ends_not (Sign token.Semicolon ∷ ts) h = cc
+ends_not (_ ∷ ts) h = refl
+
 -- ---- how a small statement begins
 
 abbrev pub is_start : Terminal → Bool
 is_start (Word token.PassWord) = true
 is_start (Word token.BreakWord) = true
 is_start (Word token.ContinueWord) = true
+is_start (Word token.ReturnWord) = true
+is_start (Word token.GlobalWord) = true
 is_start t = is_operand t
 
 abbrev pub starts : List Terminal → Bool
@@ -100,6 +119,8 @@ starts_operand [] h = h
 starts_operand (Word token.PassWord ∷ ts) h = refl
 starts_operand (Word token.BreakWord ∷ ts) h = refl
 starts_operand (Word token.ContinueWord ∷ ts) h = refl
+starts_operand (Word token.ReturnWord ∷ ts) h = refl
+starts_operand (Word token.GlobalWord ∷ ts) h = refl
 starts_operand (_ ∷ ts) h = h
 
 pub newline_not : (ts : List Terminal) → starts ts ≡ true → after_newline ts ≡ None
@@ -121,6 +142,11 @@ pub while_not : (ts : List Terminal) → starts ts ≡ true → after_while ts �
 while_not [] h = cc
 while_not (Word token.WhileWord ∷ ts) h = cc
 while_not (_ ∷ ts) h = refl
+
+pub def_not : (ts : List Terminal) → starts ts ≡ true → after_def ts ≡ None
+def_not [] h = cc
+def_not (Word token.DefWord ∷ ts) h = cc
+def_not (_ ∷ ts) h = refl
 
 pub elif_not : (ts : List Terminal) → starts ts ≡ true → after_elif ts ≡ None
 elif_not [] h = cc
@@ -171,8 +197,9 @@ singleton (suc m) (Constant (Provided b)) w (inl h) = absurd h
 singleton (suc m) (Unary op a) w (inl h) = absurd (no_prefix op w h.0 h.2 h.1)
 singleton (suc m) (Binary op a b) w (inl h) =
     absurd (omega (arith, ap length h.2, length-append h.0 (Sign (symbol_of op) ∷ h.1), some_terminals m (left_level op) a h.0 h.4))
-singleton (suc m) (Call a args) w (inl h) =
-    absurd (omega (arith, ap length h.2, length-append h.0 (Sign token.LeftParenthesis ∷ (h.1 ++ Sign token.RightParenthesis ∷ [])), some_terminals m 18 a h.0 h.4))
+singleton (suc m) (Constant (Function x k)) w (inl h) = absurd h
+singleton (suc m) (Call a args names) w (inl h) =
+    absurd (omega (arith, ap length h.3, length-append h.0 (Sign token.LeftParenthesis ∷ (h.1 ++ Sign token.RightParenthesis ∷ [])), some_terminals m 18 a h.0 h.5))
 singleton (suc m) (Compare a cs) w (inl h) = absurd (omega (arith, h.3))
 singleton (suc m) (Boolean tree.And a others) w (inl h) = absurd (omega (arith, h.3))
 singleton (suc m) (Boolean tree.Or a others) w (inl h) = absurd (omega (arith, h.3))

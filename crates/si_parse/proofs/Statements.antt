@@ -1,18 +1,19 @@
 -- Small statements and lines: what is read is in the grammar, and what is in the grammar is read.
-use Rattle.std.proofs.Common.{◌≡◌, ℕ, zero, suc, ◌+◌, ◌<◌, ◌≤◌, List, [], ◌∷◌, ◌++◌, length, Option, Some, None, true, false, refl, sym, ap, ◌∙◌, subst, map, arith, append_assoc, length-append}
-use Rattle.std.specs.Prelude.{option_map}
+use Rattle.std.proofs.Common.{◌≡◌, ℕ, ◌+◌, ◌<◌, List, [], ◌∷◌, ◌++◌, length, Bool, Option, Some, None, true, false, refl, ⊎_elim, sym, ap, ◌∙◌, subst, map, arith, append_assoc, length-append}
+use Rattle.std.specs.Prelude.{option_map, if◌then◌else◌}
 use Rattle.std.proofs.lemmas.List.{append-nil, length-map}
 use Rattle.si_semantics.specs.Value.{Text}
-use Rattle.si_semantics.specs.Tree.{BinaryOperator, Add, Subtract, Multiply, FloorDivide, Modulo, Power, BitOr, BitXor, BitAnd, ShiftLeft, ShiftRight, Expr, Constant, Name, Unary, Binary, Call, Boolean, Compare, Conditional, Stmt, Evaluate, Assign, Augment, Pass, If, While, Break, Continue}
+use Rattle.si_semantics.specs.Tree.{BinaryOperator, Add, Subtract, Multiply, FloorDivide, Modulo, Power, BitOr, BitXor, BitAnd, ShiftLeft, ShiftRight, Expr, Constant, Name, Unary, Binary, Call, Boolean, Compare, Conditional, Stmt, Evaluate, Assign, Augment, Pass, If, While, Break, Continue, Define, Return, Global}
 use Rattle.si_semantics.specs.Tokens.{Symbol}
 use Rattle.si_semantics.specs.Tokens as token
 use Rattle.si_semantics.specs.Grammar.{Terminal, Sign, Word, NEWLINE, Following, Separated, max_depth, IsExpression, augmented_of, Small, Simple}
-use Rattle.si_parse.specs.Reading.{then_read, rest_of, strength_at, begins_str, after_semicolon, after_newline, expression_at, assignment_symbol, assignment_at, assigned, statement_from, spelled_by, word_statement, small_from, statement_by, with_statement, line_by}
-use Rattle.si_parse.proofs.Laws.{then_read_some, some_inj, spells_deeper, after_semicolon_some, after_newline_some}
+use Rattle.si_parse.specs.Reading.{then_read, rest_of, strength_at, begins_str, after_semicolon, after_newline, after_return, after_global, no_comma, names_by, ends_small, returned_by, global_by, expression_at, assignment_symbol, assignment_at, assigned, statement_from, spelled_by, word_statement, small_from, statement_by, with_statement, line_by}
+use Rattle.si_parse.proofs.Laws.{then_read_some, some_inj, spells_deeper, after_semicolon_some, after_newline_some, after_return_some, after_global_some}
 use Rattle.si_parse.proofs.Levels.{at_condition}
-use Rattle.si_parse.proofs.Lists.{added, Pairwise, separated_sound, separated_complete}
-use Rattle.si_parse.proofs.Starts.{expression_begins, some_terminals, word_not, starts, starts_operand, newline_not}
+use Rattle.si_parse.proofs.Lists.{chosen, added, Pairwise, separated_sound, separated_complete}
+use Rattle.si_parse.proofs.Starts.{expression_begins, word_not, return_not, global_not, ends_not, starts, starts_operand, newline_not}
 use Rattle.si_parse.proofs.Sound.{expression_sound}
+use Rattle.si_parse.proofs.Names.{names_reads, names_complete}
 use Rattle.si_parse.proofs.Complete.{expression_complete}
 
 -- ---- signs of assignments
@@ -98,7 +99,7 @@ from_reads f ts (Name x) (Some a) is spelled r h =
 from_reads f ts (Constant v) (Some a) is spelled r h = cc
 from_reads f ts (Unary op e) (Some a) is spelled r h = cc
 from_reads f ts (Binary op e g) (Some a) is spelled r h = cc
-from_reads f ts (Call e args) (Some a) is spelled r h = cc
+from_reads f ts (Call e args names) (Some a) is spelled r h = cc
 from_reads f ts (Boolean op e others) (Some a) is spelled r h = cc
 from_reads f ts (Compare e cs) (Some a) is spelled r h = cc
 from_reads f ts (Conditional e g i) (Some a) is spelled r h = cc
@@ -117,19 +118,47 @@ word_reads (Word token.BreakWord ∷ ts) s h = let P : Stmt → Type 0 = λ s. S
 word_reads (Word token.ContinueWord ∷ ts) s h = let P : Stmt → Type 0 = λ s. SmallRead (Word token.ContinueWord ∷ ts) (s, ts) in subst P (some_inj Continue s h) (Word token.ContinueWord ∷ [], refl, refl)
 word_reads (_ ∷ ts) s h = cc
 
-small_reads : (ts : List Terminal) (o : Option Stmt) → word_statement ts ≡ o → (r : Stmt × List Terminal) → small_from (expression_at max_depth) ts o ≡ Some r → SmallRead ts r
-small_reads ts (Some s) is r h = let P : Stmt × List Terminal → Type 0 = SmallRead ts in subst P (some_inj (s, rest_of ts) r h) (word_reads ts s is)
-small_reads ts None is r h = spelled_reads ts r h
+returned_reads : (ts : List Terminal) (r : Stmt × List Terminal) → returned_by (expression_at max_depth) ts ≡ Some r → SmallRead (Word token.ReturnWord ∷ ts) r
+returned_reads ts r h =
+    let P : Stmt × List Terminal → Type 0 = SmallRead (Word token.ReturnWord ∷ ts) in
+    ⊎_elim
+    (λ y. subst P (some_inj (Return None, ts) r y.1) (Word token.ReturnWord ∷ [], refl, refl))
+    (λ n.
+    let s = then_read_some (expression_at max_depth 1 ts) (λ r. Some (Return (Some r.0), r.2)) r n.1 in
+    let a = expression_sound max_depth 1 (omega arith) at_condition ts s.0 s.1 in
+    subst P (some_inj (Return (Some s.0.0), s.0.2) r s.2)
+    (Word token.ReturnWord ∷ a.0.front, ap (λ t. Word token.ReturnWord ∷ t) a.0.split, (a.0.front, refl, spells_deeper s.0.1 max_depth a.1 1 s.0.0 a.0.front a.0.spelled)))
+    (chosen (ends_small ts) (Some (Return None, ts)) (then_read (expression_at max_depth 1 ts) (λ r. Some (Return (Some r.0), r.2))) (Some r) h)
+
+global_reads : (ts : List Terminal) (r : Stmt × List Terminal) → global_by ts ≡ Some r → SmallRead (Word token.GlobalWord ∷ ts) r
+global_reads ts r h =
+    let s = then_read_some (names_by ts) (λ r. Some (Global r.0, r.1)) r h in
+    let n = names_reads ts s.0 s.1 in
+    let P : Stmt × List Terminal → Type 0 = SmallRead (Word token.GlobalWord ∷ ts) in
+    subst P (some_inj (Global s.0.0, s.0.1) r s.2) (Word token.GlobalWord ∷ n.0, ap (λ t. Word token.GlobalWord ∷ t) n.1, (n.0, refl, n.2))
+
+small_reads : (ts : List Terminal) (o : Option Stmt) (p q : Option (List Terminal)) → word_statement ts ≡ o → after_return ts ≡ p → after_global ts ≡ q → (r : Stmt × List Terminal) → small_from (expression_at max_depth) ts o p q ≡ Some r → SmallRead ts r
+small_reads ts (Some s) p q is also too r h = let P : Stmt × List Terminal → Type 0 = SmallRead ts in subst P (some_inj (s, rest_of ts) r h) (word_reads ts s is)
+small_reads ts None (Some rest) q is also too r h =
+    let P : List Terminal → Type 0 = λ t. SmallRead t r in subst P (sym (after_return_some ts rest also)) (returned_reads rest r h)
+small_reads ts None None (Some rest) is also too r h =
+    let P : List Terminal → Type 0 = λ t. SmallRead t r in subst P (sym (after_global_some ts rest too)) (global_reads rest r h)
+small_reads ts None None None is also too r h = spelled_reads ts r h
 
 statement_reads : (ts : List Terminal) (r : Stmt × List Terminal) → statement_by (expression_at max_depth) ts ≡ Some r → SmallRead ts r
-statement_reads ts r h = small_reads ts (word_statement ts) refl r h
+statement_reads ts r h = small_reads ts (word_statement ts) (after_return ts) (after_global ts) refl refl refl r h
 
 -- what may stand behind a statement
 abbrev Follows : List Terminal → Type 0
-Follows more = (strength_at more < 1) × (begins_str more ≡ false) × (assignment_at more ≡ None)
+Follows more = (strength_at more < 1) × (begins_str more ≡ false) × (assignment_at more ≡ None) × (ends_small more ≡ true)
 
 by_expression : (m : ℕ) (e : Expr) (f more : List Terminal) → IsExpression e f → statement_by (expression_at max_depth) (f ++ more) ≡ spelled_by (expression_at max_depth) (f ++ more)
-by_expression m e f more h = ap (small_from (expression_at max_depth) (f ++ more)) (word_not (f ++ more) (expression_begins max_depth 1 e f h more))
+by_expression m e f more h =
+    let ts = f ++ more in
+    let start = expression_begins max_depth 1 e f h more in
+    ap (λ o. small_from (expression_at max_depth) ts o (after_return ts) (after_global ts)) (word_not ts start)
+    ∙ ap (λ o. small_from (expression_at max_depth) ts None o (after_global ts)) (return_not ts start)
+    ∙ ap (λ o. small_from (expression_at max_depth) ts None None o) (global_not ts start)
 
 assigned_complete : (x : Text) (a : Option BinaryOperator) (e : Expr) (f g whole more : List Terminal) → whole ≡ f ++ Sign (sign_of a) ∷ g → IsExpression (Name x) f → IsExpression e g → Follows more → statement_by (expression_at max_depth) (whole ++ more) ≡ Some (assigned x a e, more)
 assigned_complete x a e f g whole more is hx he ends =
@@ -144,6 +173,16 @@ assigned_complete x a e f g whole more is hx he ends =
     ∙ ap (statement_from (expression_at max_depth) (Sign (sign_of a) ∷ behind) (Name x)) (assignment_is a behind)
     ∙ ap (λ r. then_read r (λ r. Some (assigned x a r.0, r.2))) d.3
 
+small_over : (ts : List Terminal) → ends_small ts ≡ true → (0 < length ts) × (no_comma ts ≡ true)
+small_over [] h = cc
+small_over (NEWLINE ∷ ts) h = (omega arith, refl)
+small_over (Sign token.Semicolon ∷ ts) h = (omega arith, refl)
+small_over (_ ∷ ts) h = cc
+
+returned_if : (b c : Bool) (ts : List Terminal) → b ≡ c → returned_by (expression_at max_depth) ts ≡ (if b then Some (Return None, ts) else then_read (expression_at max_depth 1 ts) (λ r. Some (Return (Some r.0), r.2)))
+    → returned_by (expression_at max_depth) ts ≡ (if c then Some (Return None, ts) else then_read (expression_at max_depth 1 ts) (λ r. Some (Return (Some r.0), r.2)))
+returned_if b c ts h same = same ∙ ap (λ b. if b then Some (Return None, ts) else then_read (expression_at max_depth 1 ts) (λ r. Some (Return (Some r.0), r.2))) h
+
 statement_complete : (s : Stmt) (f more : List Terminal) → Small s f → Follows more → statement_by (expression_at max_depth) (f ++ more) ≡ Some (s, more)
 statement_complete (Evaluate e) f more h ends =
     let c = expression_complete max_depth max_depth 1 e f more (omega arith) (omega arith) h ends.0 ends.1 in
@@ -153,6 +192,19 @@ statement_complete (Augment x op e) f more h ends = assigned_complete x (Some op
 statement_complete Pass f more h ends = ap (λ t. statement_by (expression_at max_depth) (t ++ more)) h
 statement_complete Break f more h ends = ap (λ t. statement_by (expression_at max_depth) (t ++ more)) h
 statement_complete Continue f more h ends = ap (λ t. statement_by (expression_at max_depth) (t ++ more)) h
+statement_complete (Return None) f more h ends =
+    ap (λ t. statement_by (expression_at max_depth) (t ++ more)) h ∙ returned_if (ends_small more) true more ends.3 refl
+statement_complete (Return (Some e)) f more h ends =
+    let c = expression_complete max_depth max_depth 1 e h.0 more (omega arith) (omega arith) h.2 ends.0 ends.1 in
+    let on = ends_not (h.0 ++ more) (expression_begins max_depth 1 e h.0 h.2 more) in
+    ap (λ t. statement_by (expression_at max_depth) (t ++ more)) h.1
+    ∙ returned_if (ends_small (h.0 ++ more)) false (h.0 ++ more) on refl
+    ∙ ap (λ o. then_read o (λ r. Some (Return (Some r.0), r.2))) c.3
+statement_complete (Global xs) f more h ends =
+    let over = small_over more ends.3 in
+    ap (λ t. statement_by (expression_at max_depth) (t ++ more)) h.1
+    ∙ ap (λ o. then_read o (λ r. Some (Global r.0, r.1))) (names_complete xs h.0 more h.2 over.0 over.1)
+statement_complete (Define x ps body) f more h ends = absurd h
 statement_complete (If test body other) f more h ends = absurd h
 statement_complete (While test body other) f more h ends = absurd h
 
@@ -169,6 +221,10 @@ small_starts (Augment x op e) f more h = target_starts x (augmented_of op) h.0 h
 small_starts Pass f more h = ap (λ t. starts (t ++ more)) h
 small_starts Break f more h = ap (λ t. starts (t ++ more)) h
 small_starts Continue f more h = ap (λ t. starts (t ++ more)) h
+small_starts (Return None) f more h = ap (λ t. starts (t ++ more)) h
+small_starts (Return (Some e)) f more h = ap (λ t. starts (t ++ more)) h.1
+small_starts (Global xs) f more h = ap (λ t. starts (t ++ more)) h.1
+small_starts (Define x ps body) f more h = absurd h
 small_starts (If test body other) f more h = absurd h
 small_starts (While test body other) f more h = absurd h
 
@@ -229,6 +285,6 @@ line_complete body line f more h =
     let split : f ++ more ≡ h.0 ++ NEWLINE ∷ more = ap (λ t. t ++ more) h.1 ∙ append_assoc h.0 (NEWLINE ∷ []) more in
     let long : length (h.0 ++ NEWLINE ∷ more) ≡ length h.0 + length (NEWLINE ∷ more) = length-append h.0 (NEWLINE ∷ more) in
     let s = separated_complete with_statement (λ r. r.1) (statement_by (expression_at max_depth)) after_semicolon after_newline token.Semicolon NEWLINE Small Read Follows statement_read
-    (λ s f more h. newline_not (f ++ more) (small_starts s f more h)) (λ ts. refl) (λ ts. refl) (λ ts. refl) (λ ts. (omega arith, refl, refl)) (λ ts. (omega arith, refl, refl))
+    (λ s f more h. newline_not (f ++ more) (small_starts s f more h)) (λ ts. refl) (λ ts. refl) (λ ts. refl) (λ ts. (omega arith, refl, refl, refl)) (λ ts. (omega arith, refl, refl, refl))
     (length (h.0 ++ NEWLINE ∷ more)) body line h.0 more (omega arith) h.2 h.3 in
     ap (line_by (expression_at max_depth) body) split ∙ s.2 ∙ ap (λ b. Some (b, more)) (collected body line s.0 s.1)

@@ -2,11 +2,12 @@
 use Rattle.std.proofs.Common.{◌≡◌, ℕ, ◌+◌, ◌-◌, ◌<◌, ◌≤◌, List, [], ◌∷◌, ◌++◌, max, length, Option, Some, None, sym, ap, ◌∙◌, subst, arith}
 use Rattle.std.specs.Prelude.{not, nat_lt, Bool, true, false, if◌then◌else◌}
 use Rattle.std.proofs.lemmas.Bool.Decides.{nat_tests}
+use Rattle.si_semantics.specs.Value.{Text}
 use Rattle.si_semantics.specs.Tree.{Expr, Stmt}
 use Rattle.si_semantics.specs.Grammar.{Terminal, DEDENT, Branch}
 use Rattle.si_parse.specs.declared.fault.ParseFault.{ParseFault}
 use Rattle.si_parse.specs.declared.fault.ParseFault.TheVariants.{Syntax, NoMemory}
-use Rattle.si_parse.specs.Reading.{Parser, Step, Continuation, strength_of, then_read, strength_at, continuation_at, closing, behind_item, separated_by, chain_from, chain_by, Parsed, many_by, extended_by, continued_by, rest_of, is_none, is_dedent, after_if, after_while, after_elif, after_dedent, LineParser, with_branch, branch_by, elif_by, indented_by, if_by, while_by, with_compound, block_from, block_at}
+use Rattle.si_parse.specs.Reading.{Parser, Step, Continuation, strength_of, then_read, strength_at, continuation_at, closing, behind_item, separated_by, chain_from, chain_by, Parsed, many_by, extended_by, continued_by, rest_of, is_none, is_dedent, after_comma, name_at, and_name, next_name_by, after_if, after_while, after_def, after_elif, after_dedent, LineParser, with_branch, branch_by, elif_by, indented_by, if_by, while_by, define_by, with_compound, block_from, block_at}
 use Rattle.si_parse.specs.Gives.{Fails}
 use Rattle.si_parse.proofs.Steps.{continued_by_step, separated_by_step, chain_by_step, many_by_step, block_at_step}
 
@@ -103,14 +104,26 @@ module _ {B : Type 0} (item : B → List Terminal → Option (B × List Terminal
 -- a compound statement behind its word
 pub block_if : (n : ℕ) (body : List Stmt) (ts rest : List Terminal) (s : Stmt) (more : List Terminal) → 0 < n → after_if ts ≡ Some rest → if_by (block_at (n - 1)) rest ≡ Some (s, more) → block_at n body ts ≡ Some (body ++ s ∷ [], more)
 block_if n body ts rest s more positive is h =
-    block_at_step n body ts positive ∙ ap (λ o. block_from (block_at (n - 1)) body ts o (after_while ts)) is ∙ ap (λ o. then_read o (with_compound body)) h
+    block_at_step n body ts positive ∙ ap (λ o. block_from (block_at (n - 1)) body ts o (after_while ts) (after_def ts)) is ∙ ap (λ o. then_read o (with_compound body)) h
 
 pub block_while : (n : ℕ) (body : List Stmt) (ts rest : List Terminal) (s : Stmt) (more : List Terminal) → 0 < n → after_if ts ≡ None → after_while ts ≡ Some rest → while_by (block_at (n - 1)) rest ≡ Some (s, more) → block_at n body ts ≡ Some (body ++ s ∷ [], more)
 block_while n body ts rest s more positive not_if is h =
     block_at_step n body ts positive
-    ∙ ap (λ o. block_from (block_at (n - 1)) body ts o (after_while ts)) not_if
-    ∙ ap (λ o. block_from (block_at (n - 1)) body ts None o) is
+    ∙ ap (λ o. block_from (block_at (n - 1)) body ts o (after_while ts) (after_def ts)) not_if
+    ∙ ap (λ o. block_from (block_at (n - 1)) body ts None o (after_def ts)) is
     ∙ ap (λ o. then_read o (with_compound body)) h
+
+pub block_def : (n : ℕ) (body : List Stmt) (ts rest : List Terminal) (s : Stmt) (more : List Terminal) → 0 < n → after_if ts ≡ None → after_while ts ≡ None → after_def ts ≡ Some rest → define_by (block_at (n - 1)) rest ≡ Some (s, more)
+    → block_at n body ts ≡ Some (body ++ s ∷ [], more)
+block_def n body ts rest s more positive not_if not_while is h =
+    block_at_step n body ts positive
+    ∙ ap (λ o. block_from (block_at (n - 1)) body ts o (after_while ts) (after_def ts)) not_if
+    ∙ ap (λ o. block_from (block_at (n - 1)) body ts None o (after_def ts)) not_while
+    ∙ ap (λ o. block_from (block_at (n - 1)) body ts None None o) is
+    ∙ ap (λ o. then_read o (with_compound body)) h
+
+pub next_name_read : (xs : List Text) (ts rest : List Terminal) (x : Text) (more : List Terminal) → after_comma ts ≡ Some rest → name_at rest ≡ Some (x, more) → next_name_by xs ts ≡ Some (xs ++ x ∷ [], more)
+next_name_read xs ts rest x more is h = ap (λ o. then_read o (λ rest. then_read (name_at rest) (and_name xs))) is ∙ ap (λ o. then_read o (and_name xs)) h
 
 pub elif_read : (line : LineParser) (bs : List Branch) (ts rest : List Terminal) (b : Branch) (more : List Terminal) → after_elif ts ≡ Some rest → branch_by line rest ≡ Some (b, more) → elif_by line bs ts ≡ Some (bs ++ b ∷ [], more)
 elif_read line bs ts rest b more is h = ap (λ o. then_read o (λ rest. then_read (branch_by line rest) (with_branch bs))) is ∙ ap (λ o. then_read o (with_branch bs)) h

@@ -1,6 +1,7 @@
 -- What a function returned against what reading gives.
-use Rattle.std.specs.Prelude.{◌≡◌, ℕ, List, Option, Some, None, Result, Ok, Err, map, drop}
+use Rattle.std.specs.Prelude.{◌≡◌, ℕ, List, Option, Some, None, Result, Ok, Err, map, drop, string_bytes}
 use Rattle.si_semantics.specs.Grammar.{Terminal, terminal_of}
+use Rattle.si_semantics.specs.Grammar as grammar
 use Rattle.si_token.specs.declared.token.Token.{Token}
 use Rattle.si_token.specs.declared.scan.TokenFault.{TokenFault}
 use Rattle.si_token.specs.declared.scan.TokenFault.TheVariants as tokens
@@ -9,7 +10,9 @@ use Rattle.si_parse.specs.declared.fault.ParseFault.TheVariants.{Syntax, NoMemor
 use Rattle.si_parse.specs.declared.precedence.Continuation.{Continuation as Rust}
 use Rattle.si_parse.specs.declared.precedence.Continuation.TheVariants as variant
 use Rattle.si_token.specs.Views.{token_of}
-use Rattle.si_syntax.specs.Trees.{binary_of, boolean_of}
+use Rattle.si_syntax.specs.Trees.{binary_of, boolean_of, expr_of}
+use Rattle.si_parse.specs.declared.argument.Argument.{Argument}
+use Rattle.si_parse.specs.declared.argument.Argument.TheVariants as passed
 use Rattle.si_parse.specs.Reading.{Continuation, operator, arguments, comparison, boolean, condition, nothing}
 
 -- the terminals of tokens, from a place on
@@ -33,6 +36,11 @@ continuation_view variant.Comparison = comparison
 continuation_view (variant.Boolean op) = boolean (boolean_of op)
 continuation_view variant.Condition = condition
 continuation_view variant.Nothing = nothing
+
+-- the argument that a value stands for
+abbrev pub argument_of : Argument → grammar.Argument
+argument_of (passed.Positional e) = grammar.Positional (expr_of e)
+argument_of (passed.ByName x e) = grammar.ByName (string_bytes x) (expr_of e)
 
 -- the fault of a text that the grammar has no tree for
 abbrev pub IsSyntax : ParseFault → Type 0

@@ -1,11 +1,12 @@
 -- Reading as a function on lists of terminals, which the parser computes: what stands between grammar and code.
 use Rattle.std.specs.Prelude.{ℕ, zero, suc, ◌+◌, max, List, [], ◌∷◌, ◌++◌, length, Option, Some, None, option_map, nat_lt, nat_le, nat_eq, Bool, true, false, not, ◌&&◌, if◌then◌else◌}
 use Rattle.si_semantics.specs.Value.{Text, Nothing, Truth, Int, Str}
-use Rattle.si_semantics.specs.Tree.{BinaryOperator, Add, Subtract, Multiply, FloorDivide, Modulo, Power, BitOr, BitXor, BitAnd, ShiftLeft, ShiftRight, UnaryOperator, ComparisonOperator, BooleanOperator, Expr, Constant, Name, Unary, Binary, Call, Boolean, Compare, Conditional, Stmt, Evaluate, Assign, Augment, Pass, If, While, Break, Continue, Stmts, NoStmts}
+use Rattle.si_semantics.specs.Tree.{BinaryOperator, Add, Subtract, Multiply, FloorDivide, Modulo, Power, BitOr, BitXor, BitAnd, ShiftLeft, ShiftRight, UnaryOperator, ComparisonOperator, BooleanOperator, Expr, Constant, Name, Unary, Binary, Call, Boolean, Compare, Conditional, Stmt, Evaluate, Assign, Augment, Pass, If, While, Break, Continue, Define, Return, Global, Stmts, NoStmts}
 use Rattle.si_semantics.specs.Tree as tree
+use Rattle.si_semantics.specs.Scope.{is_in}
 use Rattle.si_semantics.specs.Tokens.{Symbol, Keyword}
 use Rattle.si_semantics.specs.Tokens as token
-use Rattle.si_semantics.specs.Grammar.{Terminal, NAME, NUMBER, STRING, Sign, Word, NEWLINE, INDENT, DEDENT, ENDMARKER, value_of_int, value_of_str, left_level, right_level, prefix_level, item_level, is_identity, Link, chain_of, exprs_of, max_depth, Branch, stmts_of, elifs_of, max_nesting}
+use Rattle.si_semantics.specs.Grammar.{Terminal, NAME, NUMBER, STRING, Sign, Word, NEWLINE, INDENT, DEDENT, ENDMARKER, Argument, Positional, ByName, value_of_int, value_of_str, left_level, right_level, prefix_level, item_level, is_identity, Link, chain_of, exprs_of, max_depth, Branch, stmts_of, elifs_of, max_nesting, max_parameters}
 
 -- ---- one terminal of look-ahead
 
@@ -89,6 +90,16 @@ after_close [] = None
 after_close (Sign token.RightParenthesis ∷ ts) = Some ts
 after_close (_ ∷ ts) = None
 
+abbrev pub after_equal : Step
+after_equal [] = None
+after_equal (Sign token.Equal ∷ ts) = Some ts
+after_equal (_ ∷ ts) = None
+
+abbrev pub after_open : Step
+after_open [] = None
+after_open (Sign token.LeftParenthesis ∷ ts) = Some ts
+after_open (_ ∷ ts) = None
+
 abbrev pub after_comma : Step
 after_comma [] = None
 after_comma (Sign token.Comma ∷ ts) = Some ts
@@ -133,6 +144,21 @@ abbrev pub after_while : Step
 after_while [] = None
 after_while (Word token.WhileWord ∷ ts) = Some ts
 after_while (_ ∷ ts) = None
+
+abbrev pub after_def : Step
+after_def [] = None
+after_def (Word token.DefWord ∷ ts) = Some ts
+after_def (_ ∷ ts) = None
+
+abbrev pub after_return : Step
+after_return [] = None
+after_return (Word token.ReturnWord ∷ ts) = Some ts
+after_return (_ ∷ ts) = None
+
+abbrev pub after_global : Step
+after_global [] = None
+after_global (Word token.GlobalWord ∷ ts) = Some ts
+after_global (_ ∷ ts) = None
 
 abbrev pub after_not : Step
 after_not [] = None
@@ -208,25 +234,115 @@ unfoldable pub many_by : {B : Type 0} → (B → List Terminal → Option (B × 
 many_by item ends zero b ts = None
 many_by item ends (suc k) b ts = if ends ts then Some (b, ts) else then_read (item b ts) (λ r. many_by item ends k r.0 r.1)
 
+-- whether a step finds nothing
+abbrev pub is_none : Option (List Terminal) → Bool
+is_none None = true
+is_none (Some ts) = false
+
+-- ---- names
+
+-- the name that stands first, and the terminals behind it
+abbrev pub name_at : List Terminal → Option (Text × List Terminal)
+name_at [] = None
+name_at (NAME x ∷ ts) = Some (x, ts)
+name_at (_ ∷ ts) = None
+
+-- the names with one more, and what stands behind it
+abbrev pub and_name : List Text → Text × List Terminal → Option (List Text × List Terminal)
+and_name xs r = Some (xs ++ r.0 ∷ [], r.1)
+
+-- one more name, behind a comma
+abbrev pub next_name_by : List Text → List Terminal → Option (List Text × List Terminal)
+next_name_by xs ts = then_read (after_comma ts) (λ rest. then_read (name_at rest) (and_name xs))
+
+-- whether no further name follows
+abbrev pub no_comma : List Terminal → Bool
+no_comma ts = is_none (after_comma ts)
+
+-- names with commas between them, of which there is one at least
+abbrev pub names_by : List Terminal → Option (List Text × List Terminal)
+names_by ts = then_read (name_at ts) (λ n. many_by next_name_by no_comma (length n.1) (n.0 ∷ []) n.1)
+
+-- the names with one more
+abbrev pub with_parameter : List Text → Text × List Terminal → List Text
+with_parameter xs r = xs ++ r.0 ∷ []
+
+-- the same, once it is known whether the bracket is closed at once
+abbrev pub listed_from : List Terminal → Option (List Terminal) → Option (List Text × List Terminal)
+listed_from ts (Some rest) = Some ([], rest)
+listed_from ts None = separated_by with_parameter (λ r. r.1) name_at after_comma after_close (length ts) [] ts
+
+-- the names behind an open bracket, and the closed one
+abbrev pub listed_by : List Terminal → Option (List Text × List Terminal)
+listed_by ts = listed_from ts (after_close ts)
+
+-- names, where there are not too many for a function
+abbrev pub few : List Text × List Terminal → Option (List Text × List Terminal)
+few r = if nat_le (length r.0) max_parameters then Some r else None
+
+-- the parameters of a function, behind the open bracket, and the closed one
+abbrev pub parameters_by : List Terminal → Option (List Text × List Terminal)
+parameters_by ts = then_read (listed_by ts) few
+
 -- ---- expressions
 
 abbrev pub Parser : Type 0
 Parser = ℕ → List Terminal → Parsed
 
--- arguments, and the greatest depth among them
+-- expressions, and the greatest depth among them
 abbrev pub Collected : Type 0
 Collected = List Expr × ℕ
 
-abbrev pub with_argument : Collected → Found → Collected
+-- an argument, its depth, and the terminals after it
+abbrev pub Argued : Type 0
+Argued = Argument × ℕ × List Terminal
+
+-- the name by which an argument is passed, and the terminals behind its `=`
+abbrev pub named_at : List Terminal → Option (Text × List Terminal)
+named_at [] = None
+named_at (NAME x ∷ ts) = option_map (λ rest. (x, rest)) (after_equal ts)
+named_at (_ ∷ ts) = None
+
+-- an argument, once it is known whether a name stands in front
+abbrev pub argument_from : Parser → List Terminal → Option (Text × List Terminal) → Option Argued
+argument_from sub ts (Some n) = then_read (sub 1 n.1) (λ r. Some (ByName n.0 r.0, r.1, r.2))
+argument_from sub ts None = then_read (sub 1 ts) (λ r. Some (Positional r.0, r.1, r.2))
+
+-- an argument is passed by name exactly where it begins with a name and an `=`
+abbrev pub argument_by : Parser → List Terminal → Option Argued
+argument_by sub ts = argument_from sub ts (named_at ts)
+
+-- the arguments with one more, and the greatest depth
+abbrev pub with_argument : List Argument × ℕ → Argued → List Argument × ℕ
 with_argument b r = (b.0 ++ r.0 ∷ [], max b.1 r.1)
 
-abbrev pub arguments_from : Parser → List Terminal → Option (List Terminal) → Option (Collected × List Terminal)
+-- the arguments, once it is known whether the bracket is closed at once
+abbrev pub arguments_from : Parser → List Terminal → Option (List Terminal) → Option ((List Argument × ℕ) × List Terminal)
 arguments_from sub ts (Some rest) = Some (([], 0), rest)
-arguments_from sub ts None = separated_by with_argument (λ r. r.2) (sub 1) after_comma after_close (length ts) ([], 0) ts
+arguments_from sub ts None = separated_by with_argument (λ r. r.2) (argument_by sub) after_comma after_close (length ts) ([], 0) ts
 
--- the arguments behind an open bracket, and the closed one
-abbrev pub arguments_by : Parser → List Terminal → Option (Collected × List Terminal)
+-- the arguments behind an open bracket, the greatest depth among them, and the closed one
+abbrev pub arguments_by : Parser → List Terminal → Option ((List Argument × ℕ) × List Terminal)
 arguments_by sub ts = arguments_from sub ts (after_close ts)
+
+-- the expressions of arguments, and the names by which the last ones are passed
+abbrev pub Passed : Type 0
+Passed = List Expr × List Text
+
+-- whether there are none
+abbrev pub no_names : List Text → Bool
+no_names [] = true
+no_names (x ∷ xs) = false
+
+-- one more argument: an expression only in front of all names, and a name only once
+abbrev pub with_passed : Passed → Argument → Option Passed
+with_passed b (Positional e) = if no_names b.1 then Some (b.0 ++ e ∷ [], b.1) else None
+with_passed b (ByName x e) = if is_in x b.1 then None else Some (b.0 ++ e ∷ [], b.1 ++ x ∷ [])
+
+-- the arguments one by one, behind those before
+abbrev pub passed_from : Passed → List Argument → Option Passed
+passed_from b [] = Some b
+passed_from b (a ∷ more) = then_read (with_passed b a) (λ c. passed_from c more)
 
 -- a tree that is no deeper than the limit
 abbrev pub within : ℕ → Expr → ℕ → List Terminal → Parsed
@@ -235,8 +351,12 @@ within n e d ts = if nat_le d n then Some (e, d, ts) else None
 abbrev pub binary_by : Parser → ℕ → Expr → ℕ → BinaryOperator → List Terminal → Parsed
 binary_by sub n e d op ts = then_read (sub (right_level op) ts) (λ r. within n (Binary op e r.0) (max d r.1 + 1) r.2)
 
+-- the call of a tree with arguments that were read
+abbrev pub called : ℕ → Expr → ℕ → (List Argument × ℕ) × List Terminal → Parsed
+called n e d r = then_read (passed_from ([], []) r.0.0) (λ p. within n (Call e (exprs_of p.0) p.1) (max d r.0.1 + 1) r.1)
+
 abbrev pub call_by : Parser → ℕ → Expr → ℕ → List Terminal → Parsed
-call_by sub n e d ts = then_read (arguments_by sub ts) (λ r. within n (Call e (exprs_of r.0.0)) (max d r.0.1 + 1) r.1)
+call_by sub n e d ts = then_read (arguments_by sub ts) (called n e d)
 
 -- a conditional expression, from behind its `if`
 abbrev pub other_by : Parser → ℕ → Expr → ℕ → Found → List Terminal → Parsed
@@ -406,12 +526,30 @@ word_statement (Word token.BreakWord ∷ ts) = Some Break
 word_statement (Word token.ContinueWord ∷ ts) = Some Continue
 word_statement (_ ∷ ts) = None
 
-abbrev pub small_from : Parser → List Terminal → Option Stmt → Option (Stmt × List Terminal)
-small_from sub ts (Some s) = Some (s, rest_of ts)
-small_from sub ts None = spelled_by sub ts
+-- whether a small statement ends in front of the terminals
+abbrev pub ends_small : List Terminal → Bool
+ends_small [] = false
+ends_small (NEWLINE ∷ ts) = true
+ends_small (Sign token.Semicolon ∷ ts) = true
+ends_small (_ ∷ ts) = false
+
+-- from behind the `return`
+abbrev pub returned_by : Parser → List Terminal → Option (Stmt × List Terminal)
+returned_by sub ts = if ends_small ts then Some (Return None, ts) else then_read (sub 1 ts) (λ r. Some (Return (Some r.0), r.2))
+
+-- from behind the `global`
+abbrev pub global_by : List Terminal → Option (Stmt × List Terminal)
+global_by ts = then_read (names_by ts) (λ r. Some (Global r.0, r.1))
+
+-- a small statement, by the word that stands first
+abbrev pub small_from : Parser → List Terminal → Option Stmt → Option (List Terminal) → Option (List Terminal) → Option (Stmt × List Terminal)
+small_from sub ts (Some s) r g = Some (s, rest_of ts)
+small_from sub ts None (Some rest) g = returned_by sub rest
+small_from sub ts None None (Some rest) = global_by rest
+small_from sub ts None None None = spelled_by sub ts
 
 abbrev pub statement_by : Parser → List Terminal → Option (Stmt × List Terminal)
-statement_by sub ts = small_from sub ts (word_statement ts)
+statement_by sub ts = small_from sub ts (word_statement ts) (after_return ts) (after_global ts)
 
 abbrev pub with_statement : List Stmt → Stmt × List Terminal → List Stmt
 with_statement body r = body ++ r.0 ∷ []
@@ -428,10 +566,6 @@ abbrev pub simple_line : LineParser
 simple_line = line_by (expression_at max_depth)
 
 -- ---- compound statements
-
-abbrev pub is_none : Option (List Terminal) → Bool
-is_none None = true
-is_none (Some ts) = false
 
 abbrev pub is_dedent : List Terminal → Bool
 is_dedent ts = not (is_none (after_dedent ts))
@@ -480,18 +614,28 @@ if_by line ts = then_read (branch_by line ts) (λ b. then_read (elifs_by line b.
 abbrev pub while_by : LineParser → List Terminal → Option (Stmt × List Terminal)
 while_by line ts = then_read (branch_by line ts) (λ b. Some (While b.0.0 b.0.1 NoStmts, b.1))
 
+-- a function of this name and these parameters, from its suite on
+abbrev pub defined_by : LineParser → Text → List Text × List Terminal → Option (Stmt × List Terminal)
+defined_by line x ps = then_read (suite_by line ps.1) (λ b. Some (Define x ps.0 (stmts_of b.0), b.1))
+
+-- from behind the `def`
+abbrev pub define_by : LineParser → List Terminal → Option (Stmt × List Terminal)
+define_by line ts = then_read (name_at ts) (λ n. then_read (after_open n.1) (λ rest. then_read (parameters_by rest) (defined_by line n.0)))
+
 abbrev pub with_compound : List Stmt → Stmt × List Terminal → Option (List Stmt × List Terminal)
 with_compound body r = Some (body ++ r.0 ∷ [], r.1)
 
-abbrev pub block_from : LineParser → List Stmt → List Terminal → Option (List Terminal) → Option (List Terminal) → Option (List Stmt × List Terminal)
-block_from line body ts (Some rest) w = then_read (if_by line rest) (with_compound body)
-block_from line body ts None (Some rest) = then_read (while_by line rest) (with_compound body)
-block_from line body ts None None = simple_line body ts
+-- a line, or a compound statement, by the word that stands first
+abbrev pub block_from : LineParser → List Stmt → List Terminal → Option (List Terminal) → Option (List Terminal) → Option (List Terminal) → Option (List Stmt × List Terminal)
+block_from line body ts (Some rest) w d = then_read (if_by line rest) (with_compound body)
+block_from line body ts None (Some rest) d = then_read (while_by line rest) (with_compound body)
+block_from line body ts None None (Some rest) = then_read (define_by line rest) (with_compound body)
+block_from line body ts None None None = simple_line body ts
 
 -- A line, or a compound statement, in which compound statements are nested this deep at most.
 unfoldable pub block_at : ℕ → LineParser
 block_at zero body ts = simple_line body ts
-block_at (suc n) body ts = block_from (block_at n) body ts (after_if ts) (after_while ts)
+block_at (suc n) body ts = block_from (block_at n) body ts (after_if ts) (after_while ts) (after_def ts)
 
 -- whether the terminals are the last one
 abbrev pub is_end : List Terminal → Bool

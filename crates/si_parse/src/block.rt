@@ -2,15 +2,16 @@
 
 ghost use Rattle.std.specs.Prelude.{◌≡◌, ℕ, ◌+◌, ◌-◌, ◌*◌, ◌<◌, [], length, map, option_map};
 ghost use Rattle.si_syntax.specs.Trees.{expr_of, stmt_of, branch_of};
-ghost use Rattle.si_parse.specs.Reading.{indented_by, suite_by, branch_by, elifs_by, otherwise_by, if_by, while_by, block_at};
+ghost use Rattle.si_parse.specs.Reading.{indented_by, suite_by, branch_by, elifs_by, otherwise_by, if_by, while_by, define_by, block_at};
 ghost use Rattle.si_parse.specs.Gives.{Gives, from};
 
 use crate::expression::expression;
 use crate::fault::ParseFault;
 use crate::lookahead::{
-    after_colon, after_dedent, after_elif, after_else, after_if, after_indent, after_newline,
-    after_while, line_at,
+    after_colon, after_dedent, after_def, after_elif, after_else, after_if, after_indent,
+    after_newline, after_open, after_while, line_at,
 };
+use crate::name::{name, parameters};
 use crate::precedence::ANY;
 use crate::statement::line;
 use si_plain::limits::MAX_EXPRESSION_DEPTH;
@@ -51,6 +52,12 @@ pub(crate) fn block(
         body.push(statement)?;
         return Ok((body, end));
     }
+    if let Some(behind) = after_def(tokens, at) {
+        let begin = line_at(tokens, at);
+        let (statement, end) = definition(alloc, nesting - 1, begin, tokens, behind)?;
+        body.push(statement)?;
+        return Ok((body, end));
+    }
     line(alloc, body, tokens, at)
 }
 
@@ -85,6 +92,27 @@ fn while_statement(
 {
     let ((test, body), end) = branch(alloc, parts, tokens, start)?;
     Ok((Stmt::While(test, body), end))
+}
+
+// The statement from behind its `def`, which stands in the line.
+#[cycle(blocks)]
+fn definition(
+    alloc: Global,
+    parts: u32,
+    line: usize,
+    tokens: &[Token],
+    start: usize,
+) -> Result<(Stmt, usize), ParseFault>
+    requires { parts < 999 }
+    ensures { Gives (λ x. (stmt_of x.0, from tokens.now x.1)) result (define_by (block_at parts) (from tokens.now start)) }
+{
+    let (name, behind) = name(alloc, tokens, start)?;
+    let Some(first) = after_open(tokens, behind) else {
+        return Err(ParseFault::Syntax(line_at(tokens, behind)));
+    };
+    let (parameters, at) = parameters(alloc, tokens, first)?;
+    let (body, end) = suite(alloc, parts, tokens, at)?;
+    Ok((Stmt::Define(line, name, parameters, body), end))
 }
 
 // A test and its suite, and the place behind them.

@@ -3,9 +3,10 @@
 ghost use Rattle.std.specs.Prelude.{◌≡◌, ℕ, ◌+◌, ◌-◌, ◌*◌, ◌<◌, ◌≤◌, [], map, length, option_map, IfOk};
 ghost use Rattle.si_semantics.specs.Grammar.{is_identity};
 ghost use Rattle.si_syntax.specs.Trees.{binary_of, unary_of, boolean_of, comparison_of, expr_of, link_of};
-ghost use Rattle.si_parse.specs.Reading.{rest_of, within, strings_by, is_singleton, compared_by, operand_by, atom_by, unary_by, bracketed_by, continued_by, binary_by, call_by, compare_by, boolean_by, conditional_by, extended_by, arguments_by, operands_by, links_by, expression_at};
-ghost use Rattle.si_parse.specs.Gives.{Gives, from, continuation_view};
+ghost use Rattle.si_parse.specs.Reading.{rest_of, within, strings_by, is_singleton, compared_by, operand_by, atom_by, unary_by, bracketed_by, continued_by, binary_by, call_by, compare_by, boolean_by, conditional_by, extended_by, argument_by, arguments_by, operands_by, links_by, expression_at};
+ghost use Rattle.si_parse.specs.Gives.{Gives, from, continuation_view, argument_of};
 
+use crate::argument::{Argument, named_at, passed};
 use crate::fault::ParseFault;
 use crate::literal::str_value;
 use crate::lookahead::{
@@ -248,9 +249,10 @@ fn call(alloc: Global, parts: u32, left: Expr, depth: u32, tokens: &[Token], at:
     ensures reads { Gives (λ x. (expr_of x.0, x.1, from tokens.now x.2)) result (call_by (expression_at parts) (parts + 1) (expr_of left) depth (from tokens.now at)) }
     ensures shallow { IfOk result (λ x. x.1 ≤ parts + 1) }
 {
-    let (args, args_depth, at) = arguments(alloc, parts, tokens, at)?;
-    let tree = Expr::Call(Box::new(alloc, left)?, args);
-    within(parts + 1, tree, depth.max(args_depth) + 1, tokens, at)
+    let (arguments, arguments_depth, at) = arguments(alloc, parts, tokens, at)?;
+    let (values, names) = passed(alloc, arguments, line_at(tokens, at))?;
+    let tree = Expr::Call(Box::new(alloc, left)?, values, names);
+    within(parts + 1, tree, depth.max(arguments_depth) + 1, tokens, at)
 }
 
 // The operand with a chain of comparisons, whose first operator stands at the place.
@@ -322,6 +324,34 @@ fn conditional(
     )
 }
 
+// An argument that begins at the place, its depth, and the place behind it.
+#[cycle(expressions)]
+fn argument(
+    alloc: Global,
+    parts: u32,
+    tokens: &[Token],
+    at: usize,
+) -> Result<(Argument, u32, usize), ParseFault>
+    requires { parts < 999 }
+    ensures reads { Gives (λ x. (argument_of x.0, x.1, from tokens.now x.2)) result (argument_by (expression_at parts) (from tokens.now at)) }
+    ensures shallow { IfOk result (λ x. x.1 ≤ parts) }
+{
+    match named_at(tokens, at) {
+        Some((name, behind)) => {
+            let (value, depth, end) = expression(alloc, parts, ANY, tokens, behind)?;
+            Ok((
+                Argument::ByName(String::from_str(alloc, name)?, value),
+                depth,
+                end,
+            ))
+        }
+        None => {
+            let (value, depth, end) = expression(alloc, parts, ANY, tokens, at)?;
+            Ok((Argument::Positional(value), depth, end))
+        }
+    }
+}
+
 // The arguments behind an open bracket, up to the closed one, and the greatest depth among them.
 #[cycle(expressions)]
 #[tactic(auto, using(crate::proofs::Steps::separated_by_zero))]
@@ -330,23 +360,23 @@ fn arguments(
     parts: u32,
     tokens: &[Token],
     start: usize,
-) -> Result<(Vec<Expr>, u32, usize), ParseFault>
+) -> Result<(Vec<Argument>, u32, usize), ParseFault>
     requires { parts < 999 }
-    ensures reads { Gives (λ x. ((map expr_of x.0.items, x.1), from tokens.now x.2)) result (arguments_by (expression_at parts) (from tokens.now start)) }
+    ensures reads { Gives (λ x. ((map argument_of x.0.items, x.1), from tokens.now x.2)) result (arguments_by (expression_at parts) (from tokens.now start)) }
     ensures shallow { IfOk result (λ x. x.1 ≤ parts) }
 {
     if let Some(behind) = after_close(tokens, start) {
         return Ok((Vec::new(alloc), 0, behind));
     }
-    let mut args = Vec::new(alloc);
+    let mut arguments = Vec::new(alloc);
     let mut depth: u32 = 0;
     let mut at = start;
     for _turn in start..tokens.len() {
-        let (argument, argument_depth, behind) = expression(alloc, parts, ANY, tokens, at)?;
-        args.push(argument)?;
-        depth = depth.max(argument_depth);
+        let (next, next_depth, behind) = argument(alloc, parts, tokens, at)?;
+        arguments.push(next)?;
+        depth = depth.max(next_depth);
         if let Some(end) = after_arguments(tokens, behind) {
-            return Ok((args, depth, end));
+            return Ok((arguments, depth, end));
         }
         let Some(more) = after_comma(tokens, behind) else {
             return Err(ParseFault::Syntax(line_at(tokens, behind)));

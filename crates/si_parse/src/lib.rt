@@ -3,17 +3,19 @@
 // The one contract: `parse` gives the tree that the tokens of the text derive, and refuses a text only where there
 // is none (or where memory is refused).
 //
-// In reading order: `fault` says why a text is refused, `literal` has the values of literals,
-// `lookahead` the token at a place, `precedence` what continues an expression and how tightly, `expression` reads an
-// expression by precedence climbing, `statement` small statements and lines, `block` compound statements and their
-// suites, and `parser` a whole text.
+// In reading order: `fault` says why a text is refused, `literal` has the values of literals, `lookahead` the token at
+// a place, `name` names in a row, `precedence` what continues an expression and how tightly, `argument` what a call is
+// passed, `expression` reads an expression by precedence climbing, `statement` small statements and lines, `block`
+// compound statements and their suites, and `parser` a whole text.
 #![tactic(auto)]
 
+pub mod argument;
 pub mod block;
 pub mod expression;
 pub mod fault;
 pub mod literal;
 pub mod lookahead;
+pub mod name;
 pub mod parser;
 pub mod precedence;
 pub mod statement;

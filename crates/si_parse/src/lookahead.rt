@@ -4,7 +4,7 @@ ghost use Rattle.std.specs.Prelude.{◌≡◌, ℕ, ◌+◌, ◌<◌, ◌≤◌,
 ghost use Rattle.si_semantics.specs.Grammar.{terminal_of};
 ghost use Rattle.si_token.specs.Views.{token_of};
 ghost use Rattle.si_syntax.specs.Trees.{boolean_of};
-ghost use Rattle.si_parse.specs.Reading.{after_close, after_comma, after_newline, after_colon, after_indent, after_dedent, after_if, after_elif, after_while, after_semicolon, after_not, after_else, after_and, after_or, after_boolean, closing, is_end};
+ghost use Rattle.si_parse.specs.Reading.{after_close, after_equal, after_open, after_comma, after_newline, after_colon, after_indent, after_dedent, after_if, after_elif, after_while, after_def, after_return, after_global, after_semicolon, after_not, after_else, after_and, after_or, after_boolean, closing, ends_small};
 ghost use Rattle.si_parse.specs.Gives.{from};
 
 use si_syntax::BooleanOperator;
@@ -37,6 +37,28 @@ pub(crate) fn after_close(tokens: &[Token], at: usize) -> Option<usize>
     let token = token_at(tokens, at)?;
     match token.kind {
         TokenKind::Symbol(Symbol::RightParenthesis) => Some(at + 1),
+        _ => None,
+    }
+}
+
+// The place behind an `=`, where one stands at the place.
+pub(crate) fn after_equal(tokens: &[Token], at: usize) -> Option<usize>
+    ensures { option_map (from tokens.now) result ≡ after_equal (from tokens.now at) }
+{
+    let token = token_at(tokens, at)?;
+    match token.kind {
+        TokenKind::Symbol(Symbol::Equal) => Some(at + 1),
+        _ => None,
+    }
+}
+
+// The place behind an open bracket, where one stands at the place.
+pub(crate) fn after_open(tokens: &[Token], at: usize) -> Option<usize>
+    ensures { option_map (from tokens.now) result ≡ after_open (from tokens.now at) }
+{
+    let token = token_at(tokens, at)?;
+    match token.kind {
+        TokenKind::Symbol(Symbol::LeftParenthesis) => Some(at + 1),
         _ => None,
     }
 }
@@ -140,6 +162,39 @@ pub(crate) fn after_while(tokens: &[Token], at: usize) -> Option<usize>
     }
 }
 
+// The place behind a `def`, where one stands at the place.
+pub(crate) fn after_def(tokens: &[Token], at: usize) -> Option<usize>
+    ensures { option_map (from tokens.now) result ≡ after_def (from tokens.now at) }
+{
+    let token = token_at(tokens, at)?;
+    match token.kind {
+        TokenKind::Keyword(Keyword::Def) => Some(at + 1),
+        _ => None,
+    }
+}
+
+// The place behind a `return`, where one stands at the place.
+pub(crate) fn after_return(tokens: &[Token], at: usize) -> Option<usize>
+    ensures { option_map (from tokens.now) result ≡ after_return (from tokens.now at) }
+{
+    let token = token_at(tokens, at)?;
+    match token.kind {
+        TokenKind::Keyword(Keyword::Return) => Some(at + 1),
+        _ => None,
+    }
+}
+
+// The place behind a `global`, where one stands at the place.
+pub(crate) fn after_global(tokens: &[Token], at: usize) -> Option<usize>
+    ensures { option_map (from tokens.now) result ≡ after_global (from tokens.now at) }
+{
+    let token = token_at(tokens, at)?;
+    match token.kind {
+        TokenKind::Keyword(Keyword::Global) => Some(at + 1),
+        _ => None,
+    }
+}
+
 // The place behind a `not`, where one stands at the place.
 pub(crate) fn after_not(tokens: &[Token], at: usize) -> Option<usize>
     ensures { option_map (from tokens.now) result ≡ after_not (from tokens.now at) }
@@ -211,5 +266,18 @@ pub(crate) fn after_line(tokens: &[Token], at: usize) -> Option<usize>
     match after_semicolon(tokens, at) {
         Some(behind) => after_newline(tokens, behind),
         None => after_newline(tokens, at),
+    }
+}
+
+// Whether a small statement ends at the place.
+pub(crate) fn ends_small(tokens: &[Token], at: usize) -> bool
+    ensures { result ≡ ends_small (from tokens.now at) }
+{
+    let Some(token) = token_at(tokens, at) else {
+        return false;
+    };
+    match token.kind {
+        TokenKind::Newline | TokenKind::Symbol(Symbol::Semicolon) => true,
+        _ => false,
     }
 }

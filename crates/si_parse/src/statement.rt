@@ -4,13 +4,16 @@ ghost use Rattle.std.specs.Prelude.{◌≡◌, ℕ, ◌+◌, ◌-◌, length, ma
 ghost use Rattle.si_token.specs.Views.{symbol_of};
 ghost use Rattle.si_semantics.specs.Grammar.{max_depth};
 ghost use Rattle.si_syntax.specs.Trees.{binary_of, expr_of, stmt_of};
-ghost use Rattle.si_parse.specs.Reading.{assignment_symbol, assignment_at, word_statement, rest_of, expression_at, spelled_by, statement_by, line_by, is_end, module_by};
+ghost use Rattle.si_parse.specs.Reading.{assignment_symbol, assignment_at, word_statement, rest_of, expression_at, spelled_by, returned_by, global_by, statement_by, line_by, is_end, module_by};
 ghost use Rattle.si_parse.specs.Gives.{Gives, from};
 
 use crate::block::{MAX_NESTING, block};
 use crate::expression::expression;
 use crate::fault::ParseFault;
-use crate::lookahead::{after_line, after_semicolon, line_at, token_at};
+use crate::lookahead::{
+    after_global, after_line, after_return, after_semicolon, ends_small, line_at, token_at,
+};
+use crate::name::names;
 use crate::precedence::ANY;
 use si_plain::limits::MAX_EXPRESSION_DEPTH;
 use si_syntax::{BinaryOperator, Expr, Stmt};
@@ -60,8 +63,8 @@ fn word_statement(tokens: &[Token], at: usize) -> Option<(Stmt, usize)>
     let token = token_at(tokens, at)?;
     match token.kind {
         TokenKind::Keyword(Keyword::Pass) => Some((Stmt::Pass, at + 1)),
-        TokenKind::Keyword(Keyword::Break) => Some((Stmt::Break, at + 1)),
-        TokenKind::Keyword(Keyword::Continue) => Some((Stmt::Continue, at + 1)),
+        TokenKind::Keyword(Keyword::Break) => Some((Stmt::Break(token.span.line), at + 1)),
+        TokenKind::Keyword(Keyword::Continue) => Some((Stmt::Continue(token.span.line), at + 1)),
         _ => None,
     }
 }
@@ -84,14 +87,49 @@ fn spelled(alloc: Global, tokens: &[Token], start: usize) -> Result<(Stmt, usize
     }
 }
 
+// The statement from behind its `return`, which stands in the line.
+fn returned(
+    alloc: Global,
+    line: usize,
+    tokens: &[Token],
+    at: usize,
+) -> Result<(Stmt, usize), ParseFault>
+    ensures { Gives (λ x. (stmt_of x.0, from tokens.now x.1)) result (returned_by (expression_at max_depth) (from tokens.now at)) }
+{
+    if ends_small(tokens, at) {
+        return Ok((Stmt::Return(line, None), at));
+    }
+    let (value, _, end) = expression(alloc, MAX_EXPRESSION_DEPTH, ANY, tokens, at)?;
+    Ok((Stmt::Return(line, Some(value)), end))
+}
+
+// The statement from behind its `global`, which stands in the line.
+fn global(
+    alloc: Global,
+    line: usize,
+    tokens: &[Token],
+    at: usize,
+) -> Result<(Stmt, usize), ParseFault>
+    ensures { Gives (λ x. (stmt_of x.0, from tokens.now x.1)) result (global_by (from tokens.now at)) }
+{
+    let (names, end) = names(alloc, tokens, at)?;
+    Ok((Stmt::Global(line, names), end))
+}
+
 // A small statement, and the place behind it.
 fn statement(alloc: Global, tokens: &[Token], start: usize) -> Result<(Stmt, usize), ParseFault>
     ensures { Gives (λ x. (stmt_of x.0, from tokens.now x.1)) result (statement_by (expression_at max_depth) (from tokens.now start)) }
 {
-    match word_statement(tokens, start) {
-        Some((word, behind)) => Ok((word, behind)),
-        None => spelled(alloc, tokens, start),
+    if let Some((word, behind)) = word_statement(tokens, start) {
+        return Ok((word, behind));
     }
+    if let Some(behind) = after_return(tokens, start) {
+        return returned(alloc, line_at(tokens, start), tokens, behind);
+    }
+    if let Some(behind) = after_global(tokens, start) {
+        return global(alloc, line_at(tokens, start), tokens, behind);
+    }
+    spelled(alloc, tokens, start)
 }
 
 // The statements before with those of a line, and the place behind it.

@@ -79,11 +79,11 @@ fn calls_take_a_trailing_comma(rt: HostRuntime) -> Result<(), Fail> {
     let alloc = rt.alloc();
     assert_eq!(rt;
         shown(alloc, "f(1,)")?.as_str(),
-        "[Evaluate(Call(Name(\"f\"), [Int(1)]))]"
+        "[Evaluate(Call(Name(\"f\"), [Int(1)], []))]"
     );
     assert_eq!(rt;
         shown(alloc, "f()(1, 2); x = 3;\n")?.as_str(),
-        "[Evaluate(Call(Call(Name(\"f\"), []), [Int(1), Int(2)])), Assign(\"x\", Int(3))]"
+        "[Evaluate(Call(Call(Name(\"f\"), [], []), [Int(1), Int(2)], [])), Assign(\"x\", Int(3))]"
     );
     assert_eq!(rt;
         shown(alloc, "(x) = 1")?.as_str(),
@@ -108,7 +108,7 @@ fn a_line_ends_in_lf_cr_or_cr_lf_and_the_last_one_may_lack_it(rt: HostRuntime) -
     ] {
         assert_eq!(rt;
             shown(alloc, text)?.as_str(),
-            "[Assign(\"x\", Int(1)), Evaluate(Call(Name(\"f\"), [Name(\"x\")]))]",
+            "[Assign(\"x\", Int(1)), Evaluate(Call(Name(\"f\"), [Name(\"x\")], []))]",
             "{text:?}"
         );
     }
@@ -328,11 +328,11 @@ fn statements_of_branches_and_loops(rt: HostRuntime) -> Result<(), Fail> {
         ),
         (
             "if a: b\nelif c: d; pass\nelif e: break\nelse: continue\n",
-            "If(Name(\"a\"), [Evaluate(Name(\"b\"))], [(Name(\"c\"), [Evaluate(Name(\"d\")), Pass]), (Name(\"e\"), [Break])], [Continue])",
+            "If(Name(\"a\"), [Evaluate(Name(\"b\"))], [(Name(\"c\"), [Evaluate(Name(\"d\")), Pass]), (Name(\"e\"), [Break(3)])], [Continue(4)])",
         ),
         (
             "while a:\n  if b:\n    break\n\n    # c\n  else: continue\nd",
-            "While(Name(\"a\"), [If(Name(\"b\"), [Break], [], [Continue])]), Evaluate(Name(\"d\"))",
+            "While(Name(\"a\"), [If(Name(\"b\"), [Break(3)], [], [Continue(6)])]), Evaluate(Name(\"d\"))",
         ),
         (
             "if a:\n if b: c\nelse:\n d",
@@ -379,12 +379,124 @@ fn other_statements_are_refused(rt: HostRuntime) -> Result<(), Fail> {
     Ok(())
 }
 
-// So many `if` in one another, each a column further to the right.
-fn nested(alloc: Global, count: usize) -> Result<String, AllocError> {
+#[test]
+fn arguments_are_passed_by_place_or_by_name(rt: HostRuntime) -> Result<(), Fail> {
+    let alloc = rt.alloc();
+    for (arguments, trees) in [
+        (
+            "a, b=1, c=2",
+            "[Name(\"a\"), Int(1), Int(2)], [\"b\", \"c\"]",
+        ),
+        ("a=1,", "[Int(1)], [\"a\"]"),
+        ("x == 1", "[Compare(Name(\"x\"), [(Equal, Int(1))])], []"),
+        ("(a), a=a", "[Name(\"a\"), Name(\"a\")], [\"a\"]"),
+    ] {
+        let text = format!(in alloc; "f({arguments})")?;
+        let wanted = format!(in alloc; "[Evaluate(Call(Name(\"f\"), {trees}))]")?;
+        assert_eq!(rt;
+            shown(alloc, text.as_str())?.as_str(),
+            wanted.as_str(),
+            "{arguments:?}"
+        );
+    }
+    for text in [
+        "f(b=1, a)",
+        "f(a, b=1, c)",
+        "f(a=1, a=2)",
+        "f(a=1, b=2, a=3)",
+        "f((x)=1)",
+        "f(1=2)",
+        "f(a=)",
+        "f(=1)",
+        "f(a=b=1)",
+        "f(a=1 b=2)",
+    ] {
+        assert!(rt; is_refused(alloc, text), "{text:?}");
+    }
+    Ok(())
+}
+
+#[test]
+fn functions_are_read_with_their_lines(rt: HostRuntime) -> Result<(), Fail> {
+    let alloc = rt.alloc();
+    for (text, trees) in [
+        ("def f(): pass", "Define(1, \"f\", [], [Pass])"),
+        (
+            "def f(a, b,): return a",
+            "Define(1, \"f\", [\"a\", \"b\"], [Return(1, Some(Name(\"a\")))])",
+        ),
+        (
+            "x\n\ndef f(a):\n  global b, c\n  return;\n",
+            "Evaluate(Name(\"x\")), Define(3, \"f\", [\"a\"], [Global(4, [\"b\", \"c\"]), Return(5, None)])",
+        ),
+        ("global a", "Global(1, [\"a\"])"),
+        (
+            "return; return 1",
+            "Return(1, None), Return(1, Some(Int(1)))",
+        ),
+        (
+            "def f():\n def g(a): break\n return g(\n  a=1)",
+            "Define(1, \"f\", [], [Define(2, \"g\", [\"a\"], [Break(2)]), Return(3, Some(Call(Name(\"g\"), [Int(1)], [\"a\"])))])",
+        ),
+    ] {
+        let wanted = format!(in alloc; "[{trees}]")?;
+        assert_eq!(rt; shown(alloc, text)?.as_str(), wanted.as_str(), "{text:?}");
+    }
+    Ok(())
+}
+
+#[test]
+fn other_functions_are_refused(rt: HostRuntime) -> Result<(), Fail> {
+    let alloc = rt.alloc();
+    for text in [
+        "global",
+        "global a,",
+        "global a b",
+        "global (a)",
+        "global 1",
+        "return return",
+        "return = 1",
+        "return 1 2",
+        "x = return",
+        "def f(a b): pass",
+        "def f(a=1): pass",
+        "def f(,): pass",
+        "def f(a,,): pass",
+        "def f(1): pass",
+        "def f((a)): pass",
+        "def f: pass",
+        "def f() pass",
+        "def f(a: pass",
+        "def (): pass",
+        "def 1(): pass",
+        "def f():\npass",
+        "def f(): if a: b",
+        "x; def f(): pass",
+    ] {
+        assert!(rt; is_refused(alloc, text), "{text:?}");
+    }
+    Ok(())
+}
+
+#[test]
+fn a_function_has_255_parameters_and_no_more(rt: HostRuntime) -> Result<(), Fail> {
+    let alloc = rt.alloc();
+    for (count, trailing, refused) in [(255, "", false), (255, ",", false), (256, "", true)] {
+        let mut text = String::from_str(alloc, "def f(a")?;
+        push_often(&mut text, ", a", count - 1)?;
+        text.push_str(trailing)?;
+        text.push_str("): pass")?;
+        assert_eq!(rt; parse(alloc, text.as_str()).is_err(), refused);
+    }
+    Ok(())
+}
+
+// So many compound statements that begin so in one another, each a column further to the right.
+fn nested(alloc: Global, head: &str, count: usize) -> Result<String, AllocError> {
     let mut text = String::new(alloc);
     for column in 0..count {
         push_often(&mut text, " ", column)?;
-        text.push_str("if 1:\n")?;
+        text.push_str(head)?;
     }
     push_often(&mut text, " ", count)?;
     text.push_str("pass")?;
@@ -394,8 +506,10 @@ fn nested(alloc: Global, count: usize) -> Result<String, AllocError> {
 #[test]
 fn twenty_are_nested_and_no_more(rt: HostRuntime) -> Result<(), Fail> {
     let alloc = rt.alloc();
-    assert!(rt; parse(alloc, nested(alloc, 20)?.as_str()).is_ok());
-    assert!(rt; is_refused(alloc, nested(alloc, 21)?.as_str()));
+    for head in ["if 1:\n", "def f():\n"] {
+        assert!(rt; parse(alloc, nested(alloc, head, 20)?.as_str()).is_ok());
+        assert!(rt; is_refused(alloc, nested(alloc, head, 21)?.as_str()));
+    }
     let mut branches = String::from_str(alloc, "if a: b\n")?;
     push_often(&mut branches, "elif a: b\n", 100)?;
     assert!(rt; parse(alloc, branches.as_str()).is_ok());

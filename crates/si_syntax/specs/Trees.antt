@@ -1,6 +1,7 @@
 -- The trees that values of this crate stand for.
 use Rattle.std.specs.Global.{Global}
 use Rattle.std.specs.Prelude.{Vec, List, map, string_bytes}
+use Rattle.std.specs.Option.{option_map}
 use Rattle.si_semantics.specs.Value.{Nothing, Truth, Int, Str}
 use Rattle.si_semantics.specs.Tree as tree
 use Rattle.si_semantics.specs.Grammar.{exprs_of, chain_of, stmts_of, Branch, elifs_of}
@@ -59,7 +60,7 @@ view_step Expr-F.Nothing = tree.Constant Nothing
 view_step (Expr-F.Truth b) = tree.Constant (Truth b)
 view_step (Expr-F.Unary op a) = tree.Unary (unary_of op) a.value
 view_step (Expr-F.Binary op a b) = tree.Binary (binary_of op) a.value b.value
-view_step (Expr-F.Call a args) = tree.Call a.value (exprs_of args.items)
+view_step (Expr-F.Call a args names) = tree.Call a.value (exprs_of args.items) (map string_bytes names.items)
 view_step (Expr-F.Boolean op a others) = tree.Boolean (boolean_of op) a.value (exprs_of others.items)
 view_step (Expr-F.Compare a links) = tree.Compare a.value (chain_of (map (λ l. (comparison_of l.0, l.1)) links.items))
 view_step (Expr-F.Conditional test value other) = tree.Conditional test.value value.value other.value
@@ -80,8 +81,11 @@ stmt_step Stmt-F.Pass = tree.Pass
 stmt_step (Stmt-F.If test body elifs last) =
     tree.If (expr_of test) (stmts_of body.items) (elifs_of (map (λ b. (expr_of b.0, stmts_of b.1.items)) elifs.items) (stmts_of last.items))
 stmt_step (Stmt-F.While test body) = tree.While (expr_of test) (stmts_of body.items) tree.NoStmts
-stmt_step Stmt-F.Break = tree.Break
-stmt_step Stmt-F.Continue = tree.Continue
+stmt_step (Stmt-F.Break line) = tree.Break
+stmt_step (Stmt-F.Continue line) = tree.Continue
+stmt_step (Stmt-F.Define line x ps body) = tree.Define (string_bytes x) (map string_bytes ps.items) (stmts_of body.items)
+stmt_step (Stmt-F.Return line value) = tree.Return (option_map expr_of value)
+stmt_step (Stmt-F.Global line names) = tree.Global (map string_bytes names.items)
 
 abbrev pub stmt_of : Stmt → tree.Stmt
 stmt_of = fold-Stmt tree.Stmt stmt_step

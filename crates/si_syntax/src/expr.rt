@@ -18,8 +18,9 @@ pub enum Expr {
     Str(Text),
     Unary(UnaryOperator, Box<Expr>),
     Binary(BinaryOperator, Box<Expr>, Box<Expr>),
-    /// A callee and its positional arguments.
-    Call(Box<Expr>, Vec<Expr>),
+    /// A callee, its arguments, and the names of those that are passed by name, which are the last ones. No name comes
+    /// twice.
+    Call(Box<Expr>, Vec<Expr>, Vec<String>),
     /// Operands of `and` or of `or` in a row: the first, and the others, of which there is one at least.
     Boolean(BooleanOperator, Box<Expr>, Vec<Expr>),
     /// A chain of comparisons: the first operand, and each operator with the operand behind it.

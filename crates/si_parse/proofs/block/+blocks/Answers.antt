@@ -4,7 +4,7 @@ use Rattle.std.proofs.lemmas.List.{map-append}
 use Rattle.si_syntax.specs.Trees.{stmt_of, branch_of}
 use Rattle.si_parse.specs.Reading.{many_by, elif_by, no_elif, is_none, is_dedent, block_at}
 use Rattle.si_parse.specs.Gives.{from}
-use Rattle.si_parse.proofs.Turns.{many_on, many_ends, block_if, block_while, elif_read, indented_read}
+use Rattle.si_parse.proofs.Turns.{many_on, block_if, block_while, block_def, elif_read}
 use Rattle.si_parse.proofs.block.+blocks.Goals as goal
 
 pub block-returns-in-Some : goal.block-returns-in-Some
@@ -21,6 +21,15 @@ block-returns-in-Some-after_while t c =
     let pushed = ap (map stmt_of) c.in_ok-push-2.ensures.items ∙ map-append stmt_of c.args.before.items (c.in_ok-statement-2.statement ∷ []) in
     block_while c.args.nesting (map stmt_of c.args.before.items) (from c.args.tokens.now c.args.at) (from c.args.tokens.now c.in-Some-after_while.behind) _ _ (omega arith) not_if is c.in_ok-statement-2.ensures
     ∙ ap (λ l. Some (l, from c.args.tokens.now c.in_ok-statement-2.end)) (sym pushed)
+
+pub block-returns-in-Some-after_def : goal.block-returns-in-Some-after_def
+block-returns-in-Some-after_def t c =
+    let not_if = sym c.after_if.ensures ∙ ap (option_map (from c.args.tokens.now)) c.in_default.is in
+    let not_while = sym c.after_while.ensures ∙ ap (option_map (from c.args.tokens.now)) c.in_default-after_while.is in
+    let is = sym c.after_def.ensures ∙ ap (option_map (from c.args.tokens.now)) c.in-Some-after_def.is in
+    let pushed = ap (map stmt_of) c.in_ok-push-3.ensures.items ∙ map-append stmt_of c.args.before.items (c.in_ok-statement-3.statement ∷ []) in
+    block_def c.args.nesting (map stmt_of c.args.before.items) (from c.args.tokens.now c.args.at) (from c.args.tokens.now c.in-Some-after_def.behind) _ _ (omega arith) not_if not_while is c.in_ok-statement-3.ensures
+    ∙ ap (λ l. Some (l, from c.args.tokens.now c.in_ok-statement-3.end)) (sym pushed)
 
 pub elifs-loop-turn-preserved : goal.elifs-loop-turn-preserved
 elifs-loop-turn-preserved t c =

@@ -13,6 +13,9 @@ decreases-if_statement l = 8 * l.parts + 7
 abbrev pub decreases-while_statement : goal.decreases-while_statement
 decreases-while_statement l = 8 * l.parts + 7
 
+abbrev pub decreases-definition : goal.decreases-definition
+decreases-definition l = 8 * l.parts + 7
+
 abbrev pub decreases-elifs : goal.decreases-elifs
 decreases-elifs l = 8 * l.parts + 6
 

@@ -1,8 +1,8 @@
 use Rattle.std.proofs.Common.{◌≡◌, ◌+◌, ◌-◌, ◌*◌, ◌≤◌, length, map}
 use Rattle.si_semantics.specs.Grammar.{item_level}
 use Rattle.si_syntax.specs.Trees.{expr_of, link_of, boolean_of}
-use Rattle.si_parse.specs.Reading.{continued_by, arguments_by, operands_by, links_by, separated_by, chain_by, with_word, after_boolean, comparison_at, compared_by, with_argument, after_comma, after_close, expression_at}
-use Rattle.si_parse.specs.Gives.{from}
+use Rattle.si_parse.specs.Reading.{continued_by, arguments_by, operands_by, links_by, separated_by, chain_by, with_word, after_boolean, comparison_at, compared_by, with_argument, argument_by, after_comma, after_close, expression_at}
+use Rattle.si_parse.specs.Gives.{from, argument_of}
 use Rattle.si_parse.proofs.expression.+expressions.Given as goal
 
 abbrev pub decreases-expression : goal.decreases-expression
@@ -31,6 +31,9 @@ decreases-conditional l = 8 * l.parts + 5
 
 abbrev pub decreases-arguments : goal.decreases-arguments
 decreases-arguments l = 8 * l.parts + 4
+
+abbrev pub decreases-argument : goal.decreases-argument
+decreases-argument l = 8 * l.parts + 3
 
 abbrev pub decreases-operands : goal.decreases-operands
 decreases-operands l = 8 * l.parts + 4
@@ -63,7 +66,7 @@ invariant-continued-loop-turn l = record {
 abbrev pub invariant-arguments-loop-turn : goal.invariant-arguments-loop-turn
 invariant-arguments-loop-turn l = record {
   shallow : l.depth ≤ l.parts;
-  reads : separated_by with_argument (λ r. r.2) (expression_at l.parts 1) after_comma after_close (length l.tokens - l._turn) (map expr_of l.args.items, l.depth) (from l.tokens l.at)
+  reads : separated_by with_argument (λ r. r.2) (argument_by (expression_at l.parts)) after_comma after_close (length l.tokens - l._turn) (map argument_of l.arguments.items, l.depth) (from l.tokens l.at)
       ≡ arguments_by (expression_at l.parts) (from l.tokens l.start);
 }
 

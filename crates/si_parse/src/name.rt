@@ -1,0 +1,88 @@
+// Names that stand in a row: those of a `global`, and parameters.
+
+ghost use Rattle.std.specs.Prelude.{◌≡◌, [], map, option_map, string_bytes};
+ghost use Rattle.si_parse.specs.Reading.{name_at, names_by, listed_by, parameters_by};
+ghost use Rattle.si_parse.specs.Gives.{Gives, from};
+
+use crate::fault::ParseFault;
+use crate::lookahead::{after_arguments, after_close, after_comma, line_at, token_at};
+use si_token::{Token, TokenKind};
+use std::alloc::Global;
+
+// The most parameters of a function.
+const MAX_PARAMETERS: usize = 255;
+
+// Names, and the place behind them.
+type Names = Result<(Vec<String>, usize), ParseFault>;
+
+// The name that stands at the place, and the place behind it.
+pub(crate) fn name(
+    alloc: Global,
+    tokens: &[Token],
+    at: usize,
+) -> Result<(String, usize), ParseFault>
+    ensures { Gives (λ x. (string_bytes x.0, from tokens.now x.1)) result (name_at (from tokens.now at)) }
+{
+    let Some(token) = token_at(tokens, at) else {
+        return Err(ParseFault::Syntax(line_at(tokens, at)));
+    };
+    match token.kind {
+        TokenKind::Name => Ok((String::from_str(alloc, token.text)?, at + 1)),
+        _ => Err(ParseFault::Syntax(token.span.line)),
+    }
+}
+
+// Names with commas between them, of which there is one at least.
+#[tactic(auto, using(crate::proofs::Steps::many_by_zero, crate::proofs::Steps::many_by_step))]
+pub(crate) fn names(alloc: Global, tokens: &[Token], start: usize) -> Names
+    ensures { Gives (λ x. (map string_bytes x.0.items, from tokens.now x.1)) result (names_by (from tokens.now start)) }
+{
+    let (first, behind) = name(alloc, tokens, start)?;
+    let mut names = Vec::new(alloc);
+    names.push(first)?;
+    let mut at = behind;
+    for _turn in behind..tokens.len() {
+        let Some(more) = after_comma(tokens, at) else {
+            return Ok((names, at));
+        };
+        let (next, end) = name(alloc, tokens, more)?;
+        names.push(next)?;
+        at = end;
+    }
+    Err(ParseFault::Syntax(line_at(tokens, at)))
+}
+
+// The names behind an open bracket, up to the closed one.
+#[tactic(auto, using(crate::proofs::Steps::separated_by_zero))]
+fn listed(alloc: Global, tokens: &[Token], start: usize) -> Names
+    ensures { Gives (λ x. (map string_bytes x.0.items, from tokens.now x.1)) result (listed_by (from tokens.now start)) }
+{
+    if let Some(behind) = after_close(tokens, start) {
+        return Ok((Vec::new(alloc), behind));
+    }
+    let mut names = Vec::new(alloc);
+    let mut at = start;
+    for _turn in start..tokens.len() {
+        let (next, behind) = name(alloc, tokens, at)?;
+        names.push(next)?;
+        if let Some(end) = after_arguments(tokens, behind) {
+            return Ok((names, end));
+        }
+        let Some(more) = after_comma(tokens, behind) else {
+            return Err(ParseFault::Syntax(line_at(tokens, behind)));
+        };
+        at = more;
+    }
+    Err(ParseFault::Syntax(line_at(tokens, at)))
+}
+
+// The same, where there are no more than a function may have.
+pub(crate) fn parameters(alloc: Global, tokens: &[Token], start: usize) -> Names
+    ensures { Gives (λ x. (map string_bytes x.0.items, from tokens.now x.1)) result (parameters_by (from tokens.now start)) }
+{
+    let (names, end) = listed(alloc, tokens, start)?;
+    if names.len() > MAX_PARAMETERS {
+        return Err(ParseFault::Syntax(line_at(tokens, start)));
+    }
+    Ok((names, end))
+}
