@@ -1,0 +1,4 @@
+pub mod Faults
+pub mod Locals
+pub mod Scripts
+pub mod Walk

@@ -1,0 +1,70 @@
+// The names of a function, as far as its suite was gone over.
+ghost use Rattle.std.specs.Prelude.{◌≡◌, [], IfOk, IfErr, OnOk, map, string_bytes, true, false};
+ghost use Rattle.si_semantics.specs.Scope.{are_distinct};
+ghost use Rattle.si_scope.specs.Faults.{Leaves, IsScope};
+ghost use Rattle.si_scope.specs.Walk.{binding, declaring};
+
+use crate::fault::ScopeFault;
+use si_plain::{Names, NoMemory};
+use si_syntax::Line;
+use std::alloc::Global;
+
+// The names that were used or bound, and the parameters; those that were declared global; and those that are local.
+#[derive(Drop)]
+pub(crate) struct Seen {
+    pub(crate) used: Names,
+    pub(crate) declared: Names,
+    pub(crate) locals: Names,
+}
+
+impl Seen {
+    // In front of the suite of a function with these parameters, whose `def` stands in this line.
+    pub(crate) fn new(alloc: Global, line: Line, parameters: &[String]) -> Result<Seen, ScopeFault>
+        ensures used { IfOk result (λ seen. seen.used ≡ map string_bytes parameters.now) }
+        ensures declared { IfOk result (λ seen. seen.declared ≡ []) }
+        ensures locals { IfOk result (λ seen. seen.locals ≡ map string_bytes parameters.now) }
+        ensures distinct { IfOk result (λ seen. are_distinct (map string_bytes parameters.now) ≡ true) }
+        ensures scope { IfErr result (λ fault. IsScope fault → are_distinct (map string_bytes parameters.now) ≡ false) }
+    {
+        let mut used = Names::new(alloc);
+        let mut locals = Names::new(alloc);
+        for parameter in parameters {
+            let name = parameter.as_str();
+            if used.position(name).is_some() {
+                return Err(ScopeFault::Scope(line));
+            }
+            used.slot_of(name)?;
+            locals.slot_of(name)?;
+        }
+        Ok(Seen {
+            used,
+            declared: Names::new(alloc),
+            locals,
+        })
+    }
+
+    // A name is bound.
+    pub(crate) fn bind(&mut self, name: &str) -> Result<(), NoMemory>
+        ensures { OnOk result (self.new ≡ binding name.now self.old) }
+    {
+        self.used.slot_of(name)?;
+        if self.declared.position(name).is_none() {
+            self.locals.slot_of(name)?;
+        }
+        Ok(())
+    }
+
+    // Names are declared global, in this line.
+    pub(crate) fn declare(&mut self, line: Line, names: &[String]) -> Result<(), ScopeFault>
+        ensures { Leaves self.new result (declaring (map string_bytes names.now) self.old) }
+    {
+        for global in names {
+            let name = global.as_str();
+            if self.used.position(name).is_some() {
+                return Err(ScopeFault::Scope(line));
+            }
+            self.declared.slot_of(name)?;
+        }
+        Ok(())
+    }
+}
