@@ -1,11 +1,12 @@
 -- What the contents of a table stand for.
 use Rattle.std.specs.Prelude.{◌≡◌, ℕ, List, [], ◌++◌, Option, Some, None, map, fold, slice_index_or}
 use Rattle.std.specs.List.{filter_map}
-use Rattle.si_semantics.specs.Value.{Text, Nothing, Truth, Int, Str}
+use Rattle.si_semantics.specs.Value.{Text, Nothing, Truth, Int, Str, Function}
 use Rattle.si_semantics.specs.Machine as machine
 use Rattle.si_syntax.specs.Trees.{binary_of, unary_of, comparison_of, boolean_of}
 use Rattle.si_code.specs.declared.instr.Instr.{Instr}
-use Rattle.si_code.specs.declared.instr.Instr.TheVariants.{PushInt, PushNone, PushTruth, PushLiteral, LoadGlobal, StoreGlobal, Unary, Binary, Compare, KeepRight, EndChain, JumpOrDiscard, JumpIfFalse, Jump, EnterLoop, Break, Continue, Call, Discard, Finish}
+use Rattle.si_code.specs.declared.instr.Instr.TheVariants.{PushInt, PushNone, PushTruth, PushLiteral, LoadGlobal, StoreGlobal, LoadLocal, StoreLocal, PushFunction, Unary, Binary, Compare, KeepRight, EndChain, JumpOrDiscard, JumpIfFalse, Jump, EnterLoop, Break, Continue, Call, CallByName, Return, Discard, Finish}
+use Rattle.si_code.specs.declared.routine.Routine.{Routine}
 use Rattle.si_code.specs.Contents.{Contents}
 use Rattle.si_plain.specs.Names.{with_name}
 
@@ -21,6 +22,9 @@ instr_of literals names (PushTruth b) = machine.Push (Truth b)
 instr_of literals names (PushLiteral place) = machine.Push (Str (text_at literals place))
 instr_of literals names (LoadGlobal slot) = machine.LoadGlobal (text_at names slot)
 instr_of literals names (StoreGlobal slot) = machine.StoreGlobal (text_at names slot)
+instr_of literals names (LoadLocal place slot) = machine.LoadLocal (text_at names slot) place
+instr_of literals names (StoreLocal place) = machine.StoreLocal place
+instr_of literals names (PushFunction number place) = machine.Push (Function (text_at literals place) number)
 instr_of literals names (Unary o) = machine.ApplyUnary (unary_of o)
 instr_of literals names (Binary o) = machine.ApplyBinary (binary_of o)
 instr_of literals names (Compare o) = machine.ApplyComparison (comparison_of o)
@@ -33,6 +37,8 @@ instr_of literals names (EnterLoop back ahead) = machine.EnterLoop back ahead
 instr_of literals names Break = machine.DoBreak
 instr_of literals names Continue = machine.DoContinue
 instr_of literals names (Call n) = machine.CallTop n
+instr_of literals names (CallByName n) = machine.CallByName n
+instr_of literals names Return = machine.DoReturn
 instr_of literals names Discard = machine.Discard
 instr_of literals names Finish = machine.Finish
 
@@ -40,23 +46,39 @@ instr_of literals names Finish = machine.Finish
 abbrev pub code_of : Contents → List machine.Instr
 code_of c = map (instr_of c.literals c.names) c.lines
 
+-- where a function begins, and how many parameters and locals it has
+abbrev pub entry_of : Routine → machine.Entry
+entry_of r = record { at = r.at; parameters = r.parameters; locals = r.locals }
+
+-- the entries of the functions of a table
+abbrev pub entries_of : Contents → List machine.Entry
+entries_of c = map entry_of c.routines
+
 -- a table
 abbrev pub table_of : Contents → machine.Table
-table_of c = record { lines = code_of c }
+table_of c = record { lines = code_of c; entries = entries_of c }
 
--- the str literal that an instruction speaks of
+-- the str literal or the name of a function that an instruction speaks of
 abbrev pub literal_of : machine.Instr → Option Text
 literal_of (machine.Push (Str t)) = Some t
+literal_of (machine.Push (Function x k)) = Some x
 literal_of _ = None
 
--- the global that an instruction speaks of, by its name
-abbrev pub global_of : machine.Instr → Option Text
-global_of (machine.LoadGlobal x) = Some x
-global_of (machine.StoreGlobal x) = Some x
-global_of _ = None
+-- the name that an instruction speaks of
+abbrev pub name_of : machine.Instr → Option Text
+name_of (machine.LoadGlobal x) = Some x
+name_of (machine.StoreGlobal x) = Some x
+name_of (machine.LoadLocal x k) = Some x
+name_of _ = None
 
--- a table has this code more, with its literals in order and a slot for each global that had none
+-- a table has this code more, with its literals in order and a slot for each name that had none
 pub record Gains (old new : Contents) (code : List machine.Instr) : Type 0 where
   pub lines : code_of new ≡ code_of old ++ code
   pub literals : new.literals ≡ old.literals ++ filter_map literal_of code
-  pub names : new.names ≡ fold with_name old.names (filter_map global_of code)
+  pub names : new.names ≡ fold with_name old.names (filter_map name_of code)
+  pub routines : new.routines ≡ old.routines
+
+-- a table has this code more, and functions with these entries
+pub record GainsRoutines (old new : Contents) (code : List machine.Instr) (entries : List machine.Entry) : Type 0 where
+  pub gains : Gains old (record new { routines = old.routines }) code
+  pub more : entries_of new ≡ entries_of old ++ entries

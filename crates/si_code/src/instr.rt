@@ -23,6 +23,14 @@ pub enum Instr {
     LoadGlobal(u32),
     /// `[.., value] to [..]`: binds the global at this slot to the value.
     StoreGlobal(u32),
+    /// `[..] to [.., value]`: puts the value of the local at the first number, which is its place among the locals, or
+    /// raises UnboundLocalError, whose message has the name at the second number, a slot of the table's names.
+    LoadLocal(u32, u32),
+    /// `[.., value] to [..]`: binds the local at this place to the value.
+    StoreLocal(u32),
+    /// `[..] to [.., function]`: puts the function of the first number, a number of the table's routines. Its name is the
+    /// str literal at the second number, a place.
+    PushFunction(u32, u32),
     /// `[.., a] to [.., o a]`: puts what the operator gives for an operand, or raises what it raises.
     Unary(UnaryOperator),
     /// `[.., a, b] to [.., a o b]`: puts what the operator gives for two operands, or raises what it raises.
@@ -49,6 +57,10 @@ pub enum Instr {
     Continue,
     /// `[.., f, a1, .., an] to [.., f(a1, .., an)]`: puts what the call of `f` with these n arguments gives, or raises what it raises.
     Call(u32),
+    /// `[.., f, a1, .., an] to []`: the same where some of these n arguments are passed by name, which raises TypeError.
+    CallByName(u32),
+    /// `[.., value] to [..]`: leaves the function with the value, for the place behind its call.
+    Return,
     /// `[.., value] to [..]`: lets a value go.
     Discard,
     /// The run has come to its end.

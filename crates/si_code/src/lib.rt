@@ -9,7 +9,9 @@
 #![tactic(auto)]
 
 pub mod instr;
+pub mod routine;
 pub mod table;
 
 pub use instr::Instr;
+pub use routine::Routine;
 pub use table::{CodeTable, Entry, Mark};

@@ -1,7 +1,9 @@
 -- What the code of parts with jumps between them gives is what the tree's code gives.
 use Rattle.std.proofs.Common.{◌≡◌, ℕ, ◌+◌, ◌-◌, ◌<◌, ◌≤◌, List, [], ◌∷◌, ◌++◌, map, length, drop, get_or, sym, ap, subst, ◌∙◌, append_assoc, append-nil, length-append, arith}
 use Rattle.std.proofs.lemmas.List.{drop_all, map-append}
+use Rattle.si_semantics.specs.Value.{Text}
 use Rattle.si_semantics.specs.Tree as tree
+use Rattle.si_semantics.specs.Tree.{functions_in}
 use Rattle.si_semantics.specs.Machine as machine
 use Rattle.si_semantics.specs.Grammar.{exprs_of, chain_of, elifs_of, Link, Branch}
 use Rattle.si_syntax.specs.declared.operators.ComparisonOperator.{ComparisonOperator}
@@ -86,8 +88,8 @@ loop_gains {t0} {t1} {t2} test body start here h k =
 
 -- ---- `and` and `or`
 
-abbrev pub Operands : tree.BooleanOperator → List Expr → List machine.Instr
-Operands o es = operands_code o (exprs_of (map expr_of es))
+abbrev pub Operands : List Text → tree.BooleanOperator → List Expr → List machine.Instr
+Operands ls o es = operands_code ls o (exprs_of (map expr_of es))
 
 -- whatever is due behind, with these jumps it makes all
 abbrev pub MakesAll : Contents → List ℕ → List machine.Instr → Contents → List machine.Instr → Type 0
@@ -113,63 +115,64 @@ behind_more {t0} {t1} {more} jumps at push here before all =
 pub all_aimed : {t0 t1 t2 : Contents} {jumps seen : List ℕ} {all : List machine.Instr} → seen ≡ jumps → Due t0 jumps all t1 → AimsAll t1 seen t2 → Gains t0 t2 all
 all_aimed {t0} {t1} {t2} {jumps} {seen} {all} same d aims = aims t0 all (subst (λ js. Due t0 js all t1) (sym same) d)
 
-pub operand_due : {t1 t2 t3 : Contents} (o : tree.BooleanOperator) (es : List Expr) (i : ℕ) (e : Expr) (at : ℕ) → i < length es → get_or es i e ≡ e → at ≡ length t1.lines
-    → Gains t1 t2 (machine.JumpOrDiscard o 0 ∷ []) → Gains t2 t3 (expr_code (expr_of e))
-    → (end : Contents) (later : List ℕ) → Due t3 later (Operands o (drop (i + 1) es)) end → Due t1 (at ∷ later) (Operands o (drop i es)) end
-operand_due {t1} {t2} {t3} o es i e at lt is here h k end later d =
+pub operand_due : {t1 t2 t3 : Contents} (ls : List Text) (o : tree.BooleanOperator) (es : List Expr) (i : ℕ) (e : Expr) (at : ℕ) → i < length es → get_or es i e ≡ e → at ≡ length t1.lines
+    → Gains t1 t2 (machine.JumpOrDiscard o 0 ∷ []) → Gains t2 t3 (expr_code ls (expr_of e))
+    → (end : Contents) (later : List ℕ) → Due t3 later (Operands ls o (drop (i + 1) es)) end → Due t1 (at ∷ later) (Operands ls o (drop i es)) end
+operand_due {t1} {t2} {t3} ls o es i e at lt is here h k end later d =
     let place : at ≡ length t1.lines + 0 = omega arith in
-    subst (λ l. Due t1 (at ∷ later) (Operands o l) end) (sym (rest_is es i e lt is))
-    (Due-jump [] (expr_code (expr_of e) ++ Operands o (drop (i + 1) es)) (machine.JumpOrDiscard o 0) h place (Due-before (expr_code (expr_of e)) (Operands o (drop (i + 1) es)) k d))
+    subst (λ l. Due t1 (at ∷ later) (Operands ls o l) end) (sym (rest_is es i e lt is))
+    (Due-jump [] (expr_code ls (expr_of e) ++ Operands ls o (drop (i + 1) es)) (machine.JumpOrDiscard o 0) h place (Due-before (expr_code ls (expr_of e)) (Operands ls o (drop (i + 1) es)) k d))
 
-pub operands_end : {t0 t1 : Contents} (o : tree.BooleanOperator) (es : List Expr) (i : ℕ) (jumps : List ℕ) → length es ≤ i → MakesAll t0 jumps (Operands o es) t1 (Operands o (drop i es)) → Due t0 jumps (Operands o es) t1
-operands_end {t0} {t1} o es i jumps le before =
-    MakesAll-end jumps (Operands o es) (Operands o (drop i es)) before (subst (λ l. Gains t1 t1 (Operands o l)) (sym (drop_all i es le)) (Gains-nil t1))
+pub operands_end : {t0 t1 : Contents} (ls : List Text) (o : tree.BooleanOperator) (es : List Expr) (i : ℕ) (jumps : List ℕ) → length es ≤ i → MakesAll t0 jumps (Operands ls o es) t1 (Operands ls o (drop i es)) → Due t0 jumps (Operands ls o es) t1
+operands_end {t0} {t1} ls o es i jumps le before =
+    MakesAll-end jumps (Operands ls o es) (Operands ls o (drop i es)) before (subst (λ l. Gains t1 t1 (Operands ls o l)) (sym (drop_all i es le)) (Gains-nil t1))
 
 -- ---- chains of comparisons
 
 abbrev pub Linked : Type 0
 Linked = ComparisonOperator × Expr
 
-abbrev pub Chain : List Linked → Linked → List machine.Instr
-Chain links last = chain_code (chain_of (map link_of links ++ link_of last ∷ []))
+abbrev pub Chain : List Text → List Linked → Linked → List machine.Instr
+Chain ls links last = chain_code ls (chain_of (map link_of links ++ link_of last ∷ []))
 
 -- a comparison and its operand, with more of the chain behind it
-abbrev link_front : Link → List machine.Instr
-link_front l = expr_code l.1 ++ (machine.KeepRight ∷ (machine.ApplyComparison l.0 ∷ []))
+abbrev link_front : List Text → Link → List machine.Instr
+link_front ls l = expr_code ls l.1 ++ (machine.KeepRight ∷ (machine.ApplyComparison l.0 ∷ []))
 
-chain_more : (l : Link) (ls : List Link) (last : Link) → chain_code (chain_of (l ∷ (ls ++ last ∷ []))) ≡ link_front l ++ machine.EndChain (length (chain_code (chain_of (ls ++ last ∷ [])))) ∷ chain_code (chain_of (ls ++ last ∷ []))
-chain_more l [] last = sym (append_assoc (expr_code l.1) (machine.KeepRight ∷ (machine.ApplyComparison l.0 ∷ [])) (machine.EndChain (length (chain_code (chain_of (last ∷ [])))) ∷ chain_code (chain_of (last ∷ []))))
-chain_more l (m ∷ ls) last = sym (append_assoc (expr_code l.1) (machine.KeepRight ∷ (machine.ApplyComparison l.0 ∷ [])) (machine.EndChain (length (chain_code (chain_of (m ∷ (ls ++ last ∷ []))))) ∷ chain_code (chain_of (m ∷ (ls ++ last ∷ [])))))
+chain_more : (ls : List Text) (l : Link) (more : List Link) (last : Link) → chain_code ls (chain_of (l ∷ (more ++ last ∷ []))) ≡ link_front ls l ++ machine.EndChain (length (chain_code ls (chain_of (more ++ last ∷ [])))) ∷ chain_code ls (chain_of (more ++ last ∷ []))
+chain_more ls l [] last = sym (append_assoc (expr_code ls l.1) (machine.KeepRight ∷ (machine.ApplyComparison l.0 ∷ [])) (machine.EndChain (length (chain_code ls (chain_of (last ∷ [])))) ∷ chain_code ls (chain_of (last ∷ []))))
+chain_more ls l (m ∷ more) last = sym (append_assoc (expr_code ls l.1) (machine.KeepRight ∷ (machine.ApplyComparison l.0 ∷ [])) (machine.EndChain (length (chain_code ls (chain_of (m ∷ (more ++ last ∷ []))))) ∷ chain_code ls (chain_of (m ∷ (more ++ last ∷ [])))))
 
-pub link_due : {t1 t2 t3 t4 t5 : Contents} (links : List Linked) (last : Linked) (i : ℕ) (l : Linked) (at : ℕ) → i < length links → get_or links i l ≡ l → at ≡ length t4.lines
-    → Gains t1 t2 (expr_code (link_of l).1) → Gains t2 t3 (machine.KeepRight ∷ []) → Gains t3 t4 (machine.ApplyComparison (link_of l).0 ∷ []) → Gains t4 t5 (machine.EndChain 0 ∷ [])
-    → (end : Contents) (later : List ℕ) → Due t5 later (Chain (drop (i + 1) links) last) end → Due t1 (at ∷ later) (Chain (drop i links) last) end
-link_due {t1} {t2} {t3} {t4} {t5} links last i l at lt is here h0 h1 h2 h3 end later d =
-    let front = Gains-append t1 t2 t4 (expr_code (link_of l).1) (machine.KeepRight ∷ (machine.ApplyComparison (link_of l).0 ∷ [])) h0 (Gains-append t2 t3 t4 (machine.KeepRight ∷ []) (machine.ApplyComparison (link_of l).0 ∷ []) h1 h2) in
-    let rest = Chain (drop (i + 1) links) last in
-    subst (λ c. Due t1 (at ∷ later) c end) (sym (ap (λ ls. Chain ls last) (rest_is links i l lt is) ∙ chain_more (link_of l) (map link_of (drop (i + 1) links)) (link_of last)))
-    (Due-jump (link_front (link_of l)) rest (machine.EndChain 0) (Gains-append t1 t4 t5 (link_front (link_of l)) (machine.EndChain 0 ∷ []) front h3) (here ∙ length_gained front) d)
+pub link_due : {t1 t2 t3 t4 t5 : Contents} (ls : List Text) (links : List Linked) (last : Linked) (i : ℕ) (l : Linked) (at : ℕ) → i < length links → get_or links i l ≡ l → at ≡ length t4.lines
+    → Gains t1 t2 (expr_code ls (link_of l).1) → Gains t2 t3 (machine.KeepRight ∷ []) → Gains t3 t4 (machine.ApplyComparison (link_of l).0 ∷ []) → Gains t4 t5 (machine.EndChain 0 ∷ [])
+    → (end : Contents) (later : List ℕ) → Due t5 later (Chain ls (drop (i + 1) links) last) end → Due t1 (at ∷ later) (Chain ls (drop i links) last) end
+link_due {t1} {t2} {t3} {t4} {t5} ls links last i l at lt is here h0 h1 h2 h3 end later d =
+    let front = Gains-append t1 t2 t4 (expr_code ls (link_of l).1) (machine.KeepRight ∷ (machine.ApplyComparison (link_of l).0 ∷ [])) h0 (Gains-append t2 t3 t4 (machine.KeepRight ∷ []) (machine.ApplyComparison (link_of l).0 ∷ []) h1 h2) in
+    let rest = Chain ls (drop (i + 1) links) last in
+    subst (λ c. Due t1 (at ∷ later) c end) (sym (ap (λ l. Chain ls l last) (rest_is links i l lt is) ∙ chain_more ls (link_of l) (map link_of (drop (i + 1) links)) (link_of last)))
+    (Due-jump (link_front ls (link_of l)) rest (machine.EndChain 0) (Gains-append t1 t4 t5 (link_front ls (link_of l)) (machine.EndChain 0 ∷ []) front h3) (here ∙ length_gained front) d)
 
-pub chain_end : {t0 t1 t2 t3 : Contents} (links : List Linked) (last : Linked) (i : ℕ) (jumps : List ℕ) → length links ≤ i → MakesAll t0 jumps (Chain links last) t1 (Chain (drop i links) last)
-    → Gains t1 t2 (expr_code (link_of last).1) → Gains t2 t3 (machine.ApplyComparison (link_of last).0 ∷ []) → Due t0 jumps (Chain links last) t3
-chain_end {t0} {t1} {t2} {t3} links last i jumps le before h k =
-    MakesAll-end jumps (Chain links last) (Chain (drop i links) last) before
-    (subst (λ ls. Gains t1 t3 (Chain ls last)) (sym (drop_all i links le)) (Gains-append t1 t2 t3 (expr_code (link_of last).1) (machine.ApplyComparison (link_of last).0 ∷ []) h k))
+pub chain_end : {t0 t1 t2 t3 : Contents} (ls : List Text) (links : List Linked) (last : Linked) (i : ℕ) (jumps : List ℕ) → length links ≤ i → MakesAll t0 jumps (Chain ls links last) t1 (Chain ls (drop i links) last)
+    → Gains t1 t2 (expr_code ls (link_of last).1) → Gains t2 t3 (machine.ApplyComparison (link_of last).0 ∷ []) → Due t0 jumps (Chain ls links last) t3
+chain_end {t0} {t1} {t2} {t3} ls links last i jumps le before h k =
+    MakesAll-end jumps (Chain ls links last) (Chain ls (drop i links) last) before
+    (subst (λ l. Gains t1 t3 (Chain ls l last)) (sym (drop_all i links le)) (Gains-append t1 t2 t3 (expr_code ls (link_of last).1) (machine.ApplyComparison (link_of last).0 ∷ []) h k))
 
 -- the last link stands behind the others
-pub chain_all : (all links : List Linked) (last : Linked) → all ≡ links ++ last ∷ [] → chain_code (chain_of (map link_of all)) ≡ Chain links last
-chain_all all links last is = ap (λ ls. chain_code (chain_of (map link_of ls))) is ∙ ap (λ ls. chain_code (chain_of ls)) (map-append link_of links (last ∷ []))
+pub chain_all : (ls : List Text) (all links : List Linked) (last : Linked) → all ≡ links ++ last ∷ [] → chain_code ls (chain_of (map link_of all)) ≡ Chain ls links last
+chain_all ls all links last is = ap (λ l. chain_code ls (chain_of (map link_of l))) is ∙ ap (λ l. chain_code ls (chain_of l)) (map-append link_of links (last ∷ []))
 
 -- ---- `elif`
 
-abbrev pub Elifs : List Branch → tree.Stmts → List machine.Instr
-Elifs branches last = stmts_code (elifs_of branches last)
+abbrev pub Elifs : List Text → ℕ → List Branch → tree.Stmts → List machine.Instr
+Elifs ls first branches last = stmts_code ls first (elifs_of branches last)
 
-pub elif_due : {t1 t2 : Contents} (b : Branch) (more : List Branch) (last : tree.Stmts) (at : ℕ) → at + 1 ≡ length t2.lines
-    → Gains t1 t2 (branch_front (expr_code b.0) (stmts_code b.1) ++ machine.Jump 0 ∷ [])
-    → (end : Contents) (later : List ℕ) → Due t2 later (Elifs more last) end → Due t1 (at ∷ later) (Elifs (b ∷ more) last) end
-elif_due {t1} {t2} b more last at here h end later d =
-    let test = expr_code b.0 in let body = stmts_code b.1 in let rest = Elifs more last in
-    let same : branch_front test body ++ machine.Jump (length rest) ∷ rest ≡ Elifs (b ∷ more) last =
+-- the functions of those behind a branch are numbered behind its own
+pub elif_due : {t1 t2 : Contents} (ls : List Text) (first : ℕ) (b : Branch) (more : List Branch) (last : tree.Stmts) (at : ℕ) → at + 1 ≡ length t2.lines
+    → Gains t1 t2 (branch_front (expr_code ls b.0) (stmts_code ls first b.1) ++ machine.Jump 0 ∷ [])
+    → (end : Contents) (later : List ℕ) → Due t2 later (Elifs ls (first + length (functions_in b.1)) more last) end → Due t1 (at ∷ later) (Elifs ls first (b ∷ more) last) end
+elif_due {t1} {t2} ls first b more last at here h end later d =
+    let test = expr_code ls b.0 in let body = stmts_code ls first b.1 in let rest = Elifs ls (first + length (functions_in b.1)) more last in
+    let same : branch_front test body ++ machine.Jump (length rest) ∷ rest ≡ Elifs ls first (b ∷ more) last =
     append_assoc test (machine.JumpIfFalse (length body + 1) ∷ body) (machine.Jump (length rest) ∷ rest) ∙ sym (append-nil (branch_code test body rest)) in
     subst (λ c. Due t1 (at ∷ later) c end) same (Due-jump (branch_front test body) rest (machine.Jump 0) h (branch_place test body at h here) d)

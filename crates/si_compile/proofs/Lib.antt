@@ -1,6 +1,7 @@
 pub mod Steps
 pub mod Exprs
 pub mod Stmts
+pub mod Calls
 pub mod Tables
 pub mod Life
 pub mod Opened
@@ -10,3 +11,4 @@ pub mod Interpreter
 pub mod Emitted
 pub mod Branches
 pub mod Forms
+pub mod Functions

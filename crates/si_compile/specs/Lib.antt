@@ -1,4 +1,5 @@
 pub mod Code
 pub mod Jumps
+pub mod Functions
 pub mod Correct
 pub mod Interpreter

@@ -1,12 +1,17 @@
 // What the compiled code does, for those who run it.
 
-ghost use Rattle.si_compile.specs.Correct.{Compiles, Lives, StaysOpen};
+ghost use Rattle.si_compile.specs.Correct.{Compiles, KnowsMore, Lives, StaysOpen};
 ghost use Rattle.si_compile.specs.Interpreter.{StaysAfter, AfterShows};
 
 /// The code of a text does what its body means, from every state and whatever came before, and takes at most sixteen
 /// lines for each statement, expression and target that the meaning visits.
 pub fn compiles()
     ensures { Compiles }
+{}
+
+/// A table that knows the functions that were read before a text knows that text's functions too, once its code is added.
+pub fn knows_more()
+    ensures { KnowsMore }
 {}
 
 /// Under any answers a machine that runs compiled code comes to where the life of its meaning ends, within that count.

@@ -1,16 +1,17 @@
-// From trees to instructions.
+// From scripts to instructions.
 //
-// `compile` adds the code of a module to a `si_code::CodeTable`: the table then stands for what it stood for, with the
-// code that specs/Code.antt gives the tree behind it; or `break` or `continue` stands in no loop, or memory was
-// refused, and the table is as it was. What such code does when a machine runs it, `laws` says: what the module means.
+// `compile` adds the code of a script to a `si_code::CodeTable`: the table then stands for what it stood for, with the
+// code and the functions that specs/Code.antt gives the tree behind it; or memory was refused, and the table is as it
+// was. What such code does when a machine runs it, `laws` says: what the script means.
 //
-// In reading order: `fault`, why a module is not compiled; `emit`, the code of each form of tree; `laws`.
-// specs/Jumps.antt is for the proofs alone.
+// In reading order: `emit`, the code of each form of tree; `script`, the code of a whole script, functions first;
+// `laws`. specs/Jumps.antt and specs/Functions.antt are for the proofs alone.
 #![tactic(auto)]
 
 pub mod emit;
-pub mod fault;
 pub mod laws;
+pub mod script;
+#[cfg(test)]
+mod tests;
 
-pub use emit::compile;
-pub use fault::CompileFault;
+pub use script::compile;

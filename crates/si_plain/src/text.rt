@@ -36,6 +36,15 @@ impl Text {
         }
     }
 
+    /// The empty text, with room for so many bytes of UTF-8. `AllocError` where memory is refused.
+    pub fn with_capacity(alloc: Global, capacity: usize) -> Result<Text, AllocError>
+        ensures { IfOk result (λ t. t ≡ []) }
+    {
+        let bytes = String::with_capacity(alloc, capacity)?;
+        let characters = 0;
+        Ok(Text { bytes, characters })
+    }
+
     /// The characters of `text`.
     pub fn from_str(alloc: Global, text: &str) -> Result<Text, AllocError>
         ensures { IfOk result (λ t. t ≡ characters_of text.now) }

@@ -11,21 +11,21 @@ use Rattle.si_compile.proofs.emit.+exprs.Given as goal
 -- with the code of the rest it is the code of all
 abbrev pub invariant-emit_exprs-loop-expr : goal.invariant-emit_exprs-loop-expr
 invariant-emit_exprs-loop-expr l = record {
-  gains : (end : Contents) → Gains l.table end (exprs_code (exprs_of (map expr_of (drop l.expr-index l.exprs)))) → Gains l.initial.table end (exprs_code (exprs_of (map expr_of l.exprs)));
+  gains : (end : Contents) → Gains l.table end (exprs_code l.locals (exprs_of (map expr_of (drop l.expr-index l.exprs)))) → Gains l.initial.table end (exprs_code l.locals (exprs_of (map expr_of l.exprs)));
   extends : Extends l.initial.table l.table;
 }
 
 -- the jumps so far are due, whatever the rest makes due
 abbrev pub invariant-emit_operands-loop-operand : goal.invariant-emit_operands-loop-operand
 invariant-emit_operands-loop-operand l = record {
-  due : (end : Contents) (later : List ℕ) → Due l.table later (operands_code (boolean_of l.operator) (exprs_of (map expr_of (drop l.operand-index l.operands)))) end → Due l.initial.table (l.jumps.items ++ later) (operands_code (boolean_of l.operator) (exprs_of (map expr_of l.operands))) end;
+  due : (end : Contents) (later : List ℕ) → Due l.table later (operands_code l.locals (boolean_of l.operator) (exprs_of (map expr_of (drop l.operand-index l.operands)))) end → Due l.initial.table (l.jumps.items ++ later) (operands_code l.locals (boolean_of l.operator) (exprs_of (map expr_of l.operands))) end;
   behind : AllByRecursion (λ at. length l.initial.table.lines ≤ at) l.jumps.items;
   extends : Extends l.initial.table l.table;
 }
 
 abbrev pub invariant-emit_chain-loop-operator : goal.invariant-emit_chain-loop-operator
 invariant-emit_chain-loop-operator l = record {
-  due : (end : Contents) (later : List ℕ) → Due l.table later (chain_code (chain_of (map link_of (drop l.operator-index l.others) ++ link_of (l.operator, l.last) ∷ []))) end → Due l.initial.table (l.jumps.items ++ later) (chain_code (chain_of (map link_of l.others ++ link_of (l.operator, l.last) ∷ []))) end;
+  due : (end : Contents) (later : List ℕ) → Due l.table later (chain_code l.locals (chain_of (map link_of (drop l.operator-index l.others) ++ link_of (l.operator, l.last) ∷ []))) end → Due l.initial.table (l.jumps.items ++ later) (chain_code l.locals (chain_of (map link_of l.others ++ link_of (l.operator, l.last) ∷ []))) end;
   behind : AllByRecursion (λ at. length l.initial.table.lines ≤ at) l.jumps.items;
   extends : Extends l.initial.table l.table;
 }

@@ -1,6 +1,7 @@
-use Rattle.std.proofs.Common.{ℕ, ◌≤◌, List, ◌++◌, drop, map, length}
+use Rattle.std.proofs.Common.{◌≡◌, ℕ, ◌+◌, ◌≤◌, List, ◌++◌, drop, map, length}
 use Rattle.std.specs.List.{AllByRecursion}
 use Rattle.si_semantics.specs.Grammar.{elifs_of}
+use Rattle.si_semantics.specs.Tree.{functions_in}
 use Rattle.si_syntax.specs.Trees.{body_of, elif_of}
 use Rattle.si_compile.specs.Code.{stmts_code}
 use Rattle.si_code.specs.Contents.{Contents, Extends}
@@ -8,17 +9,19 @@ use Rattle.si_code.specs.Jumps.{Due}
 use Rattle.si_code.specs.Views.{Gains}
 use Rattle.si_compile.proofs.emit.+stmts.Given as goal
 
--- with the code of the rest it is the code of all
-abbrev pub invariant-emit_suite-loop-stmt : goal.invariant-emit_suite-loop-stmt
-invariant-emit_suite-loop-stmt l = record {
-  gains : (end : Contents) → Gains l.table end (stmts_code (body_of (drop l.stmt-index l.body))) → Gains l.initial.table end (stmts_code (body_of l.body));
+-- the jumps so far are due, whatever the rest makes due; with the functions of the rest they are all
+abbrev pub invariant-emit_stmt-loop-test : goal.invariant-emit_stmt-loop-test
+invariant-emit_stmt-loop-test l = record {
+  due : (end : Contents) (later : List ℕ) → Due l.table later (stmts_code l.locals l.next (elifs_of (map elif_of (drop l.test-index l.test-items)) (body_of l.last.items))) end → Due l.initial.table (l.ends.items ++ later) (stmts_code l.locals l.initial.next (elifs_of (map elif_of l.test-items) (body_of l.last.items))) end;
+  behind : AllByRecursion (λ at. length l.initial.table.lines ≤ at) l.ends.items;
+  number : l.next + length (functions_in (elifs_of (map elif_of (drop l.test-index l.test-items)) (body_of l.last.items))) ≡ l.initial.next + length (functions_in (elifs_of (map elif_of l.test-items) (body_of l.last.items)));
   extends : Extends l.initial.table l.table;
 }
 
--- the jumps so far are due, whatever the rest makes due
-abbrev pub invariant-emit_stmt-loop-test : goal.invariant-emit_stmt-loop-test
-invariant-emit_stmt-loop-test l = record {
-  due : (end : Contents) (later : List ℕ) → Due l.table later (stmts_code (elifs_of (map elif_of (drop l.test-index l.test-items)) (body_of l.last.items))) end → Due l.initial.table (l.ends.items ++ later) (stmts_code (elifs_of (map elif_of l.test-items) (body_of l.last.items))) end;
-  behind : AllByRecursion (λ at. length l.initial.table.lines ≤ at) l.ends.items;
+-- with the code and the functions of the rest they are all
+abbrev pub invariant-emit_suite-loop-stmt : goal.invariant-emit_suite-loop-stmt
+invariant-emit_suite-loop-stmt l = record {
+  gains : (end : Contents) → Gains l.table end (stmts_code l.locals l.next (body_of (drop l.stmt-index l.body))) → Gains l.initial.table end (stmts_code l.locals l.initial.next (body_of l.body));
+  number : l.next + length (functions_in (body_of (drop l.stmt-index l.body))) ≡ l.initial.next + length (functions_in (body_of l.body));
   extends : Extends l.initial.table l.table;
 }
