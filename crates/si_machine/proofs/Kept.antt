@@ -2,25 +2,25 @@
 use Rattle.std.proofs.Common.{◌≡◌, ◌<◌, ◌^◌, arith, ℕ, zero, suc, List, [], ◌++◌, length, take, All, Option, Some, None, true, string_bytes, refl, sym, ap, subst, ◌∙◌, append-nil}
 use Rattle.std.specs.Prelude.{encode_utf8_all}
 use Rattle.si_semantics.specs.Value as pure
-use Rattle.si_semantics.specs.World.{World, first_world}
+use Rattle.si_semantics.specs.World.{World}
 use Rattle.si_semantics.specs.Life.{Take}
 use Rattle.si_semantics.specs.Machine.{Place, At, Calling, Taking, Ending, Closed, Line, Table, Course, stamped, after, on, next, course}
 use Rattle.si_semantics.specs.Shows.{texts, joined, standing_of}
 use Rattle.si_semantics.proofs.Courses.{stays, fixed}
 use Rattle.si_compile.specs.Code.{compiled}
-use Rattle.si_compile.specs.Correct.{NeverCloses, run_at}
+use Rattle.si_compile.specs.Correct.{NeverCloses}
 use Rattle.si_code.specs.Views.{table_of}
-use Rattle.si_compile.proofs.Opened.{stays_open}
 use Rattle.si_machine.specs.declared.state.Standing.TheVariants as standing
 use Rattle.si_machine.specs.declared.state.State.{State}
 use Rattle.si_machine.specs.declared.step.Step.{Step}
+use Rattle.si_machine.specs.declared.step.Outcome.TheVariants.{Returned}
 use Rattle.si_machine.specs.declared.step.Step.TheVariants.{Local, Ended, Starved}
 use Rattle.std.proofs.lemmas.List.Elements.{All-nil}
 use Rattle.si_code.specs.Contents.{no_code}
 use Rattle.si_machine.specs.Values.{Fits, FitsGlobal, AllSuit}
 use Rattle.si_machine.specs.Outcomes.{outcome_of}
-use Rattle.si_machine.specs.Machines.{Seen, moment_of, from_here, Stands, IsEntry, IsAt, printed_of, Steps}
-use Rattle.si_machine.specs.States.{IsSound, IsKept, IsOpen, Moves, Did, bytes_of, is_starved, place_in, place_of, blocks_of, operands_of, world_of, next_line, seen}
+use Rattle.si_machine.specs.Machines.{Seen, moment_of, from_here, IsAt, printed_of, Steps}
+use Rattle.si_machine.specs.States.{AreSound, IsSound, IsKept, IsOpen, Moves, Did, FitsLocal, bytes_of, is_starved, no_operands, no_slots, place_in, place_of, blocks_of, operands_of, slots_of, world_of, next_line, seen}
 
 -- ---- courses
 
@@ -72,14 +72,14 @@ never_taking c e p n k =
 
 -- the next line of a machine's course
 line_is : (s : State) → s.standing ≡ standing.Running → next compiled (moment_of (seen s)) ≡ after (next_line s) (moment_of (seen s))
-line_is s run = ap (λ st. on compiled (place_in st s.pc (operands_of s) (blocks_of s)) [] (moment_of (seen s))) run
+line_is s run = ap (λ st. on compiled (place_in st s.pc (operands_of s) (slots_of s) (blocks_of s)) [] (moment_of (seen s))) run
 
 -- it leads on
 pub open_next : (s : State) → IsKept s → s.standing ≡ standing.Running → IsOpen (next_line s)
 open_next s h run e = h.never 1 (ap (λ c. c.place) (line_is s run) ∙ e)
 
 sound_starved : (old new : State) → IsSound old → new ≡ record old { standing = standing.Starved; line = new.line; printed = new.printed } → IsSound new
-sound_starved old new h e = subst IsSound (sym e) (record { operands = h.operands; globals = h.globals; literals = h.literals; slots = h.slots; short = h.short })
+sound_starved old new h e = subst IsSound (sym e) (record { stacks = h.stacks; globals = h.globals; literals = h.literals; slots = h.slots; short = h.short })
 
 -- a course whose next line led to a place, with its world
 moment_next : (l : Line) (p : Place) (old new : State) → Moves l p old new → from_here (record (after l (moment_of (seen old))) { place = place_of new }) ≡ moment_of (seen new)
@@ -96,12 +96,12 @@ starved_seen : (old new : State) → old.standing ≡ standing.Running → Did (
 starved_seen old new run did =
     let make : Place → List ℕ → Seen = λ p b. record (seen old) { place = p; printed = b; starved = true } in
     ap seen did.0
-    ∙ ap (make (At old.pc (operands_of old) [] (blocks_of old))) did.1
-    ∙ ap (λ st. make (place_in st old.pc (operands_of old) (blocks_of old)) (string_bytes old.printed)) (sym run)
+    ∙ ap (make (At old.pc (operands_of old) (slots_of old) (blocks_of old))) did.1
+    ∙ ap (λ st. make (place_in st old.pc (operands_of old) (slots_of old) (blocks_of old)) (string_bytes old.printed)) (sym run)
 
 -- a machine that is idle waits
 idle_waits : (s : State) → s.standing ≡ standing.Idle → place_of s ≡ Taking
-idle_waits s e = ap (λ st. place_in st s.pc (operands_of s) (blocks_of s)) e
+idle_waits s e = ap (λ st. place_in st s.pc (operands_of s) (slots_of s) (blocks_of s)) e
 
 -- what a step has done, as it is seen
 pub steps_seen : (old new : State) (r : Step) → old.standing ≡ standing.Running → Did (next_line old) old new r → Steps (seen old) (seen new) r
@@ -113,9 +113,9 @@ steps_seen old new Local run did =
         printed = did.0.printed ∙ ap (λ b. string_bytes old.printed ++ b) (sym (bytes_printed l.out 1) ∙ ap printed_of (sym (line_is old run)));
         fed = ap is_starved did.1;
       },
-      subst (λ st. IsAt (place_in st new.pc (operands_of new) (blocks_of new))) (sym did.1) tt,
+      subst (λ st. IsAt (place_in st new.pc (operands_of new) (slots_of new) (blocks_of new))) (sym did.1) tt,
     )
-steps_seen old new (Ended o) run did =
+steps_seen old new Ended run did =
     let m = moment_of (seen old) in
     let l = next_line old in (
       ap (λ c. c.place) (line_is old run) ∙ did.0.place,
@@ -123,7 +123,7 @@ steps_seen old new (Ended o) run did =
         moment = sym (
             ap (λ (c : Course). from_here (record c { place = Taking })) (line_is old run)
             ∙ ap (λ p. from_here (record (after l m) { place = p })) (sym (idle_waits new did.1))
-            ∙ moment_next l (Ending (outcome_of o)) old new did.0
+            ∙ moment_next l (Ending (outcome_of new.outcome)) old new did.0
             );
         printed = did.2;
         fed = ap is_starved did.1;
@@ -137,28 +137,35 @@ keeps old new Local h run did = record {
   sound = did.0.sound;
   never = subst NeverCloses (sym (steps_seen old new Local run did).0.moment) (never_later (moment_of (seen old)) refl h.never);
 }
-keeps old new (Ended o) h run did = record { sound = did.0.sound; never = never_taking (moment_of (seen new)) refl (idle_waits new did.1) }
+keeps old new Ended h run did = record { sound = did.0.sound; never = never_taking (moment_of (seen new)) refl (idle_waits new did.1) }
 keeps old new Starved h run did = record {
   sound = sound_starved old new h.sound did.0;
   never = subst (λ s. NeverCloses (moment_of s)) (sym (starved_seen old new run did)) h.never;
 }
 
--- it holds as a run begins
-pub begun_kept : (entry : Table × ℕ) (s : State) → IsSound s → IsEntry entry → Stands (seen s) (run_at entry first_world) [] → IsKept s
-begun_kept entry s h e st = record {
-  sound = h;
-  never = subst NeverCloses (sym st.moment) (subst (λ x. NeverCloses (run_at x first_world)) (sym e.2) (stays_open e.0 e.1 first_world));
-}
+-- it holds of a machine without code
+pub blank_kept : (s : State) → s.standing ≡ standing.Idle → s.table ≡ no_code → s.operands ≡ no_operands → s.slots ≡ no_slots → s.blocks ≡ [] → s.globals.items ≡ [] → IsKept s
+blank_kept s idle code ops slots bs gs =
+    let F = Fits (length s.texts) in
+    let L = FitsLocal (length s.texts) in
+    let none : AreSound (length s.texts) no_operands no_slots [] =
+    record { here = All-nil F; below = All-nil (λ vs. All F vs); locals = All-nil L; callers = All-nil (λ xs. All L xs); operands_each = refl; locals_each = refl } in
+    record {
+      sound = record {
+        stacks =
+            subst (λ o. AreSound (length s.texts) o s.slots s.blocks) (sym ops)
+            (subst (λ x. AreSound (length s.texts) no_operands x s.blocks) (sym slots) (subst (λ b. AreSound (length s.texts) no_operands no_slots b) (sym bs) none));
+        globals = subst (All (FitsGlobal (length s.texts))) (sym gs) (All-nil (FitsGlobal (length s.texts)));
+        literals = subst (λ t. take (length t.literals) s.texts ≡ t.literals) (sym code) refl;
+        slots = subst (λ t. AllSuit t.names s.globals.items) (sym code) (subst (AllSuit []) (sym gs) tt);
+        short = subst (λ t. length t.lines < 2 ^ 63) (sym code) (omega arith);
+      };
+      never = never_taking (moment_of (seen s)) refl (idle_waits s idle);
+    }
 
--- and of a machine without code
-pub blank_kept : (s : State) → s.standing ≡ standing.Idle → s.table ≡ no_code → s.operands ≡ [] → s.globals.items ≡ [] → IsKept s
-blank_kept s idle code ops gs = record {
-  sound = record {
-    operands = subst (All (Fits (length s.texts))) (sym ops) (All-nil (Fits (length s.texts)));
-    globals = subst (All (FitsGlobal (length s.texts))) (sym gs) (All-nil (FitsGlobal (length s.texts)));
-    literals = subst (λ t. take (length t.literals) s.texts ≡ t.literals) (sym code) refl;
-    slots = subst (λ t. AllSuit t.names s.globals.items) (sym code) (subst (AllSuit []) (sym gs) tt);
-    short = subst (λ t. length t.lines < 2 ^ 63) (sym code) (omega arith);
-  };
-  never = never_taking (moment_of (seen s)) refl (idle_waits s idle);
+-- and it holds still once the outcome is taken
+pub taken_kept : (s : State) → IsKept s → IsKept (record s { outcome = Returned })
+taken_kept s h = record {
+  sound = record { stacks = h.sound.stacks; globals = h.sound.globals; literals = h.sound.literals; slots = h.sound.slots; short = h.sound.short };
+  never = h.never;
 }

@@ -1,7 +1,13 @@
 pub mod Tops
 pub mod Strings
+pub mod Growth
 pub mod Lines
+pub mod Frames
 pub mod Begun
 pub mod Kept
+pub mod Loaded
 pub mod Branches
 pub mod Truths
+pub mod Parts
+pub mod OperandParts
+pub mod SlotParts

@@ -1,39 +1,64 @@
 -- What a step prints, and which line it does.
-use Rattle.std.proofs.Common.{◌≡◌, ◌≢◌, ℕ, zero, suc, ◌+◌, ◌<◌, ◌≤◌, List, [], ◌∷◌, ◌++◌, length, map, take, drop, get_or, Option, Some, None, All, AllPairs, string_bytes, refl, sym, ap, subst, ◌∙◌, arith, append-nil, length-append, Bool, true, false, cond, slice_get, slice_set, nat_lt, Ok}
+use Rattle.std.proofs.Common.{◌≡◌, ◌≢◌, ℕ, zero, suc, ◌+◌, ◌<◌, ◌≤◌, List, [], ◌∷◌, ◌++◌, length, map, take, get_or, Option, Some, None, All, AllPairs, string_bytes, refl, sym, ap, subst, ◌∙◌, arith, append-nil, Bool, true, false, cond, slice_get, slice_set, nat_lt, Ok}
 use mathlib.Core.Path.{fun_ext}
-use Rattle.std.proofs.lemmas.List.{get_or_append_left, get_or-take, take-append-le, length-take, map-set, length-map, map-append, reverse-append, drop_all}
+use Rattle.std.proofs.lemmas.List.{get_or-take, take-append-le, length-take, map-set, length-map}
 use Rattle.std.proofs.lemmas.Option.{slice_get_within, slice_get-get_or, get_or_from_slice_get}
-use Rattle.std.specs.Prelude.{reverse, encode_utf8_all}
-use Rattle.std.proofs.lemmas.List.Elements.{All-cons, All-drop, All-tail, All-head, All-weaker, All-set, All-get_or}
+use Rattle.std.proofs.lemmas.List.Elements.{All-nil, All-cons, All-tail, All-head, All-weaker, All-set, All-get_or}
 use Rattle.si_semantics.specs.Value as pure
-use Rattle.si_semantics.specs.Text.{same_text, max_length, line_of as text_line}
+use Rattle.si_semantics.specs.Text.{same_text, max_length}
 use Rattle.si_semantics.specs.Tree as tree
 use Rattle.si_semantics.specs.World.{World, Ran, bind, set_global}
 use Rattle.si_semantics.specs.Life as life
-use Rattle.si_semantics.specs.Operations.{operate, operate_unary, call, gave, refused, too_long, found, or_else, load_global, built_in}
+use Rattle.si_semantics.specs.Operations.{operate, operate_unary, gave, refused, too_long, found, or_else, load_global, built_in}
 use Rattle.si_semantics.specs.Meaning.{Raises}
 use Rattle.si_semantics.specs.Machine as machine
-use Rattle.si_semantics.specs.Machine.{leave, Push, LoadGlobal, StoreGlobal, ApplyUnary, ApplyBinary, CallTop, Discard, on_callee, At, Ending, Closed, Line, act, goes, yields, stuck}
+use Rattle.si_semantics.specs.Machine.{Instr, leave, Push, LoadGlobal, StoreGlobal, ApplyUnary, ApplyBinary, Discard, At, Ending, Closed, Line, act, goes, yields}
 use Rattle.si_semantics.proofs.Names.{same_is, same_self, other_is}
-use Rattle.si_code.specs.Views.{text_at}
+use Rattle.si_code.specs.Views.{text_at, entries_of}
 use Rattle.si_machine.specs.declared.value.Value.{Value}
 use Rattle.si_machine.specs.declared.value.Value.TheVariants as value
 use Rattle.si_machine.specs.declared.value.Global.{Global}
 use Rattle.si_machine.specs.declared.value.Global.TheVariants.{Unbound, Provided, Bound}
 use Rattle.si_machine.specs.declared.blocks.Block.{Block}
 use Rattle.si_machine.specs.declared.cause.Cause.{Cause}
-use Rattle.si_machine.specs.declared.cause.Cause.TheVariants.{TooLong, NotDefined, NotCallable}
+use Rattle.si_machine.specs.declared.cause.Cause.TheVariants.{TooLong, NotDefined}
 use Rattle.si_plain.specs.declared.kind.Kind.TheVariants.{NameError}
 use Rattle.si_machine.specs.declared.value.BuiltIn.{BuiltIn}
-use Rattle.si_machine.specs.declared.value.BuiltIn.TheVariants.{Print}
 use Rattle.si_machine.specs.declared.state.Standing.TheVariants as standing
 use Rattle.si_machine.specs.declared.state.State.{State}
+use Rattle.si_machine.specs.declared.step.Outcome.{Outcome}
 use Rattle.si_machine.specs.declared.step.Outcome.TheVariants.{Returned, Raised}
 use Rattle.si_machine.specs.declared.step.Step.{Step}
 use Rattle.si_machine.specs.declared.step.Step.TheVariants.{Local, Ended, Starved}
 use Rattle.si_machine.specs.Values.{built_in_of, value_of, cell_of, globals_of, Fits, FitsGlobal, Suits, AllSuit}
 use Rattle.si_machine.specs.Causes.{Runs, kind_of, message_in, threw, not_defined, not_defined_cause}
-use Rattle.si_machine.specs.States.{IsSound, IsOpen, Did, place_in, block_of, blocks_of, operands_of, world_of, line_of, IsRaised, IsPushed, IsPrinted}
+use Rattle.si_machine.specs.Stacks.{OperandsSeen, SlotsSeen}
+use Rattle.si_machine.specs.States.{AreSound, IsSound, IsOpen, Did, place_in, local_of, blocks_with, blocks_of, operands_of, slots_of, world_of, line_of, FitsLocal, with_operands, at_rest, IsRaised, IsPushed}
+use Rattle.si_machine.proofs.Growth.{values_stay, locals_stay, blocks_stay, cells_stay, fits_more, global_fits_more, stacks_more}
+
+-- the line of an instruction on these operands
+abbrev pub line_on : Instr → State → List Value → Line
+line_on i s vs = act (entries_of s.table) i (s.pc + 1) (map (value_of s.texts) vs) (slots_of s) (blocks_of s) (world_of s)
+
+-- the line of an operation that leaves these operands
+abbrev pub yields_on : Ran → State → List Value → Line
+yields_on f s vs = yields f (s.pc + 1) (map (value_of s.texts) vs) (slots_of s) (blocks_of s)
+
+-- a line that goes on at a place, with these operands
+abbrev pub at_line : ℕ → List Value → State → Line
+at_line pc vs s = goes (At pc (map (value_of s.texts) vs) (slots_of s) (blocks_of s)) (world_of s)
+
+-- a state that goes on at a place, with these operands
+abbrev pub moved : ℕ → List Value → State → State
+moved pc vs s = record s { pc = pc; operands = with_operands vs s.operands }
+
+-- the stacks with other operands
+pub with_here : (n : ℕ) (vs : List Value) (s : State) → AreSound n s.operands s.slots s.blocks → All (Fits n) vs → AreSound n (with_operands vs s.operands) s.slots s.blocks
+with_here n vs s h fits = record { here = fits; below = h.below; locals = h.locals; callers = h.callers; operands_each = h.operands_each; locals_each = h.locals_each }
+
+-- the topmost operand was taken
+pub popped : (v : Value) (old new : OperandsSeen) → old ≡ record new { here = v ∷ new.here } → (old.here ≡ v ∷ new.here) × (new ≡ with_operands new.here old)
+popped v old new e = (ap (λ o. o.here) e, ap (λ l. let o : OperandsSeen = record { here = new.here; below = l } in o) (sym (ap (λ o. o.below) e)))
 
 -- refused memory changes nothing that shows
 pub starved_did : (l : Line) (old new : State) → new ≡ record old { standing = standing.Starved } → Did l old new Starved
@@ -41,138 +66,123 @@ starved_did l old new e =
     let P : State → Type 0 = λ s. Did l old s Starved in
     subst P (sym e) (refl, refl)
 
--- the run goes on at a place, with operands that were there, or fit the texts, and with blocks
-pub moved_did : (next : ℕ) (rest : List Value) (bs : List Block) (old new : State) → IsSound old → old.standing ≡ standing.Running → All (Fits (length old.texts)) rest → new ≡ record old { pc = next; operands = rest; blocks = bs } → Did (goes (At next (map (value_of old.texts) rest) [] (map block_of bs)) (world_of old)) old new Local
-moved_did next rest bs old new h run fits e =
-    let l = goes (At next (map (value_of old.texts) rest) [] (map block_of bs)) (world_of old) in
+-- the run goes on at a place, with sound stacks
+pub placed_did : (next : ℕ) (ops : OperandsSeen) (slots : SlotsSeen) (bs : List Block) (old new : State) → IsSound old → old.standing ≡ standing.Running → AreSound (length old.texts) ops slots bs → new ≡ record old { pc = next; operands = ops; slots = slots; blocks = bs } → Did (goes (At next (map (value_of old.texts) ops.here) (map (local_of old.texts) slots.here) (blocks_with old.texts bs ops.below slots.below)) (world_of old)) old new Local
+placed_did next ops slots bs old new h run stacks e =
+    let l = goes (At next (map (value_of old.texts) ops.here) (map (local_of old.texts) slots.here) (blocks_with old.texts bs ops.below slots.below)) (world_of old) in
     let P : State → Type 0 = λ s. Did l old s Local in
     subst P (sym e) (
       record {
-        place = ap (λ st. place_in st next (map (value_of old.texts) rest) (map block_of bs)) (sym run);
+        place = ap (λ st. place_in st next (map (value_of old.texts) ops.here) (map (local_of old.texts) slots.here) (blocks_with old.texts bs ops.below slots.below)) (sym run);
         world = refl;
         printed = sym (append-nil (string_bytes old.printed));
         code = refl;
-        sound = record { operands = fits; globals = h.globals; literals = h.literals; slots = h.slots; short = h.short };
+        sound = record { stacks = stacks; globals = h.globals; literals = h.literals; slots = h.slots; short = h.short };
       },
       run,
     )
 
+-- the run goes on at a place, with operands that were there, or fit the texts
+pub moved_did : (next : ℕ) (rest : List Value) (old new : State) → IsSound old → old.standing ≡ standing.Running → All (Fits (length old.texts)) rest → new ≡ moved next rest old → Did (at_line next rest old) old new Local
+moved_did next rest old new h run fits e = placed_did next (with_operands rest old.operands) old.slots old.blocks old new h run (with_here (length old.texts) rest old h.stacks fits) e
+
 -- a value more on the operands that are left
-pub advanced_did : (u : pure.Value) (v : Value) (rest : List Value) (old new : State) → IsSound old → old.standing ≡ standing.Running → All (Fits (length old.texts)) rest → Fits (length old.texts) v → value_of old.texts v ≡ u → new ≡ record old { pc = old.pc + 1; operands = v ∷ rest } → Did (goes (At (old.pc + 1) (u ∷ map (value_of old.texts) rest) [] (blocks_of old)) (world_of old)) old new Local
+pub advanced_did : (u : pure.Value) (v : Value) (rest : List Value) (old new : State) → IsSound old → old.standing ≡ standing.Running → All (Fits (length old.texts)) rest → Fits (length old.texts) v → value_of old.texts v ≡ u → new ≡ moved (old.pc + 1) (v ∷ rest) old → Did (goes (At (old.pc + 1) (u ∷ map (value_of old.texts) rest) (slots_of old) (blocks_of old)) (world_of old)) old new Local
 advanced_did u v rest old new h run below fits same e =
-    let P : pure.Value → Type 0 = λ x. Did (goes (At (old.pc + 1) (x ∷ map (value_of old.texts) rest) [] (blocks_of old)) (world_of old)) old new Local in
-    subst P same (moved_did (old.pc + 1) (v ∷ rest) old.blocks old new h run (All-cons (Fits (length old.texts)) v rest fits below) e)
+    let P : pure.Value → Type 0 = λ x. Did (goes (At (old.pc + 1) (x ∷ map (value_of old.texts) rest) (slots_of old) (blocks_of old)) (world_of old)) old new Local in
+    subst P same (moved_did (old.pc + 1) (v ∷ rest) old new h run (All-cons (Fits (length old.texts)) v rest fits below) e)
 
-pub pushed_did : (u : pure.Value) (v : Value) (old new : State) (r : Step) → IsSound old → old.standing ≡ standing.Running → Fits (length old.texts) v → value_of old.texts v ≡ u → IsPushed v old new r → Did (goes (At (old.pc + 1) (u ∷ operands_of old) [] (blocks_of old)) (world_of old)) old new r
-pushed_did u v old new Local h run fits same e = advanced_did u v old.operands old new h run h.operands fits same e
-pushed_did u v old new (Ended o) h run fits same e = absurd e
-pushed_did u v old new Starved h run fits same e = starved_did (goes (At (old.pc + 1) (u ∷ operands_of old) [] (blocks_of old)) (world_of old)) old new e
+pub pushed_did : (u : pure.Value) (v : Value) (old new : State) (r : Step) → IsSound old → old.standing ≡ standing.Running → Fits (length old.texts) v → value_of old.texts v ≡ u → IsPushed v old new r → Did (goes (At (old.pc + 1) (u ∷ operands_of old) (slots_of old) (blocks_of old)) (world_of old)) old new r
+pushed_did u v old new Local h run fits same e = advanced_did u v old.operands.here old new h run h.stacks.here fits same e
+pushed_did u v old new Ended h run fits same e = absurd e
+pushed_did u v old new Starved h run fits same e = starved_did (goes (At (old.pc + 1) (u ∷ operands_of old) (slots_of old) (blocks_of old)) (world_of old)) old new e
 
--- an exception leaves all loops
-raises_out : (x : pure.Exception) (w : World) (bs : List machine.Block) → leave (Raises x) w [] bs ≡ Ending (life.outcome_of (Raises x) w)
-raises_out x w [] = refl
-raises_out x w (machine.Loop start after ∷ bs) = raises_out x w bs
+-- an exception leaves all loops and calls
+raises_out : (x : pure.Exception) (w : World) (slots : List (Option pure.Value)) (bs : List machine.Block) → leave (Raises x) w slots bs ≡ Ending (life.outcome_of (Raises x) w)
+raises_out x w slots [] = refl
+raises_out x w slots (machine.Loop start after ∷ bs) = raises_out x w slots bs
+raises_out x w slots (machine.Frame after ops old ∷ bs) = raises_out x w old bs
+
+-- as the run ends, nothing is under way
+rest_sound : (o : Outcome) (s : State) → IsSound s → IsSound (at_rest o s)
+rest_sound o s h =
+    let F = Fits (length s.texts) in
+    let L = FitsLocal (length s.texts) in
+    record {
+      stacks = record { here = All-nil F; below = All-nil (λ vs. All F vs); locals = All-nil L; callers = All-nil (λ xs. All L xs); operands_each = refl; locals_each = refl };
+      globals = h.globals;
+      literals = h.literals;
+      slots = h.slots;
+      short = h.short;
+    }
 
 -- an exception leaves the run
-pub raised_did : (cause : Cause) (next : ℕ) (ops : List pure.Value) (old new : State) (r : Step) → IsSound old → IsRaised cause old new r → Did (yields (threw old.table.names cause (world_of old)) next ops [] (blocks_of old)) old new r
-raised_did cause next ops old new Local h e = absurd e
-raised_did cause next ops old new (Ended Returned) h e = absurd e
-raised_did cause next ops old new (Ended (Raised kind message)) h e =
-    let l = yields (threw old.table.names cause (world_of old)) next ops [] (blocks_of old) in
-    let P : State → Type 0 = λ s. Did l old s (Ended (Raised kind message)) in
-    subst P (sym e.2) (
+pub raised_did : (cause : Cause) (rest : List Value) (old new : State) (r : Step) → IsSound old → IsRaised cause old new r → Did (yields_on (threw old.table.names cause (world_of old)) old rest) old new r
+raised_did cause rest old new Local h e = absurd e
+raised_did cause rest old new Ended h e =
+    let l = yields_on (threw old.table.names cause (world_of old)) old rest in
+    let P : State → Type 0 = λ s. Did l old s Ended in
+    subst P (sym e) (
       record {
-        place =
-            raises_out (pure.Thrown (kind_of cause) (Some (pure.Str (message_in old.table.names cause)))) (world_of old) (blocks_of old)
-            ∙ ap (λ k. Ending (life.Raised k (message_in old.table.names cause))) (sym e.0) ∙ ap (λ m. Ending (life.Raised kind m)) (sym e.1);
+        place = raises_out (pure.Thrown (kind_of cause) (Some (pure.Str (message_in old.table.names cause)))) (world_of old) (slots_of old) (blocks_of old);
         world = refl;
         printed = sym (append-nil (string_bytes old.printed));
         code = refl;
-        sound = record { operands = h.operands; globals = h.globals; literals = h.literals; slots = h.slots; short = h.short };
+        sound = rest_sound (Raised (kind_of cause) (message_in old.table.names cause)) old h;
       },
       refl,
       refl,
     )
-raised_did cause next ops old new Starved h e = starved_did (yields (threw old.table.names cause (world_of old)) next ops [] (blocks_of old)) old new e
+raised_did cause rest old new Starved h e = starved_did (yields_on (threw old.table.names cause (world_of old)) old rest) old new e
 
 -- the run comes to its end
-pub finished_did : (old new : State) → IsSound old → new ≡ record old { standing = standing.Idle; blocks = [] } → Did (goes (Ending life.Returned) (world_of old)) old new (Ended Returned)
+pub finished_did : (old new : State) → IsSound old → new ≡ at_rest Returned old → Did (goes (Ending life.Returned) (world_of old)) old new Ended
 finished_did old new h e =
-    let P : State → Type 0 = λ s. Did (goes (Ending life.Returned) (world_of old)) old s (Ended Returned) in
+    let P : State → Type 0 = λ s. Did (goes (Ending life.Returned) (world_of old)) old s Ended in
     subst P (sym e) (
       record {
         place = refl;
         world = refl;
         printed = sym (append-nil (string_bytes old.printed));
         code = refl;
-        sound = record { operands = h.operands; globals = h.globals; literals = h.literals; slots = h.slots; short = h.short };
+        sound = rest_sound Returned old h;
       },
       refl,
       refl,
     )
 
 -- the operands without the topmost
-pub discarded_did : (v : Value) (rest : List Value) (old new : State) → IsSound old → old.standing ≡ standing.Running → old.operands ≡ v ∷ rest → new ≡ record old { pc = old.pc + 1; operands = rest } → Did (goes (At (old.pc + 1) (map (value_of old.texts) rest) [] (blocks_of old)) (world_of old)) old new Local
+pub discarded_did : (v : Value) (rest : List Value) (old new : State) → IsSound old → old.standing ≡ standing.Running → old.operands.here ≡ v ∷ rest → new ≡ moved (old.pc + 1) rest old → Did (at_line (old.pc + 1) rest old) old new Local
 discarded_did v rest old new h run top e =
     let F = Fits (length old.texts) in
     let A : List Value → Type 0 = λ vs. All F vs in
-    moved_did (old.pc + 1) rest old.blocks old new h run (All-tail F v rest (subst A top h.operands)) e
-
--- the texts grow, and what fits them stays as it is
-value_stays : (texts more : List pure.Text) (v : Value) → Fits (length texts) v → value_of (texts ++ more) v ≡ value_of texts v
-value_stays texts more value.None h = refl
-value_stays texts more (value.Truth b) h = refl
-value_stays texts more (value.Int n) h = refl
-value_stays texts more (value.Str place) h = ap pure.Str (get_or_append_left texts more [] place h)
-value_stays texts more (value.BuiltIn b) h = refl
-
-values_stay : (texts more : List pure.Text) (vs : List Value) → All (Fits (length texts)) vs → map (value_of (texts ++ more)) vs ≡ map (value_of texts) vs
-values_stay texts more [] h = refl
-values_stay texts more (v ∷ vs) h =
-    ap (λ u. u ∷ map (value_of (texts ++ more)) vs) (value_stays texts more v (All-head (Fits (length texts)) v vs h))
-    ∙ ap (λ us. value_of texts v ∷ us) (values_stay texts more vs (All-tail (Fits (length texts)) v vs h))
-
-cell_stays : (texts more : List pure.Text) (g : Global) → FitsGlobal (length texts) g → cell_of (texts ++ more) g ≡ cell_of texts g
-cell_stays texts more Unbound h = refl
-cell_stays texts more (Provided b) h = refl
-cell_stays texts more (Bound v) h = ap Some (value_stays texts more v h)
-
-cells_stay : (texts more : List pure.Text) (gs : List Global) → All (FitsGlobal (length texts)) gs → map (cell_of (texts ++ more)) gs ≡ map (cell_of texts) gs
-cells_stay texts more [] h = refl
-cells_stay texts more (g ∷ gs) h =
-    ap (λ u. u ∷ map (cell_of (texts ++ more)) gs) (cell_stays texts more g (All-head (FitsGlobal (length texts)) g gs h))
-    ∙ ap (λ us. cell_of texts g ∷ us) (cells_stay texts more gs (All-tail (FitsGlobal (length texts)) g gs h))
-
-fits_more : (texts more : List pure.Text) (v : Value) → Fits (length texts) v → Fits (length (texts ++ more)) v
-fits_more texts more value.None h = tt
-fits_more texts more (value.Truth b) h = tt
-fits_more texts more (value.Int n) h = tt
-fits_more texts more (value.Str place) h = omega (arith, h, length-append texts more)
-fits_more texts more (value.BuiltIn b) h = tt
-
-global_fits_more : (texts more : List pure.Text) (g : Global) → FitsGlobal (length texts) g → FitsGlobal (length (texts ++ more)) g
-global_fits_more texts more Unbound h = tt
-global_fits_more texts more (Provided b) h = tt
-global_fits_more texts more (Bound v) h = fits_more texts more v h
+    moved_did (old.pc + 1) rest old new h run (All-tail F v rest (subst A top h.stacks.here)) e
 
 literals_fit : (c : ℕ) (literals texts : List pure.Text) → take (length literals) texts ≡ literals → length literals ≤ length texts
 literals_fit c literals texts e = omega (arith, ap length e, length-take (length literals) texts)
 
 -- more texts, and a value in place of operands
-pub grown_did : (v : Value) (rest : List Value) (more : List pure.Text) (old new : State) → IsSound old → old.standing ≡ standing.Running → All (Fits (length old.texts)) rest → Fits (length (old.texts ++ more)) v → new ≡ record old { pc = old.pc + 1; operands = v ∷ rest; texts = old.texts ++ more } → Did (goes (At (old.pc + 1) (value_of (old.texts ++ more) v ∷ map (value_of old.texts) rest) [] (blocks_of old)) (world_of old)) old new Local
+pub grown_did : (v : Value) (rest : List Value) (more : List pure.Text) (old new : State) → IsSound old → old.standing ≡ standing.Running → All (Fits (length old.texts)) rest → Fits (length (old.texts ++ more)) v → new ≡ record (moved (old.pc + 1) (v ∷ rest) old) { texts = old.texts ++ more } → Did (goes (At (old.pc + 1) (value_of (old.texts ++ more) v ∷ map (value_of old.texts) rest) (slots_of old) (blocks_of old)) (world_of old)) old new Local
 grown_did v rest more old new h run below fits e =
     let texts = old.texts ++ more in
-    let l = goes (At (old.pc + 1) (value_of texts v ∷ map (value_of old.texts) rest) [] (blocks_of old)) (world_of old) in
+    let l = goes (At (old.pc + 1) (value_of texts v ∷ map (value_of old.texts) rest) (slots_of old) (blocks_of old)) (world_of old) in
     let P : State → Type 0 = λ s. Did l old s Local in
     let short : length old.table.literals ≤ length old.texts = literals_fit 0 old.table.literals old.texts h.literals in
+    let slots = map (local_of texts) old.slots.here in
+    let bs = blocks_with texts old.blocks old.operands.below old.slots.below in
+    let weaker : All (Fits (length texts)) rest = All-weaker (Fits (length old.texts)) (Fits (length texts)) (λ x k. fits_more old.texts more x k) rest below in
     subst P (sym e) (
       record {
-        place = ap (λ vs. At (old.pc + 1) (value_of texts v ∷ vs) [] (blocks_of old)) (sym (values_stay old.texts more rest below)) ∙ ap (λ st. place_in st (old.pc + 1) (value_of texts v ∷ map (value_of texts) rest) (blocks_of old)) (sym run);
+        place =
+            ap (λ vs. At (old.pc + 1) (value_of texts v ∷ vs) (slots_of old) (blocks_of old)) (sym (values_stay old.texts more rest below))
+            ∙ ap (λ xs. At (old.pc + 1) (map (value_of texts) (v ∷ rest)) xs (blocks_of old)) (sym (locals_stay old.texts more old.slots.here h.stacks.locals))
+            ∙ ap (At (old.pc + 1) (map (value_of texts) (v ∷ rest)) slots) (sym (blocks_stay old.texts more old.blocks old.operands.below old.slots.below h.stacks.below h.stacks.callers))
+            ∙ ap (λ st. place_in st (old.pc + 1) (map (value_of texts) (v ∷ rest)) slots bs) (sym run);
         world = ap (λ cells. let w : World = record { globals = globals_of old.table.names cells; store = [] } in w) (sym (cells_stay old.texts more old.globals.items h.globals));
         printed = sym (append-nil (string_bytes old.printed));
         code = refl;
         sound = record {
-          operands = All-cons (Fits (length texts)) v rest fits (All-weaker (Fits (length old.texts)) (Fits (length texts)) (λ x k. fits_more old.texts more x k) rest below);
+          stacks = stacks_more old.texts more (v ∷ rest) old.operands old.slots old.blocks (All-cons (Fits (length texts)) v rest fits weaker) h.stacks;
           globals = All-weaker (FitsGlobal (length old.texts)) (FitsGlobal (length texts)) (λ x k. global_fits_more old.texts more x k) old.globals.items h.globals;
           literals = take-append-le (length old.table.literals) old.texts more short ∙ h.literals;
           slots = h.slots;
@@ -243,31 +253,30 @@ get_fits P xs k x h e =
     subst Q (get_or_from_slice_get xs k x x e) (All-get_or P xs k x (slice_get_within xs k x e) h)
 
 -- a slot is bound to the topmost operand
-pub stored_did : (k : ℕ) (v : Value) (rest : List Value) (old new : State) → IsSound old → AllPairs (λ x y. x ≢ y) old.table.names → old.standing ≡ standing.Running → k < length old.globals.items → old.operands ≡ v ∷ rest → new.globals.items ≡ slice_set old.globals.items k (Bound v) → new ≡ record old { pc = old.pc + 1; operands = rest; globals = new.globals } → Did (goes (At (old.pc + 1) (map (value_of old.texts) rest) [] (blocks_of old)) (set_global (text_at old.table.names k) (value_of old.texts v) (world_of old))) old new Local
+pub stored_did : (k : ℕ) (v : Value) (rest : List Value) (old new : State) → IsSound old → AllPairs (λ x y. x ≢ y) old.table.names → old.standing ≡ standing.Running → k < length old.globals.items → old.operands.here ≡ v ∷ rest → new.globals.items ≡ slice_set old.globals.items k (Bound v) → new ≡ record (moved (old.pc + 1) rest old) { globals = new.globals } → Did (goes (At (old.pc + 1) (map (value_of old.texts) rest) (slots_of old) (blocks_of old)) (set_global (text_at old.table.names k) (value_of old.texts v) (world_of old))) old new Local
 stored_did k v rest old new h d run p top items e =
     let F = Fits (length old.texts) in
     let A : List Value → Type 0 = λ vs. All F vs in
-    let ops : All F (v ∷ rest) = subst A top h.operands in
+    let ops : All F (v ∷ rest) = subst A top h.stacks.here in
     let names = old.table.names in
     let cells = map (cell_of old.texts) old.globals.items in
-    let l = goes (At (old.pc + 1) (map (value_of old.texts) rest) [] (blocks_of old)) (set_global (text_at names k) (value_of old.texts v) (world_of old)) in
+    let l = goes (At (old.pc + 1) (map (value_of old.texts) rest) (slots_of old) (blocks_of old)) (set_global (text_at names k) (value_of old.texts v) (world_of old)) in
     let is : map (cell_of old.texts) new.globals.items ≡ slice_set cells k (Some (value_of old.texts v)) = ap (map (cell_of old.texts)) items ∙ map-set (cell_of old.texts) old.globals.items k (Bound v) in
     let long : length names ≡ length cells = suit_length names old.globals.items h.slots ∙ sym (length-map old.globals.items (cell_of old.texts)) in
     let within : k < length cells = omega (arith, p, length-map old.globals.items (cell_of old.texts)) in
     let all : globals_of names (map (cell_of old.texts) new.globals.items) ≡ bind (text_at names k) (value_of old.texts v) (globals_of names cells) =
     ap (globals_of names) is ∙ fun_ext (λ y. slot_bound names cells k (value_of old.texts v) y d long within) in
-    let mid = record old { pc = old.pc + 1; operands = rest; globals = new.globals } in
     let P : State → Type 0 = λ s. Did l old s Local in
     let G : List Global → Type 0 = λ gs. All (FitsGlobal (length old.texts)) gs in
     let S : List Global → Type 0 = λ gs. AllSuit names gs in
     subst P (sym e) (
       record {
-        place = ap (λ st. place_in st (old.pc + 1) (map (value_of old.texts) rest) (blocks_of old)) (sym run);
+        place = ap (λ st. place_in st (old.pc + 1) (map (value_of old.texts) rest) (slots_of old) (blocks_of old)) (sym run);
         world = ap (λ g. let w : World = record { globals = g; store = [] } in w) (sym all);
         printed = sym (append-nil (string_bytes old.printed));
         code = refl;
         sound = record {
-          operands = All-tail F v rest ops;
+          stacks = with_here (length old.texts) rest old h.stacks (All-tail F v rest ops);
           globals = subst G (sym items) (All-set (FitsGlobal (length old.texts)) old.globals.items k (Bound v) (All-head F v rest ops) h.globals);
           literals = h.literals;
           slots = subst S (sym items) (suits_set names old.globals.items k v h.slots);
@@ -297,7 +306,7 @@ pub bound_did : (k : ℕ) (v : Value) (old new : State) (r : Step) → IsSound o
 bound_did k v old new r h d run at e =
     let w = world_of old in
     let x = text_at old.table.names k in
-    let P : Ran → Type 0 = λ f. Did (yields f (old.pc + 1) (operands_of old) [] (blocks_of old)) old new r in
+    let P : Ran → Type 0 = λ f. Did (yields f (old.pc + 1) (operands_of old) (slots_of old) (blocks_of old)) old new r in
     let fits : Fits (length old.texts) v = get_fits (FitsGlobal (length old.texts)) old.globals.items k (Bound v) h.globals at in
     subst P (sym (load_found x (value_of old.texts v) w (slot_read old.table.names old.globals.items old.texts k (Bound v) d h.slots at).0)) (pushed_did (value_of old.texts v) v old new r h run fits refl e)
 
@@ -305,48 +314,48 @@ pub provided_did : (k : ℕ) (b : BuiltIn) (old new : State) (r : Step) → IsSo
 provided_did k b old new r h d run at e =
     let w = world_of old in
     let x = text_at old.table.names k in
-    let P : Ran → Type 0 = λ f. Did (yields f (old.pc + 1) (operands_of old) [] (blocks_of old)) old new r in
+    let P : Ran → Type 0 = λ f. Did (yields f (old.pc + 1) (operands_of old) (slots_of old) (blocks_of old)) old new r in
     let read = slot_read old.table.names old.globals.items old.texts k (Provided b) d h.slots at in
     subst P (sym (load_built_in x (pure.Provided (built_in_of b)) w read.0 read.1)) (pushed_did (pure.Provided (built_in_of b)) (value.BuiltIn b) old new r h run tt refl e)
 
 pub unbound_did : (k : ℕ) (old new : State) (r : Step) → IsSound old → AllPairs (λ x y. x ≢ y) old.table.names → slice_get old.globals.items k ≡ Some Unbound → IsRaised (not_defined_cause old.table.names k) old new r → Did (line_of (LoadGlobal (text_at old.table.names k)) old) old new r
 unbound_did k old new r h d at e =
     let w = world_of old in
-    let P : Ran → Type 0 = λ f. Did (yields f (old.pc + 1) (operands_of old) [] (blocks_of old)) old new r in
+    let P : Ran → Type 0 = λ f. Did (yields f (old.pc + 1) (operands_of old) (slots_of old) (blocks_of old)) old new r in
     let read = slot_read old.table.names old.globals.items old.texts k Unbound d h.slots at in
-    subst P (sym (load_none old.table.names k w read.0 read.1)) (raised_did (not_defined_cause old.table.names k) (old.pc + 1) (operands_of old) old new r h e)
+    subst P (sym (load_none old.table.names k w read.0 read.1)) (raised_did (not_defined_cause old.table.names k) old.operands.here old new r h e)
 
 -- an operand gives way to what an operator gives for it
-pub unary_did : (o : tree.UnaryOperator) (x v : Value) (rest : List Value) (old new : State) → IsSound old → old.standing ≡ standing.Running → old.operands ≡ x ∷ rest → ((names : List pure.Text) (w : World) → operate_unary o (value_of old.texts x) w ≡ gave (value_of old.texts v) w) → ((n : ℕ) → Fits n v) → new ≡ record old { pc = old.pc + 1; operands = v ∷ rest } → Did (line_of (ApplyUnary o) old) old new Local
+pub unary_did : (o : tree.UnaryOperator) (x v : Value) (rest : List Value) (old new : State) → IsSound old → old.standing ≡ standing.Running → old.operands.here ≡ x ∷ rest → ((names : List pure.Text) (w : World) → operate_unary o (value_of old.texts x) w ≡ gave (value_of old.texts v) w) → ((n : ℕ) → Fits n v) → new ≡ moved (old.pc + 1) (v ∷ rest) old → Did (line_of (ApplyUnary o) old) old new Local
 unary_did o x v rest old new h run top gives fits e =
     let w = world_of old in
     let F = Fits (length old.texts) in
     let A : List Value → Type 0 = λ vs. All F vs in
-    let line : line_of (ApplyUnary o) old ≡ goes (At (old.pc + 1) (value_of old.texts v ∷ map (value_of old.texts) rest) [] (blocks_of old)) w =
-    ap (λ vs. act (ApplyUnary o) (old.pc + 1) (map (value_of old.texts) vs) [] (blocks_of old) w) top
-    ∙ ap (λ f. yields f (old.pc + 1) (map (value_of old.texts) rest) [] (blocks_of old)) (gives old.table.names w) in
+    let line : line_of (ApplyUnary o) old ≡ goes (At (old.pc + 1) (value_of old.texts v ∷ map (value_of old.texts) rest) (slots_of old) (blocks_of old)) w =
+    ap (line_on (ApplyUnary o) old) top
+    ∙ ap (λ f. yields f (old.pc + 1) (map (value_of old.texts) rest) (slots_of old) (blocks_of old)) (gives old.table.names w) in
     let P : Line → Type 0 = λ l. Did l old new Local in
-    subst P (sym line) (advanced_did (value_of old.texts v) v rest old new h run (All-tail F x rest (subst A top h.operands)) (fits (length old.texts)) refl e)
+    subst P (sym line) (advanced_did (value_of old.texts v) v rest old new h run (All-tail F x rest (subst A top h.stacks.here)) (fits (length old.texts)) refl e)
 
-pub unary_raises : (o : tree.UnaryOperator) (x : Value) (rest : List Value) (cause : Cause) (old new : State) (r : Step) → IsSound old → old.operands ≡ x ∷ rest → ((names : List pure.Text) (w : World) → operate_unary o (value_of old.texts x) w ≡ threw names cause w) → IsRaised cause old new r → Did (line_of (ApplyUnary o) old) old new r
+pub unary_raises : (o : tree.UnaryOperator) (x : Value) (rest : List Value) (cause : Cause) (old new : State) (r : Step) → IsSound old → old.operands.here ≡ x ∷ rest → ((names : List pure.Text) (w : World) → operate_unary o (value_of old.texts x) w ≡ threw names cause w) → IsRaised cause old new r → Did (line_of (ApplyUnary o) old) old new r
 unary_raises o x rest cause old new r h top gives e =
     let w = world_of old in
-    let line : line_of (ApplyUnary o) old ≡ yields (threw old.table.names cause w) (old.pc + 1) (map (value_of old.texts) rest) [] (blocks_of old) =
-    ap (λ vs. act (ApplyUnary o) (old.pc + 1) (map (value_of old.texts) vs) [] (blocks_of old) w) top
-    ∙ ap (λ f. yields f (old.pc + 1) (map (value_of old.texts) rest) [] (blocks_of old)) (gives old.table.names w) in
+    let line : line_of (ApplyUnary o) old ≡ yields (threw old.table.names cause w) (old.pc + 1) (map (value_of old.texts) rest) (slots_of old) (blocks_of old) =
+    ap (line_on (ApplyUnary o) old) top
+    ∙ ap (λ f. yields f (old.pc + 1) (map (value_of old.texts) rest) (slots_of old) (blocks_of old)) (gives old.table.names w) in
     let P : Line → Type 0 = λ l. Did l old new r in
-    subst P (sym line) (raised_did cause (old.pc + 1) (map (value_of old.texts) rest) old new r h e)
+    subst P (sym line) (raised_did cause rest old new r h e)
 
-pub unary_lacks : (o : tree.UnaryOperator) (s : State) → s.operands ≡ [] → IsOpen (line_of (ApplyUnary o) s) → ⊥
-unary_lacks o s none h = h (ap (λ vs. (act (ApplyUnary o) (s.pc + 1) (map (value_of s.texts) vs) [] (blocks_of s) (world_of s)).place) none)
+pub unary_lacks : (o : tree.UnaryOperator) (s : State) → s.operands.here ≡ [] → IsOpen (line_of (ApplyUnary o) s) → ⊥
+unary_lacks o s none h = h (ap (λ vs. (line_on (ApplyUnary o) s vs).place) none)
 
 -- two operands give way to what an operator gives for them
-binary_line : (o : tree.BinaryOperator) (x y : Value) (rest : List Value) (s : State) (f : Ran) → s.operands ≡ y ∷ x ∷ rest → operate o (value_of s.texts x) (value_of s.texts y) (world_of s) ≡ f → line_of (ApplyBinary o) s ≡ yields f (s.pc + 1) (map (value_of s.texts) rest) [] (blocks_of s)
+binary_line : (o : tree.BinaryOperator) (x y : Value) (rest : List Value) (s : State) (f : Ran) → s.operands.here ≡ y ∷ x ∷ rest → operate o (value_of s.texts x) (value_of s.texts y) (world_of s) ≡ f → line_of (ApplyBinary o) s ≡ yields f (s.pc + 1) (map (value_of s.texts) rest) (slots_of s) (blocks_of s)
 binary_line o x y rest s f top gives =
-    ap (λ vs. act (ApplyBinary o) (s.pc + 1) (map (value_of s.texts) vs) [] (blocks_of s) (world_of s)) top
-    ∙ ap (λ g. yields g (s.pc + 1) (map (value_of s.texts) rest) [] (blocks_of s)) gives
+    ap (line_on (ApplyBinary o) s) top
+    ∙ ap (λ g. yields g (s.pc + 1) (map (value_of s.texts) rest) (slots_of s) (blocks_of s)) gives
 
-pub binary_did : (o : tree.BinaryOperator) (x y v : Value) (rest : List Value) (texts : List pure.Text) (old new : State) → IsSound old → old.standing ≡ standing.Running → old.operands ≡ y ∷ x ∷ rest → Runs (λ w. operate o (value_of old.texts x) (value_of old.texts y) w) old.texts texts (Ok v) → new ≡ record old { pc = old.pc + 1; operands = v ∷ rest; texts = texts } → Did (line_of (ApplyBinary o) old) old new Local
+pub binary_did : (o : tree.BinaryOperator) (x y v : Value) (rest : List Value) (texts : List pure.Text) (old new : State) → IsSound old → old.standing ≡ standing.Running → old.operands.here ≡ y ∷ x ∷ rest → Runs (λ w. operate o (value_of old.texts x) (value_of old.texts y) w) old.texts texts (Ok v) → new ≡ record (moved (old.pc + 1) (v ∷ rest) old) { texts = texts } → Did (line_of (ApplyBinary o) old) old new Local
 binary_did o x y v rest texts old new h run top runs e =
     let w = world_of old in
     let F = Fits (length old.texts) in
@@ -355,40 +364,40 @@ binary_did o x y v rest texts old new h run top runs e =
     let is : texts ≡ old.texts ++ more = runs.2.1 in
     let V : List pure.Text → Type 0 = λ ts. Fits (length ts) v in
     let gives : operate o (value_of old.texts x) (value_of old.texts y) w ≡ gave (value_of (old.texts ++ more) v) w = runs.0 w ∙ ap (λ ts. gave (value_of ts v) w) is in
-    let below : All F rest = All-tail F x rest (All-tail F y (x ∷ rest) (subst A top h.operands)) in
+    let below : All F rest = All-tail F x rest (All-tail F y (x ∷ rest) (subst A top h.stacks.here)) in
     let P : Line → Type 0 = λ l. Did l old new Local in
     subst P (sym (binary_line o x y rest old (gave (value_of (old.texts ++ more) v) w) top gives))
-    (grown_did v rest more old new h run below (subst V is runs.1) (e ∙ ap (λ ts. let s : State = record old { pc = old.pc + 1; operands = v ∷ rest; texts = ts } in s) is))
+    (grown_did v rest more old new h run below (subst V is runs.1) (e ∙ ap (λ ts. let s : State = record (moved (old.pc + 1) (v ∷ rest) old) { texts = ts } in s) is))
 
-pub binary_raises : (o : tree.BinaryOperator) (x y : Value) (rest : List Value) (cause : Cause) (old new : State) (r : Step) → IsSound old → old.operands ≡ y ∷ x ∷ rest → ((names : List pure.Text) (w : World) → operate o (value_of old.texts x) (value_of old.texts y) w ≡ threw names cause w) → IsRaised cause old new r → Did (line_of (ApplyBinary o) old) old new r
+pub binary_raises : (o : tree.BinaryOperator) (x y : Value) (rest : List Value) (cause : Cause) (old new : State) (r : Step) → IsSound old → old.operands.here ≡ y ∷ x ∷ rest → ((names : List pure.Text) (w : World) → operate o (value_of old.texts x) (value_of old.texts y) w ≡ threw names cause w) → IsRaised cause old new r → Did (line_of (ApplyBinary o) old) old new r
 binary_raises o x y rest cause old new r h top gives e =
     let w = world_of old in
     let P : Line → Type 0 = λ l. Did l old new r in
-    subst P (sym (binary_line o x y rest old (threw old.table.names cause w) top (gives old.table.names w))) (raised_did cause (old.pc + 1) (map (value_of old.texts) rest) old new r h e)
+    subst P (sym (binary_line o x y rest old (threw old.table.names cause w) top (gives old.table.names w))) (raised_did cause rest old new r h e)
 
-pub binary_lacks : (o : tree.BinaryOperator) (s : State) → length s.operands < 2 → IsOpen (line_of (ApplyBinary o) s) → ⊥
-binary_lacks o s few h = h (short s.operands few)
+pub binary_lacks : (o : tree.BinaryOperator) (s : State) → length s.operands.here < 2 → IsOpen (line_of (ApplyBinary o) s) → ⊥
+binary_lacks o s few h = h (short s.operands.here few)
   where
-    short : (vs : List Value) → length vs < 2 → (act (ApplyBinary o) (s.pc + 1) (map (value_of s.texts) vs) [] (blocks_of s) (world_of s)).place ≡ Closed
+    short : (vs : List Value) → length vs < 2 → (line_on (ApplyBinary o) s vs).place ≡ Closed
     short [] p = refl
     short (v ∷ []) p = refl
     short (v ∷ u ∷ vs) p = absurd (omega arith)
 
-pub discard_did : (v : Value) (rest : List Value) (old new : State) → IsSound old → old.standing ≡ standing.Running → old.operands ≡ v ∷ rest → new ≡ record old { pc = old.pc + 1; operands = rest } → Did (line_of Discard old) old new Local
+pub discard_did : (v : Value) (rest : List Value) (old new : State) → IsSound old → old.standing ≡ standing.Running → old.operands.here ≡ v ∷ rest → new ≡ moved (old.pc + 1) rest old → Did (line_of Discard old) old new Local
 discard_did v rest old new h run top e =
     let P : Line → Type 0 = λ l. Did l old new Local in
-    subst P (sym (ap (λ vs. act Discard (old.pc + 1) (map (value_of old.texts) vs) [] (blocks_of old) (world_of old)) top)) (discarded_did v rest old new h run top e)
+    subst P (sym (ap (line_on Discard old) top)) (discarded_did v rest old new h run top e)
 
-pub discard_lacks : (s : State) → s.operands ≡ [] → IsOpen (line_of Discard s) → ⊥
-discard_lacks s none h = h (ap (λ vs. (act Discard (s.pc + 1) (map (value_of s.texts) vs) [] (blocks_of s) (world_of s)).place) none)
+pub discard_lacks : (s : State) → s.operands.here ≡ [] → IsOpen (line_of Discard s) → ⊥
+discard_lacks s none h = h (ap (λ vs. (line_on Discard s vs).place) none)
 
-pub store_did : (k : ℕ) (v : Value) (rest : List Value) (old new : State) → IsSound old → AllPairs (λ x y. x ≢ y) old.table.names → old.standing ≡ standing.Running → k < length old.globals.items → old.operands ≡ v ∷ rest → new.globals.items ≡ slice_set old.globals.items k (Bound v) → new ≡ record old { pc = old.pc + 1; operands = rest; globals = new.globals } → Did (line_of (StoreGlobal (text_at old.table.names k)) old) old new Local
+pub store_did : (k : ℕ) (v : Value) (rest : List Value) (old new : State) → IsSound old → AllPairs (λ x y. x ≢ y) old.table.names → old.standing ≡ standing.Running → k < length old.globals.items → old.operands.here ≡ v ∷ rest → new.globals.items ≡ slice_set old.globals.items k (Bound v) → new ≡ record (moved (old.pc + 1) rest old) { globals = new.globals } → Did (line_of (StoreGlobal (text_at old.table.names k)) old) old new Local
 store_did k v rest old new h d run p top items e =
     let P : Line → Type 0 = λ l. Did l old new Local in
-    subst P (sym (ap (λ vs. act (StoreGlobal (text_at old.table.names k)) (old.pc + 1) (map (value_of old.texts) vs) [] (blocks_of old) (world_of old)) top)) (stored_did k v rest old new h d run p top items e)
+    subst P (sym (ap (line_on (StoreGlobal (text_at old.table.names k)) old) top)) (stored_did k v rest old new h d run p top items e)
 
-pub store_lacks : (x : pure.Text) (s : State) → s.operands ≡ [] → IsOpen (line_of (StoreGlobal x) s) → ⊥
-store_lacks x s none h = h (ap (λ vs. (act (StoreGlobal x) (s.pc + 1) (map (value_of s.texts) vs) [] (blocks_of s) (world_of s)).place) none)
+pub store_lacks : (x : pure.Text) (s : State) → s.operands.here ≡ [] → IsOpen (line_of (StoreGlobal x) s) → ⊥
+store_lacks x s none h = h (ap (λ vs. (line_on (StoreGlobal x) s vs).place) none)
 
 -- a literal is put on the operands
 pub literal_did : (place : ℕ) (old new : State) (r : Step) → IsSound old → old.standing ≡ standing.Running → place < length old.table.literals → IsPushed (value.Str place) old new r → Did (line_of (Push (pure.Str (text_at old.table.literals place))) old) old new r
@@ -398,73 +407,13 @@ literal_did place old new r h run p e =
     let same : text_at old.texts place ≡ text_at old.table.literals place = sym (get_or-take m old.texts place [] p) ∙ ap (λ l. get_or l place []) h.literals in
     pushed_did (pure.Str (text_at old.table.literals place)) (value.Str place) old new r h run (omega arith) (ap pure.Str same) e
 
--- a call's line
-drop_map : {A B : Type 0} (f : A → B) (n : ℕ) (xs : List A) → drop n (map f xs) ≡ map f (drop n xs)
-drop_map f zero xs = refl
-drop_map f (suc n) [] = refl
-drop_map f (suc n) (x ∷ xs) = drop_map f n xs
-
-take_map : {A B : Type 0} (f : A → B) (n : ℕ) (xs : List A) → take n (map f xs) ≡ map f (take n xs)
-take_map f zero xs = refl
-take_map f (suc n) [] = refl
-take_map f (suc n) (x ∷ xs) = ap (λ l. f x ∷ l) (take_map f n xs)
-
-reverse_map : {A B : Type 0} (f : A → B) (xs : List A) → reverse (map f xs) ≡ map f (reverse xs)
-reverse_map f [] = refl
-reverse_map f (x ∷ xs) =
-    reverse-append (f x ∷ []) (map f xs) ∙ ap (λ l. l ++ f x ∷ []) (reverse_map f xs) ∙ sym (map-append f (reverse xs) (x ∷ [])) ∙ ap (map f) (sym (reverse-append (x ∷ []) xs))
-
-call_line : (n : ℕ) (f : Value) (args : List Value) (s : State) → drop n s.operands ≡ f ∷ drop (n + 1) s.operands → args ≡ reverse (take n s.operands) → line_of (CallTop n) s ≡ yields (call (value_of s.texts f) (map (value_of s.texts) args) (world_of s)) (s.pc + 1) (map (value_of s.texts) (drop (n + 1) s.operands)) [] (blocks_of s)
-call_line n f args s top args_are =
-    let g = value_of s.texts in
-    let w = world_of s in
-    let given : reverse (take n (map g s.operands)) ≡ map g args = ap reverse (take_map g n s.operands) ∙ reverse_map g (take n s.operands) ∙ ap (map g) (sym args_are) in
-    ap (λ vs. on_callee vs (λ u rest. yields (call u (reverse (take n (map g s.operands))) w) (s.pc + 1) rest [] (blocks_of s)) (stuck w)) (drop_map g n s.operands ∙ ap (map g) top)
-    ∙ ap (λ vs. yields (call (g f) vs w) (s.pc + 1) (map g (drop (n + 1) s.operands)) [] (blocks_of s)) given
-
-pub call_raises : (n : ℕ) (f : Value) (args : List Value) (old new : State) (r : Step) → IsSound old → drop n old.operands ≡ f ∷ drop (n + 1) old.operands → args ≡ reverse (take n old.operands) → ((vs : List pure.Value) (w : World) → call (value_of old.texts f) vs w ≡ threw old.table.names NotCallable w) → IsRaised NotCallable old new r → Did (line_of (CallTop n) old) old new r
-call_raises n f args old new r h top args_are gives e =
-    let w = world_of old in
-    let rest = map (value_of old.texts) (drop (n + 1) old.operands) in
-    let P : Line → Type 0 = λ l. Did l old new r in
-    subst P (sym (call_line n f args old top args_are ∙ ap (λ g. yields g (old.pc + 1) rest [] (blocks_of old)) (gives (map (value_of old.texts) args) w))) (raised_did NotCallable (old.pc + 1) rest old new r h e)
-
-pub call_lacks : (n : ℕ) (s : State) → length s.operands ≤ n → IsOpen (line_of (CallTop n) s) → ⊥
-call_lacks n s few h =
-    let g = value_of s.texts in
-    let w = world_of s in
-    let none : drop n (map g s.operands) ≡ [] = drop_map g n s.operands ∙ ap (map g) (drop_all n s.operands few) in
-    h (ap (λ vs. (on_callee vs (λ u rest. yields (call u (reverse (take n (map g s.operands))) w) (s.pc + 1) rest [] (blocks_of s)) (stuck w)).place) none)
-
--- a line is printed
-pub print_did : (n : ℕ) (args : List Value) (old mid new : State) (r : Step) → IsSound old → old.standing ≡ standing.Running → drop n old.operands ≡ value.BuiltIn Print ∷ drop (n + 1) old.operands → args ≡ reverse (take n old.operands) → mid ≡ record old { line = mid.line } → string_bytes mid.line ≡ encode_utf8_all (text_line (map (value_of old.texts) args)) → IsPrinted n mid new r → Did (line_of (CallTop n) old) old new r
-print_did n args old mid new (Ended o) h run top args_are m line e = absurd e
-print_did n args old mid new Starved h run top args_are m line e =
-    let P : State → Type 0 = λ s. (s ≡ record old { standing = standing.Starved; line = s.line; printed = s.printed }) × (string_bytes s.printed ≡ string_bytes old.printed) in
-    let M : State → Type 0 = λ s. (new ≡ record s { standing = standing.Starved; printed = new.printed }) × (string_bytes new.printed ≡ string_bytes s.printed) in
-    let k = subst M m e in
-    (k.0 ∙ ap (λ l. let s : State = record old { standing = standing.Starved; line = l; printed = new.printed } in s) (sym (ap (λ s. s.line) k.0)), k.1)
-print_did n args old mid new Local h run top args_are m line e =
-    let g = value_of old.texts in
-    let rest = drop (n + 1) old.operands in
-    let t = text_line (map g args) in
-    let l = yields (call (pure.Provided pure.Print) (map g args) (world_of old)) (old.pc + 1) (map g rest) [] (blocks_of old) in
-    let M : State → Type 0 = λ s. (new ≡ record s { pc = s.pc + 1; operands = value.None ∷ drop (n + 1) s.operands; printed = new.printed }) × (string_bytes new.printed ≡ string_bytes s.printed ++ string_bytes mid.line) in
-    let k = subst M m e in
-    let F = Fits (length old.texts) in
-    let P : State → Type 0 = λ s. string_bytes s.printed ≡ string_bytes old.printed ++ encode_utf8_all t → Did l old s Local in
-    let Q : Line → Type 0 = λ x. Did x old new Local in
-    subst Q (sym (call_line n (value.BuiltIn Print) args old top args_are))
-    (subst P (sym k.0) (λ bytes. (
-      record {
-        place = ap (λ st. place_in st (old.pc + 1) (pure.Nothing ∷ map g rest) (blocks_of old)) (sym run);
-        world = refl;
-        printed = bytes;
-        code = refl;
-        sound = record { operands = All-cons F value.None rest tt (All-drop F (n + 1) old.operands h.operands); globals = h.globals; literals = h.literals; slots = h.slots; short = h.short };
-      },
-      run,
-    )) (k.1 ∙ ap (λ b. string_bytes old.printed ++ b) line))
+-- a function is put on the operands, under its name
+pub function_did : (number place : ℕ) (old new : State) (r : Step) → IsSound old → old.standing ≡ standing.Running → place < length old.table.literals → IsPushed (value.Function number place) old new r → Did (line_of (Push (pure.Function (text_at old.table.literals place) number)) old) old new r
+function_did number place old new r h run p e =
+    let m = length old.table.literals in
+    let short : m ≤ length old.texts = literals_fit 0 old.table.literals old.texts h.literals in
+    let same : text_at old.texts place ≡ text_at old.table.literals place = sym (get_or-take m old.texts place [] p) ∙ ap (λ l. get_or l place []) h.literals in
+    pushed_did (pure.Function (text_at old.table.literals place) number) (value.Function number place) old new r h run (omega arith) (ap (λ t. pure.Function t number) same) e
 
 -- a step that is known to be local
 pub local : (l : Line) (old new : State) (r : Step) → r ≡ Local → Did l old new Local → Did l old new r
@@ -486,6 +435,3 @@ slot_missing s k h p e =
     let lt = slot_there s k h p in
     let at = slice_get-get_or s.globals.items k Unbound lt in
     absurd (let no : ⊥ = cc in no)
-
-pub only_print : (b : BuiltIn) → b ≡ Print
-only_print Print = refl

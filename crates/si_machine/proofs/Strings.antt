@@ -1,6 +1,6 @@
 -- Texts that are joined, repeated and shown.
 use Rattle.std.proofs.Common.{◌≡◌, ℕ, zero, suc, ◌+◌, ◌*◌, ◌/◌, ◌<◌, ◌≤◌, Bool, true, false, List, [], ◌∷◌, ◌++◌, length, get_or, map, ℤ, pos, negsuc, refl, sym, ap, subst, ◌∙◌, arith, append-nil, append_assoc, length-append, add-one, nat_lt, lt-ltb, le-ltb, ne_eqb, cond, div-lt_iff_lt-mul, le-div_iff_mul-le, zero-mul, suc-mul, take, slice_get, None, Some, unwrap_or, Ok, Err}
-use Rattle.std.specs.Prelude.{encode_utf8_all}
+use Rattle.std.specs.Prelude.{codes, encode_utf8_all}
 use Rattle.std.proofs.lemmas.List.{take_more, map-append}
 use Rattle.std.proofs.lemmas.Str.{encodes-append}
 use Rattle.std.proofs.lemmas.Option.{unwrap_or-slice_get}
@@ -128,6 +128,16 @@ line_written f all others v b0 b1 b2 b3 e e1 e2 e3 =
     ∙ ap (λ l. b0 ++ (encode_utf8_all x ++ l)) (sym (encodes-append y (10 ∷ [])))
     ∙ ap (λ l. b0 ++ l) (sym (encodes-append x (y ++ 10 ∷ [])))
     ∙ ap (λ l. b0 ++ encode_utf8_all l) (sym (line_is (f v) (map f others)) ∙ ap (λ l. line_of (map f l)) (sym e))
+
+-- a function is written by its name
+pub function_written : (name : pure.Text) (b0 b1 b2 b3 : List ℕ) → b1 ≡ b0 ++ codes "<function " → b2 ≡ b1 ++ encode_utf8_all name → b3 ≡ b2 ++ 62 ∷ [] → b3 ≡ b0 ++ encode_utf8_all (codes "<function " ++ (name ++ codes ">"))
+unfolding lib.Utf8.encode
+function_written name b0 b1 b2 b3 e1 e2 e3 =
+    let x = codes "<function " in
+    e3 ∙ ap (λ l. l ++ 62 ∷ []) (e2 ∙ ap (λ l. l ++ encode_utf8_all name) e1)
+    ∙ append_assoc (b0 ++ x) (encode_utf8_all name) (62 ∷ [])
+    ∙ append_assoc b0 x (encode_utf8_all name ++ 62 ∷ [])
+    ∙ ap (λ l. b0 ++ (x ++ l)) (sym (encodes-append name (62 ∷ [])))
 
 -- a text that was added is what an operation gives
 added : (t : pure.Text) (old new : List pure.Text) (place : ℕ) → place ≡ length old → new ≡ old ++ t ∷ [] → text_at new place ≡ t

@@ -1,6 +1,6 @@
 -- Truths, and the order of texts.
-use Rattle.std.proofs.Common.{◌≡◌, ◌≢◌, ℕ, ℤ, ◌<◌, List, [], ◌∷◌, Bool, true, false, Ok, Err, Result, refl, sym, ap, subst, ◌∙◌, arith, Ordering, to_z, of_z, w64}
-use Rattle.std.specs.Prelude.{nat_eq, nat_lt, ◌&&◌, ◌||◌, bytes_eq}
+use Rattle.std.proofs.Common.{◌≡◌, ◌≢◌, ℕ, ℤ, List, [], ◌∷◌, Bool, true, false, Ok, Err, Result, refl, sym, ap, subst, ◌∙◌, arith, Ordering, to_z, of_z, w64, append-nil}
+use Rattle.std.specs.Prelude.{nat_eq, ◌&&◌, bytes_eq}
 use Rattle.std.specs.Ordering.{nat_cmp, is_lt}
 use Rattle.std.specs.Cmp.Lexicographic.{slice_cmp}
 use Rattle.std.proofs.lemmas.Bool.Decides.{nat_tests}
@@ -17,6 +17,8 @@ use Rattle.si_machine.specs.declared.cause.Fault.{Fault}
 use Rattle.si_machine.specs.declared.cause.Fault.TheVariants as fault
 use Rattle.si_machine.specs.declared.value.Value.{Value}
 use Rattle.si_machine.specs.declared.cause.Cause.{Cause}
+use Rattle.si_machine.specs.declared.cause.Cause.TheVariants.{Arithmetic}
+use Rattle.si_plain.specs.declared.kind.Kind.{Kind}
 use Rattle.si_machine.specs.declared.value.Value.TheVariants as value
 use Rattle.si_machine.specs.Values.{value_of}
 use Rattle.si_machine.specs.Causes.{Runs, threw}
@@ -152,3 +154,16 @@ module _ (o : tree.BinaryOperator) (old new : List pure.Text) (x y : Value) (pla
 pub truths_run : (o : tree.BinaryOperator) (t : List pure.Text) (x y : Value) (a b : Bool) (r : Result Value Fault) → x ≡ value.Truth a → y ≡ value.Truth b → Runs (λ w. operate_truths o a b w) t t r → Runs (λ w. operate o (value_of t x) (value_of t y) w) t t r
 truths_run o t x y a b r e f h =
     runs_same (λ w. operate o (value_of t x) (value_of t y) w) (λ w. operate_truths o a b w) t t r (λ w. both o t x y (value.Truth a) (value.Truth b) w e f) h
+
+-- an operator between two integers that gives an integer
+pub ints_give : (o : tree.BinaryOperator) (t : List pure.Text) (i j n : ℤ) → operate_integers o i j ≡ Ok n → Runs (λ w. operate o (pure.Int i) (pure.Int j) w) t t (Ok (value.Int n))
+ints_give o t i j n e = ((λ w. ap (λ r. integer r w) e), tt, ([], sym (append-nil t)))
+
+-- an operator between two integers that raises
+pub ints_raise : (o : tree.BinaryOperator) (i j : ℤ) (kind : Kind) → operate_integers o i j ≡ Err kind → (names : List pure.Text) (w : World) → operate o (pure.Int i) (pure.Int j) w ≡ threw names (Arithmetic kind) w
+ints_raise o i j kind e names w = ap (λ r. integer r w) e
+
+-- what is done with two values that are integers
+pub as_ints : (f : pure.Value → pure.Value → Ran) (t : List pure.Text) (x y : Value) (a b i j : ℤ) → x ≡ value.Int a → y ≡ value.Int b → a ≡ i → b ≡ j → f (value_of t x) (value_of t y) ≡ f (pure.Int i) (pure.Int j)
+as_ints f t x y a b i j e g k l =
+    ap (λ v. f (value_of t v) (value_of t y)) e ∙ ap (λ v. f (pure.Int a) (value_of t v)) g ∙ ap (λ z. f (pure.Int z) (pure.Int b)) k ∙ ap (λ z. f (pure.Int i) (pure.Int z)) l

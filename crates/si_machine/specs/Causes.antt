@@ -1,14 +1,14 @@
 -- What causes of exceptions stand for.
 use Rattle.std.specs.Prelude.{codes, ◌≡◌, ℕ, List, [], ◌∷◌, ◌++◌, Result, Ok, Err, Bool, true, false, nat_lt, nat_eq, length, ℤ, pos, negsuc, if◌then◌else◌}
 use Rattle.si_plain.specs.declared.kind.Kind.{Kind}
-use Rattle.si_plain.specs.declared.kind.Kind.TheVariants.{OverflowError, TypeError, NameError}
+use Rattle.si_plain.specs.declared.kind.Kind.TheVariants.{OverflowError, TypeError, NameError, UnboundLocalError, RecursionError}
 use Rattle.si_semantics.specs.Value as pure
 use Rattle.si_semantics.specs.Text.{max_length}
 use Rattle.si_semantics.specs.World.{World, Ran}
 use Rattle.si_semantics.specs.Operations.{arithmetic_message, gave, refused, times}
 use Rattle.si_code.specs.Views.{text_at}
 use Rattle.si_machine.specs.declared.cause.Cause.{Cause}
-use Rattle.si_machine.specs.declared.cause.Cause.TheVariants.{Arithmetic, TooLong, WrongType, NotCallable, NotDefined}
+use Rattle.si_machine.specs.declared.cause.Cause.TheVariants.{Arithmetic, TooLong, WrongType, NotCallable, WrongArguments, TooDeep, NotDefined, NotBound}
 use Rattle.si_machine.specs.declared.cause.Fault.{Fault}
 use Rattle.si_machine.specs.declared.cause.Fault.TheVariants as fault
 use Rattle.si_machine.specs.declared.value.Value.{Value}
@@ -20,11 +20,18 @@ kind_of (Arithmetic kind) = kind
 kind_of TooLong = OverflowError
 kind_of WrongType = TypeError
 kind_of NotCallable = TypeError
+kind_of WrongArguments = TypeError
+kind_of TooDeep = RecursionError
 kind_of (NotDefined slot) = NameError
+kind_of (NotBound slot) = UnboundLocalError
 
--- the message about a name that is not bound
+-- the message about a name that is bound nowhere
 abbrev pub not_defined : pure.Text → pure.Text
 not_defined x = codes "name " ++ (x ++ codes " is not defined")
+
+-- the message about a local name that is not bound
+abbrev pub not_bound : pure.Text → pure.Text
+not_bound x = codes "local " ++ (x ++ codes " is not bound")
 
 -- the message of the exception, with the names of the slots
 abbrev pub message_in : List pure.Text → Cause → pure.Text
@@ -32,7 +39,10 @@ message_in names (Arithmetic kind) = arithmetic_message kind
 message_in names TooLong = codes "too long"
 message_in names WrongType = codes "wrong type"
 message_in names NotCallable = codes "not callable"
+message_in names WrongArguments = codes "wrong arguments"
+message_in names TooDeep = codes "too deep"
 message_in names (NotDefined slot) = not_defined (text_at names slot)
+message_in names (NotBound slot) = not_bound (text_at names slot)
 
 -- an operation that raises the exception
 abbrev pub threw : List pure.Text → Cause → World → Ran
@@ -70,6 +80,10 @@ abbrev pub copies_of : ℕ → ℤ → ℕ
 copies_of l (pos n) = if nat_eq l 0 then 0 else n
 copies_of l (negsuc n) = 0
 
--- why a slot's name that is not bound raises: its message may be longer than a str may be
+-- why a slot's name that is bound nowhere raises: its message may be longer than a str may be
 abbrev pub not_defined_cause : List pure.Text → ℕ → Cause
 not_defined_cause names slot = if nat_lt max_length (length (not_defined (text_at names slot))) then TooLong else NotDefined slot
+
+-- why a slot's name that is local and not bound raises: its message may be longer than a str may be
+abbrev pub not_bound_cause : List pure.Text → ℕ → Cause
+not_bound_cause names slot = if nat_lt max_length (length (not_bound (text_at names slot))) then TooLong else NotBound slot

@@ -1,24 +1,26 @@
 -- What is seen of a machine, and what its calls make of that.
 use Rattle.std.specs.Prelude.{◌≡◌, ℕ, List, [], ◌++◌, Option, Bool, true, false, encode_utf8_all}
-use Rattle.si_semantics.specs.Tree.{Module}
+use Rattle.si_semantics.specs.Tree.{Function, Module}
 use Rattle.si_semantics.specs.Value.{Text, Value}
 use Rattle.si_semantics.specs.World.{World}
+use Rattle.si_semantics.specs.Life.{Outcome}
 use Rattle.si_semantics.specs.Machine.{Place, At, Calling, Taking, Ending, Closed, Table, Course, next}
 use Rattle.si_semantics.specs.Shows.{texts, joined}
 use Rattle.si_compile.specs.Code.{compiled}
+use Rattle.si_compile.specs.Correct.{Knows}
 use Rattle.si_machine.specs.declared.step.Step.{Step}
 use Rattle.si_machine.specs.declared.step.Step.TheVariants.{Local, Ended, Starved}
 use Rattle.si_machine.specs.Values.{globals_of}
-use Rattle.si_machine.specs.Outcomes.{outcome_of}
 
 -- its code, where it stands (waiting for a text where nothing runs), the names that its code speaks of and what is bound to each, what
--- it has printed in UTF-8, and whether it was refused memory
+-- it has printed in UTF-8, how the last run ended (at its end, where that was told, or none has ended), and whether it was refused memory
 pub record Seen : Type 0 where
   pub table : Table
   pub place : Place
   pub names : List Text
   pub values : List (Option Value)
   pub printed : List ℕ
+  pub outcome : Outcome
   pub starved : Bool
 
 -- the world of a machine's scripts
@@ -39,9 +41,9 @@ pub record Stands (s : Seen) (c : Course) (text : List ℕ) : Type 0 where
   pub printed : s.printed ≡ text
   pub fed : s.starved ≡ false
 
--- a table and a place in it are what the compiler makes of some text, added to some table
+-- a table and a place in it are what the compiler makes of some text, added to some table that knows its functions
 abbrev pub IsEntry : Table × ℕ → Type 0
-IsEntry entry = (t : Table) × (m : Module) × (entry ≡ compiled t m)
+IsEntry entry = (t : Table) × (fs : List Function) × Knows t fs × (m : Module) × (entry ≡ compiled t m)
 
 -- a place is at an instruction
 abbrev pub IsAt : Place → Type 0
@@ -64,5 +66,5 @@ printed_of c = encode_utf8_all (joined (texts c.printed))
 -- nothing, and the machine waits for a text; or memory was refused, and nothing else has changed
 abbrev pub Steps : Seen → Seen → Step → Type 0
 Steps old new Local = let c = next compiled (moment_of old) in Stands new (from_here c) (old.printed ++ printed_of c) × IsAt new.place
-Steps old new (Ended o) = let c = next compiled (moment_of old) in (c.place ≡ Ending (outcome_of o)) × Stands new (from_here (record c { place = Taking })) old.printed
+Steps old new Ended = let c = next compiled (moment_of old) in (c.place ≡ Ending new.outcome) × Stands new (from_here (record c { place = Taking })) old.printed
 Steps old new Starved = new ≡ record old { starved = true }

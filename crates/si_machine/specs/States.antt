@@ -1,50 +1,72 @@
 -- What a machine's state stands for, and what an instruction makes of it.
-use Rattle.std.specs.Prelude.{Bool, true, false, ◌≡◌, ◌≢◌, ℕ, ◌+◌, ◌<◌, ◌^◌, List, [], ◌∷◌, ◌++◌, length, map, take, drop, Option, Some, None, All, slice_get, string_bytes, encode_utf8_all}
+use Rattle.std.specs.Prelude.{Bool, true, false, ◌≡◌, ◌≢◌, ℕ, ◌+◌, ◌<◌, ◌^◌, List, [], ◌∷◌, ◌++◌, length, map, take, drop, reverse, Option, Some, None, All, slice_get, string_bytes, encode_utf8_all}
 use Rattle.si_semantics.specs.Value as pure
 use Rattle.si_semantics.specs.World.{World}
 use Rattle.si_semantics.specs.Machine as machine
-use Rattle.si_semantics.specs.Machine.{Instr, Loop, Place, At, Taking, Ending, Closed, Line, act, fetched}
-use Rattle.si_code.specs.Views.{code_of, table_of}
+use Rattle.si_semantics.specs.Machine.{Instr, Loop, Frame, Place, At, Taking, Ending, Closed, Line, act, fetched}
+use Rattle.si_code.specs.Views.{code_of, entries_of, table_of}
+use Rattle.si_code.specs.declared.routine.Routine.{Routine}
 use Rattle.si_compile.specs.Correct.{NeverCloses}
 use Rattle.si_machine.specs.declared.value.Value.{Value}
 use Rattle.si_machine.specs.declared.value.Value.TheVariants as value
 use Rattle.si_machine.specs.declared.blocks.Block.{Block}
+use Rattle.si_machine.specs.declared.blocks.Block.TheVariants as block
 use Rattle.si_machine.specs.declared.cause.Cause.{Cause}
 use Rattle.si_machine.specs.declared.state.Standing.{Standing}
 use Rattle.si_machine.specs.declared.state.Standing.TheVariants as standing
 use Rattle.si_machine.specs.declared.state.State.{State}
-use Rattle.si_machine.specs.declared.step.Outcome.TheVariants.{Returned, Raised}
+use Rattle.si_machine.specs.declared.step.Outcome.TheVariants.{Raised}
+use Rattle.si_machine.specs.declared.step.Outcome.{Outcome}
 use Rattle.si_machine.specs.declared.step.Step.{Step}
 use Rattle.si_machine.specs.declared.step.Step.TheVariants.{Local, Ended, Starved}
 use Rattle.si_machine.specs.Values.{value_of, cell_of, globals_of, Fits, FitsGlobal, AllSuit}
 use Rattle.si_machine.specs.Causes.{kind_of, message_in}
 use Rattle.si_machine.specs.Outcomes.{outcome_of}
+use Rattle.si_machine.specs.Stacks.{OperandsSeen, SlotsSeen, back_with, back, entered}
 use Rattle.si_machine.specs.Machines.{Seen, moment_of}
 
--- the operands
+-- the operands of the call that runs
 abbrev pub operands_of : State → List pure.Value
-operands_of s = map (value_of s.texts) s.operands
+operands_of s = map (value_of s.texts) s.operands.here
+
+-- a local's value, where it is bound
+abbrev pub local_of : List pure.Text → Option Value → Option pure.Value
+local_of texts None = None
+local_of texts (Some v) = Some (value_of texts v)
+
+-- the locals of the call that runs
+abbrev pub slots_of : State → List (Option pure.Value)
+slots_of s = map (local_of s.texts) s.slots.here
 
 -- the world: the values of the slots, each under its name
 abbrev pub world_of : State → World
 world_of s = record { globals = globals_of s.table.names (map (cell_of s.texts) s.globals.items); store = [] }
 
--- the body of a loop that was entered
-abbrev pub block_of : Block → machine.Block
-block_of b = Loop b.start b.after
+-- the innermost of the callers' lists, where there is one
+abbrev pub innermost : {A : Type 0} → List (List A) → List A
+innermost [] = []
+innermost (xs ∷ rest) = xs
 
--- the bodies of loops that were entered, the innermost first
+-- blocks, the innermost first, with the operands and the locals of the callers: a call has the innermost of them, and the calls around it
+-- the others
+abbrev pub blocks_with : List pure.Text → List Block → List (List Value) → List (List (Option Value)) → List machine.Block
+blocks_with texts [] ops slots = []
+blocks_with texts (block.Loop start after ∷ bs) ops slots = Loop start after ∷ blocks_with texts bs ops slots
+blocks_with texts (block.Frame after ∷ bs) ops slots =
+    Frame after (map (value_of texts) (innermost ops)) (map (local_of texts) (innermost slots)) ∷ blocks_with texts bs (drop 1 ops) (drop 1 slots)
+
+-- the bodies of loops and the calls that were entered, the innermost first
 abbrev pub blocks_of : State → List machine.Block
-blocks_of s = map block_of s.blocks
+blocks_of s = blocks_with s.texts s.blocks s.operands.below s.slots.below
 
 -- where a machine stands; it waits for a text where nothing runs
-abbrev pub place_in : Standing → ℕ → List pure.Value → List machine.Block → Place
-place_in standing.Running pc ops bs = At pc ops [] bs
-place_in standing.Starved pc ops bs = At pc ops [] bs
-place_in standing.Idle pc ops bs = Taking
+abbrev pub place_in : Standing → ℕ → List pure.Value → List (Option pure.Value) → List machine.Block → Place
+place_in standing.Running pc ops slots bs = At pc ops slots bs
+place_in standing.Starved pc ops slots bs = At pc ops slots bs
+place_in standing.Idle pc ops slots bs = Taking
 
 abbrev pub place_of : State → Place
-place_of s = place_in s.standing s.pc (operands_of s) (blocks_of s)
+place_of s = place_in s.standing s.pc (operands_of s) (slots_of s) (blocks_of s)
 
 abbrev pub is_starved : Standing → Bool
 is_starved standing.Running = false
@@ -59,6 +81,7 @@ seen s = record {
   names = s.table.names;
   values = map (cell_of s.texts) s.globals.items;
   printed = string_bytes s.printed;
+  outcome = outcome_of s.outcome;
   starved = is_starved s.standing;
 }
 
@@ -69,16 +92,36 @@ bytes_of (Some t) = encode_utf8_all t
 
 -- the line that an instruction does
 abbrev pub line_of : Instr → State → Line
-line_of i s = act i (s.pc + 1) (operands_of s) [] (blocks_of s) (world_of s)
+line_of i s = act (entries_of s.table) i (s.pc + 1) (operands_of s) (slots_of s) (blocks_of s) (world_of s)
 
 -- the line at the place where the machine stands
 abbrev pub next_line : State → Line
-next_line s = fetched (slice_get (code_of s.table) s.pc) s.pc (operands_of s) [] (blocks_of s) (world_of s)
+next_line s = fetched (entries_of s.table) (slice_get (code_of s.table) s.pc) s.pc (operands_of s) (slots_of s) (blocks_of s) (world_of s)
 
--- each value's text is there, the literals come first among the texts, each slot's global suits its name, and the code has few enough
--- instructions for the place of each to be told, and that of a jump's end
+-- a bound local's text is there
+abbrev pub FitsLocal : ℕ → Option Value → Type 0
+FitsLocal n None = Unit {0}
+FitsLocal n (Some v) = Fits n v
+
+-- how many calls there are among blocks
+abbrev pub calls_in : List Block → ℕ
+calls_in [] = 0
+calls_in (block.Loop start after ∷ bs) = calls_in bs
+calls_in (block.Frame after ∷ bs) = calls_in bs + 1
+
+-- the text of each value, also of the callers', is one of n, and each call has the operands and the locals of its caller
+pub record AreSound (n : ℕ) (ops : OperandsSeen) (slots : SlotsSeen) (bs : List Block) : Type 0 where
+  pub here : All (Fits n) ops.here
+  pub below : All (λ vs. All (Fits n) vs) ops.below
+  pub locals : All (FitsLocal n) slots.here
+  pub callers : All (λ xs. All (FitsLocal n) xs) slots.below
+  pub operands_each : length ops.below ≡ calls_in bs
+  pub locals_each : length slots.below ≡ calls_in bs
+
+-- the stacks are sound, the texts of globals are there, the literals come first among the texts, each slot's global suits its name, and the
+-- code has few enough instructions for the place of each to be told, and that of a jump's end
 pub record IsSound (s : State) : Type 0 where
-  pub operands : All (Fits (length s.texts)) s.operands
+  pub stacks : AreSound (length s.texts) s.operands s.slots s.blocks
   pub globals : All (FitsGlobal (length s.texts)) s.globals.items
   pub literals : take (length s.table.literals) s.texts ≡ s.table.literals
   pub slots : AllSuit s.table.names s.globals.items
@@ -109,24 +152,69 @@ pub record Moves (l : Line) (p : Place) (old new : State) : Type 0 where
 -- what a step did: a line, and the run goes on; or a line, with which it ended; or memory was refused, and nothing that shows has changed
 abbrev pub Did : Line → State → State → Step → Type 0
 Did l old new Local = Moves l (place_of new) old new × (new.standing ≡ standing.Running)
-Did l old new (Ended o) = Moves l (Ending (outcome_of o)) old new × (new.standing ≡ standing.Idle) × (string_bytes new.printed ≡ string_bytes old.printed)
+Did l old new Ended = Moves l (Ending (outcome_of new.outcome)) old new × (new.standing ≡ standing.Idle) × (string_bytes new.printed ≡ string_bytes old.printed)
 Did l old new Starved = (new ≡ record old { standing = standing.Starved; line = new.line; printed = new.printed }) × (string_bytes new.printed ≡ string_bytes old.printed)
+
+-- no operands, and no callers
+abbrev pub no_operands : OperandsSeen
+no_operands = record { here = []; below = [] }
+
+-- no locals, and no callers
+abbrev pub no_slots : SlotsSeen
+no_slots = record { here = []; below = [] }
+
+-- the run has ended so: nothing is under way
+abbrev pub at_rest : Outcome → State → State
+at_rest o s = record s { standing = standing.Idle; outcome = o; operands = no_operands; slots = no_slots; blocks = [] }
 
 -- an exception leaves the run
 abbrev pub IsRaised : Cause → State → State → Step → Type 0
 IsRaised cause old new Local = ⊥
-IsRaised cause old new (Ended Returned) = ⊥
-IsRaised cause old new (Ended (Raised kind message)) = (kind ≡ kind_of cause) × (message ≡ message_in old.table.names cause) × (new ≡ record old { standing = standing.Idle; blocks = [] })
+IsRaised cause old new Ended = new ≡ at_rest (Raised (kind_of cause) (message_in old.table.names cause)) old
 IsRaised cause old new Starved = new ≡ record old { standing = standing.Starved }
+
+-- the operands of the call that runs become these
+abbrev pub with_operands : List Value → OperandsSeen → OperandsSeen
+with_operands vs ops = record ops { here = vs }
 
 -- a value is put on the operands
 abbrev pub IsPushed : Value → State → State → Step → Type 0
-IsPushed v old new Local = new ≡ record old { pc = old.pc + 1; operands = v ∷ old.operands }
-IsPushed v old new (Ended o) = ⊥
+IsPushed v old new Local = new ≡ record old { pc = old.pc + 1; operands = with_operands (v ∷ old.operands.here) old.operands }
+IsPushed v old new Ended = ⊥
 IsPushed v old new Starved = new ≡ record old { standing = standing.Starved }
 
 -- the line is printed, which gives None in place of a call
 abbrev pub IsPrinted : ℕ → State → State → Step → Type 0
-IsPrinted count old new Local = (new ≡ record old { pc = old.pc + 1; operands = value.None ∷ drop (count + 1) old.operands; printed = new.printed }) × (string_bytes new.printed ≡ string_bytes old.printed ++ string_bytes old.line)
-IsPrinted count old new (Ended o) = ⊥
+IsPrinted count old new Local =
+    (new ≡ record old { pc = old.pc + 1; operands = with_operands (value.None ∷ drop (count + 1) old.operands.here) old.operands; printed = new.printed })
+    × (string_bytes new.printed ≡ string_bytes old.printed ++ string_bytes old.line)
+IsPrinted count old new Ended = ⊥
 IsPrinted count old new Starved = (new ≡ record old { standing = standing.Starved; printed = new.printed }) × (string_bytes new.printed ≡ string_bytes old.printed)
+
+-- back in the caller, behind a call, with the call's value
+abbrev pub back_at : ℕ → Value → State → State
+back_at after v s = record s { pc = after; operands = back_with v s.operands.below; slots = back s.slots.below }
+
+-- the function of a number lies below its arguments, so many
+abbrev pub IsCallee : ℕ → ℕ → List Value → Type 0
+IsCallee number count ops = (name : ℕ) × (drop count ops ≡ value.Function number name ∷ drop (count + 1) ops)
+
+-- the operands as a function begins: it has none, and its caller has those below the callee
+abbrev pub entered_operands : ℕ → OperandsSeen → OperandsSeen
+entered_operands count ops = record { here = []; below = drop (count + 1) ops.here ∷ ops.below }
+
+-- the locals as a function begins: its parameters have the arguments, the topmost operands
+abbrev pub entered_slots : ℕ → ℕ → OperandsSeen → SlotsSeen → SlotsSeen
+entered_slots locals count ops slots = record { here = entered locals (reverse (take count ops.here)); below = slots.here ∷ slots.below }
+
+-- a function begins
+abbrev pub IsEntered : Routine → ℕ → State → State → Step → Type 0
+IsEntered f count old new Local =
+    new ≡ record old {
+      pc = f.at;
+      operands = entered_operands count old.operands;
+      slots = entered_slots f.locals count old.operands old.slots;
+      blocks = block.Frame (old.pc + 1) ∷ old.blocks;
+    }
+IsEntered f count old new Ended = ⊥
+IsEntered f count old new Starved = new ≡ record old { standing = standing.Starved }

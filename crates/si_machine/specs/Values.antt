@@ -15,13 +15,14 @@ use Rattle.si_machine.specs.declared.value.Global.TheVariants.{Unbound, Provided
 abbrev pub built_in_of : BuiltIn → pure.BuiltIn
 built_in_of Print = pure.Print
 
--- a value; a str is the text at its place
+-- a value; a str is the text at its place, and a function's name the text at the name's place
 abbrev pub value_of : List pure.Text → Value → pure.Value
 value_of texts value.None = pure.Nothing
 value_of texts (value.Truth b) = pure.Truth b
 value_of texts (value.Int n) = pure.Int n
 value_of texts (value.Str place) = pure.Str (text_at texts place)
 value_of texts (value.BuiltIn b) = pure.Provided (built_in_of b)
+value_of texts (value.Function number name) = pure.Function (text_at texts name) number
 
 -- the value of a global, where one is bound
 abbrev pub cell_of : List pure.Text → Global → Option pure.Value
@@ -35,13 +36,14 @@ globals_of [] cells y = first_world.globals y
 globals_of (x ∷ names) [] y = first_world.globals y
 globals_of (x ∷ names) (c ∷ cells) y = if same_text x y then c else globals_of names cells y
 
--- a str's place is one of n
+-- a str's place, and that of a function's name, is one of n
 abbrev pub Fits : ℕ → Value → Type 0
 Fits n value.None = Unit {0}
 Fits n (value.Truth b) = Unit {0}
 Fits n (value.Int i) = Unit {0}
 Fits n (value.Str place) = place < n
 Fits n (value.BuiltIn b) = Unit {0}
+Fits n (value.Function number name) = name < n
 
 abbrev pub FitsGlobal : ℕ → Global → Type 0
 FitsGlobal n Unbound = Unit {0}

@@ -1,7 +1,8 @@
 // Why an exception was raised, and what it says.
 ghost use Rattle.std.specs.Prelude.{◌≡◌, ◌++◌, ◌∷◌, [], IfOk, OnOk, length, nat_lt, if◌then◌else◌};
 ghost use Rattle.si_semantics.specs.Text.{max_length};
-ghost use Rattle.si_machine.specs.Causes.{kind_of, message_in, not_defined};
+ghost use Rattle.si_machine.specs.Causes.{kind_of, message_in, not_bound, not_defined};
+ghost use Rattle.si_code.specs.Views.{text_at};
 
 use si_code::CodeTable;
 use si_plain::limits::MAX_STR_LENGTH;
@@ -16,8 +17,14 @@ pub enum Cause {
     TooLong,
     WrongType,
     NotCallable,
+    /// A call with arguments that do not fit what is called (Python Language Reference 3.14, 6.3.4).
+    WrongArguments,
+    /// One call of own functions too many within each other (this project's own).
+    TooDeep,
     /// No value is bound to the global at this slot.
     NotDefined(u32),
+    /// No value is bound to the local whose name is at this slot (Python Language Reference 3.14, 4.2.2).
+    NotBound(u32),
 }
 
 /// Why an operation gives no value.
@@ -48,7 +55,10 @@ impl Cause {
             Cause::TooLong => Kind::OverflowError,
             Cause::WrongType => Kind::TypeError,
             Cause::NotCallable => Kind::TypeError,
+            Cause::WrongArguments => Kind::TypeError,
+            Cause::TooDeep => Kind::RecursionError,
             Cause::NotDefined(_) => Kind::NameError,
+            Cause::NotBound(_) => Kind::UnboundLocalError,
         }
     }
 
@@ -64,11 +74,21 @@ impl Cause {
             Cause::TooLong => ascii(alloc, "too long"),
             Cause::WrongType => ascii(alloc, "wrong type"),
             Cause::NotCallable => ascii(alloc, "not callable"),
-            Cause::NotDefined(slot) => match table.name(slot) {
-                Some(name) => name_is_not_defined(alloc, name),
-                None => name_is_not_defined(alloc, ""),
-            },
+            Cause::WrongArguments => ascii(alloc, "wrong arguments"),
+            Cause::TooDeep => ascii(alloc, "too deep"),
+            Cause::NotDefined(slot) => name_is_not_defined(alloc, name_at(table, slot)),
+            Cause::NotBound(slot) => local_is_not_bound(alloc, name_at(table, slot)),
         }
+    }
+}
+
+/// The name at a slot; the empty one where there is no such slot.
+pub fn name_at(table: &CodeTable, slot: u32) -> &str
+    ensures { result.now ≡ text_at table.now.names slot }
+{
+    match table.name(slot) {
+        Some(name) => name,
+        None => "",
     }
 }
 
@@ -81,11 +101,27 @@ fn name_is_not_defined(alloc: Global, name: &str) -> Result<Text, NoMemory>
     Ok(text)
 }
 
-/// Whether the message about a name that is not bound is longer than a str may be.
+fn local_is_not_bound(alloc: Global, name: &str) -> Result<Text, NoMemory>
+    ensures { IfOk result (λ t. t ≡ not_bound name.now) }
+{
+    let mut text = ascii(alloc, "local ")?;
+    push_ascii(&mut text, name)?;
+    push_ascii(&mut text, " is not bound")?;
+    Ok(text)
+}
+
+/// Whether the message about a name that is bound nowhere is longer than a str may be.
 pub fn is_too_long_about(name: &str) -> bool
     ensures { result ≡ nat_lt max_length (length (not_defined name.now)) }
 {
     name.len() > MAX_STR_LENGTH - 20
+}
+
+/// Whether the message about a local name that is not bound is longer than a str may be.
+pub fn is_too_long_about_local(name: &str) -> bool
+    ensures { result ≡ nat_lt max_length (length (not_bound name.now)) }
+{
+    name.len() > MAX_STR_LENGTH - 19
 }
 
 /// An ASCII text.
@@ -104,4 +140,39 @@ fn push_ascii(text: &mut Text, ascii: &str) -> Result<(), NoMemory>
         text.push(char::from(*byte))?;
     }
     Ok(())
+}
+
+#[cfg(test)]
+mod tests {
+    use super::*;
+    use std::test::Fail;
+
+    #[test]
+    fn causes_say_why(rt: HostRuntime) -> Result<(), Fail> {
+        let mut table = CodeTable::new(rt.alloc());
+        table.put_load("a")?;
+        table.put_load("total")?;
+        let cases = [
+            (Cause::TooLong, "OverflowError", "too long"),
+            (Cause::NotCallable, "TypeError", "not callable"),
+            (Cause::WrongArguments, "TypeError", "wrong arguments"),
+            (Cause::TooDeep, "RecursionError", "too deep"),
+            (
+                Cause::NotDefined(1),
+                "NameError",
+                "name total is not defined",
+            ),
+            (
+                Cause::NotBound(1),
+                "UnboundLocalError",
+                "local total is not bound",
+            ),
+        ];
+        for (cause, kind, message) in cases {
+            assert_eq!(rt; cause.kind().name(), kind);
+            let text = cause.message(rt.alloc(), &table)?;
+            assert_eq!(rt; text.as_str(), message);
+        }
+        Ok(())
+    }
 }

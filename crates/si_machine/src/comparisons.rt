@@ -1,7 +1,7 @@
 // Whether a value counts as true, and comparisons.
 ghost use Rattle.std.specs.Prelude.{◌≡◌, List, not, option_map};
 ghost use Rattle.si_semantics.specs.World.{World};
-ghost use Rattle.si_semantics.specs.Value.{Text as Characters};
+ghost use Rattle.si_semantics.specs.Value.{Text as Characters, Int, Truth};
 ghost use Rattle.si_semantics.specs.Meaning as meaning;
 ghost use Rattle.si_semantics.specs.Operations as operations;
 ghost use Rattle.si_semantics.specs.Text.{same_text};
@@ -32,6 +32,7 @@ pub fn is_true(texts: &Texts, value: Value) -> bool
         Value::Int(n) => n != 0,
         Value::Str(place) => !texts.at(place).is_empty(),
         Value::BuiltIn(_) => true,
+        Value::Function(_, _) => true,
     }
 }
 
@@ -55,19 +56,35 @@ pub fn compare(
     ensures { (names : List Characters) (w : World) → operations.compare (comparison_of operator) (value_of texts.now x) (value_of texts.now y) w ≡ compared names w result }
 {
     match operator {
-        ComparisonOperator::Less => ordered(is_less(texts, x, y)),
-        ComparisonOperator::Greater => ordered(is_less(texts, y, x)),
+        ComparisonOperator::Less => answered(is_less(texts, x, y)),
+        ComparisonOperator::Greater => answered(is_less(texts, y, x)),
         ComparisonOperator::LessEqual => turned(is_less(texts, y, x)),
         ComparisonOperator::GreaterEqual => turned(is_less(texts, x, y)),
-        ComparisonOperator::Equal => Ok(are_equal(texts, x, y)),
-        ComparisonOperator::NotEqual => Ok(!are_equal(texts, x, y)),
+        ComparisonOperator::Equal => answered(are_equal(texts, x, y)),
+        ComparisonOperator::NotEqual => turned(are_equal(texts, x, y)),
         ComparisonOperator::Is => Ok(is_same(x, y)),
         ComparisonOperator::IsNot => Ok(!is_same(x, y)),
     }
 }
 
-// The answer of an order, where there is one.
-fn ordered(answer: Option<bool>) -> Result<bool, Cause>
+/// A comparison of two integers, which no exception leaves (Python Language Reference 3.14, 6.10.1).
+pub fn compare_integers(operator: ComparisonOperator, a: i64, b: i64) -> bool
+    ensures { (w : World) → operations.compare (comparison_of operator) (Int a) (Int b) w ≡ operations.gave (Truth result) w }
+{
+    match operator {
+        ComparisonOperator::Less => a < b,
+        ComparisonOperator::Greater => b < a,
+        ComparisonOperator::LessEqual => a <= b,
+        ComparisonOperator::GreaterEqual => b <= a,
+        ComparisonOperator::Equal => a == b,
+        ComparisonOperator::NotEqual => a != b,
+        ComparisonOperator::Is => false,
+        ComparisonOperator::IsNot => true,
+    }
+}
+
+// The answer of a comparison, where there is one.
+fn answered(answer: Option<bool>) -> Result<bool, Cause>
     ensures { (names : List Characters) (w : World) → operations.truth answer w ≡ compared names w result }
 {
     match answer {
@@ -76,7 +93,7 @@ fn ordered(answer: Option<bool>) -> Result<bool, Cause>
     }
 }
 
-// The other answer of an order, where there is one.
+// The other answer of a comparison, where there is one.
 fn turned(answer: Option<bool>) -> Result<bool, Cause>
     ensures { (names : List Characters) (w : World) → operations.truth (option_map not answer) w ≡ compared names w result }
 {
@@ -109,19 +126,20 @@ fn is_before(texts: &Texts, a: usize, b: usize) -> bool
     a.cmp(b).is_lt()
 }
 
-// `x == y`.
-fn are_equal(texts: &Texts, x: Value, y: Value) -> bool
+// `x == y`. Two functions have no answer.
+fn are_equal(texts: &Texts, x: Value, y: Value) -> Option<bool>
     ensures { result ≡ operations.are_equal (value_of texts.now x) (value_of texts.now y) }
 {
     match (x, y) {
-        (Value::Int(a), Value::Int(b)) => a == b,
-        (Value::Int(a), Value::Truth(b)) => a == int_of_truth(b),
-        (Value::Truth(a), Value::Int(b)) => int_of_truth(a) == b,
-        (Value::Truth(a), Value::Truth(b)) => a == b,
-        (Value::Str(a), Value::Str(b)) => are_same(texts, a, b),
-        (Value::None, Value::None) => true,
-        (Value::BuiltIn(a), Value::BuiltIn(b)) => a == b,
-        _ => false,
+        (Value::Int(a), Value::Int(b)) => Some(a == b),
+        (Value::Int(a), Value::Truth(b)) => Some(a == int_of_truth(b)),
+        (Value::Truth(a), Value::Int(b)) => Some(int_of_truth(a) == b),
+        (Value::Truth(a), Value::Truth(b)) => Some(a == b),
+        (Value::Str(a), Value::Str(b)) => Some(are_same(texts, a, b)),
+        (Value::None, Value::None) => Some(true),
+        (Value::BuiltIn(a), Value::BuiltIn(b)) => Some(a == b),
+        (Value::Function(_, _), Value::Function(_, _)) => None,
+        _ => Some(false),
     }
 }
 
@@ -140,5 +158,43 @@ fn is_same(x: Value, y: Value) -> bool
         (Value::None, Value::None) => true,
         (Value::Truth(a), Value::Truth(b)) => a == b,
         _ => false,
+    }
+}
+
+#[cfg(test)]
+mod tests {
+    use super::*;
+    use crate::value::BuiltIn;
+    use std::test::Fail;
+
+    #[test]
+    fn functions_are_unequal_to_other_kinds(rt: HostRuntime) -> Result<(), Fail> {
+        let texts = Texts::new(rt.alloc());
+        let (f, g) = (Value::Function(0, 0), Value::Function(1, 0));
+        for operator in [ComparisonOperator::Equal, ComparisonOperator::NotEqual] {
+            assert_eq!(rt; compare(&texts, operator, f, f), Err(Cause::WrongType));
+            assert_eq!(rt; compare(&texts, operator, f, g), Err(Cause::WrongType));
+        }
+        for other in [
+            Value::None,
+            Value::Int(0),
+            Value::Truth(true),
+            Value::BuiltIn(BuiltIn::Print),
+        ] {
+            assert_eq!(rt;
+                compare(&texts, ComparisonOperator::Equal, f, other),
+                Ok(false)
+            );
+            assert_eq!(rt;
+                compare(&texts, ComparisonOperator::NotEqual, other, g),
+                Ok(true)
+            );
+            assert_eq!(rt;
+                compare(&texts, ComparisonOperator::Less, f, other),
+                Err(Cause::WrongType)
+            );
+        }
+        assert!(rt; is_true(&texts, f));
+        Ok(())
     }
 }

@@ -5,16 +5,18 @@
 // the machine stands still, with nothing changed. Code that the compiler made never lacks an operand nor an
 // instruction, so there is no answer for that. A machine owns its code, its values and what was printed; two machines
 // share nothing. Values are small and are copied; texts lie in a vector of the machine's own and are named by their
-// places. The bodies of loops that are under way lie on a stack of their own, each with its loop's start and end, where
-// `continue` and `break` find them; an exception leaves them all.
+// places. What was entered and not left, bodies of loops and calls of functions, lies on a stack of its own, each with
+// where it goes on, where `continue`, `break` and `return` find it; an exception leaves all. The operands and the locals
+// of all calls lie in one vector each.
 //
 // In reading order: `value` (values and globals), `cause` (why an exception was raised), `texts` (where the texts
-// lie), `operations` (operators and `str`), `comparisons` (truth and comparisons), `operands` and `blocks` (the two
-// stacks), `first` (what a run knows as it begins), `step` (what a step did), `state` (what each instruction does),
-// `flow` (those of branches and loops), `machine` (loading and stepping).
+// lie), `operations` (operators and `str`), `comparisons` (truth and comparisons), `operands`, `slots` and `blocks` (the
+// three stacks), `first` (what a run knows as it begins), `step` (what a step did), `state` (what each instruction does),
+// `flow` (those of branches and loops), `calls` (those of calls and locals), `machine` (loading and stepping).
 #![tactic(auto)]
 
 mod blocks;
+mod calls;
 mod cause;
 mod comparisons;
 mod first;
@@ -22,6 +24,7 @@ mod flow;
 pub mod machine;
 mod operands;
 mod operations;
+mod slots;
 mod state;
 pub mod step;
 mod texts;

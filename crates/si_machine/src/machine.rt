@@ -6,10 +6,12 @@ ghost use Rattle.si_semantics.specs.Machine.{start};
 ghost use Rattle.si_compile.specs.Correct.{run_at};
 ghost use Rattle.si_code.specs.Views.{table_of};
 ghost use Rattle.si_machine.specs.Machines.{IsEntry, Stands, IsRunning, Steps};
+ghost use Rattle.si_machine.specs.Outcomes.{outcome_of};
+ghost use Rattle.si_semantics.specs.Life as life;
 
 use crate::first::first_known;
 use crate::state::{Standing, State};
-use crate::step::Step;
+use crate::step::{Outcome, Step};
 use si_code::{CodeTable, Entry};
 use std::alloc::{AllocFailed, Global};
 use std::marker::Model;
@@ -86,6 +88,14 @@ impl Machine {
         mem::replace(&mut self.state.printed, String::new(self.state.alloc))
     }
 
+    /// How the last run ended, moved out; `Returned` where none has ended since.
+    pub fn take_outcome(&mut self) -> Outcome
+        ensures taken { outcome_of result ≡ self.old.outcome }
+        ensures rest { self.new ≡ record self.old { outcome = life.Returned } }
+    {
+        self.state.take_outcome()
+    }
+
     /// One instruction. A machine that does not run answers `Starved`.
     pub fn step(&mut self) -> Step
         ensures steps { IsRunning self.old → Steps self.old self.new result }
@@ -101,27 +111,28 @@ impl Machine {
 #[cfg(test)]
 mod tests {
     use super::*;
-    use crate::step::Outcome;
     use si_compile::compile;
     use si_parse::parse;
+    use si_scope::resolve;
     use std::alloc::{AllocError, Global};
     use std::test::Fail;
 
     // What a script prints, and below it how an exception left it.
     fn shown(alloc: Global, script: &str) -> Result<String, Fail> {
-        let module = parse(alloc, script)?;
+        let script = resolve(alloc, parse(alloc, script)?)?;
         let mut table = CodeTable::new(alloc);
-        let entry = compile(&module, &mut table)?;
+        let entry = compile(&script, &mut table)?;
         let mut machine = Machine::new(alloc);
         machine.load(table, entry).map_err(AllocError::from)?;
         let mut left = String::new(alloc);
-        for _ in 0..1000 {
+        for _ in 0..5000 {
             match machine.step() {
                 Step::Local => {}
-                Step::Ended(Outcome::Returned) => break,
-                Step::Ended(Outcome::Raised(kind, message)) => {
-                    let message = message.as_str();
-                    write!(left, "{kind}: {message}")?;
+                Step::Ended => {
+                    if let Outcome::Raised(kind, message) = machine.take_outcome() {
+                        let message = message.as_str();
+                        write!(left, "{kind}: {message}")?;
+                    }
                     break;
                 }
                 Step::Starved => left.push_str("starved")?,
@@ -173,13 +184,60 @@ mod tests {
         }
         Ok(())
     }
+
+    #[test]
+    fn calls_show_what_python_shows(rt: HostRuntime) -> Result<(), Fail> {
+        let cases = [
+            (
+                "def f(n):\n    if n == 1:\n        return 1\n    return n * f(n - 1)\nprint(f(5), f(3) - f(2))",
+                "120 4\n",
+            ),
+            (
+                "def f(a, b):\n    c = a - b\n    return c\nprint(f(7, 2), f(f(9, 3), f(2, 1)))",
+                "5 5\n",
+            ),
+            (
+                "x = 0\ndef f():\n    global x\n    x += 1\nf()\nf()\nprint(x)",
+                "2\n",
+            ),
+            ("def f():\n    pass\nprint(f(), f)", "None <function f>\n"),
+            (
+                "def f(n):\n    while True:\n        if n == 3:\n            return n\n        n += 1\nprint(f(0) + f(1))",
+                "6\n",
+            ),
+            (
+                "x = 1\ndef f():\n    print(x)\n    x = 2\nf()",
+                "UnboundLocalError: local x is not bound",
+            ),
+            (
+                "def f(a):\n    return a\nprint(f(1, 2))",
+                "TypeError: wrong arguments",
+            ),
+            (
+                "def f(a):\n    return a\nprint(f(a=1))",
+                "TypeError: wrong arguments",
+            ),
+            ("x = 1\nx(a=1)", "TypeError: not callable"),
+            (
+                "def f(n):\n    if n == 1:\n        return 1\n    return f(n - 1)\nprint(f(200))",
+                "1\n",
+            ),
+            ("def f():\n    return f()\nf()", "RecursionError: too deep"),
+        ];
+        for (script, want) in cases {
+            let shown = shown(rt.alloc(), script)?;
+            assert_eq!(rt; shown.as_str(), want, "of {script}");
+        }
+        Ok(())
+    }
+
     // For runs in which an allocation is refused: a starved machine stands still, with what it has printed.
     #[test]
     fn starved_machine_stands_still(rt: HostRuntime) -> Result<(), Fail> {
         let alloc = rt.alloc();
-        let module = parse(alloc, "print('a')\nprint('b' + 'c')\n")?;
+        let script = resolve(alloc, parse(alloc, "print('a')\nprint('b' + 'c')\n")?)?;
         let mut table = CodeTable::new(alloc);
-        let entry = compile(&module, &mut table)?;
+        let entry = compile(&script, &mut table)?;
         let mut machine = Machine::new(alloc);
         assert!(rt; !machine.is_running());
         machine.load(table, entry).map_err(AllocError::from)?;
@@ -190,7 +248,8 @@ mod tests {
             }
         }
         if machine.is_running() {
-            assert!(rt; matches!(machine.step(), Step::Ended(Outcome::Returned)));
+            assert_eq!(rt; machine.step(), Step::Ended);
+            assert!(rt; matches!(machine.take_outcome(), Outcome::Returned));
             assert_eq!(rt; machine.printed(), "a\nbc\n");
         }
         assert!(rt; !machine.is_running());

@@ -1,39 +1,53 @@
-// The operand stack, whose top contracts see first.
+// The operands of all calls that are under way, each call's with its topmost first in contracts.
 ghost use Rattle.std.specs.Prelude.{◌≡◌, ◌+◌, ◌<◌, ◌≤◌, List, [], ◌∷◌, ◌++◌, length, drop, take, reverse, OnOk, OnErr, MatchOption};
+ghost use Rattle.si_machine.specs.Stacks.{back_with};
 
 use crate::value::Value;
 use si_plain::NoMemory;
 use std::alloc::Global;
 use std::marker::Model;
 
-/// The operands of all that runs, in one vector.
+/// The operands of the call that runs and those of its callers, in one vector: a call takes no memory once it has
+/// grown. A caller's operands end with its callee, whose place the call's value takes.
 #[derive(Drop)]
 pub struct Operands {
     items: Vec<Value>,
+    /// Where the operands of the call that runs begin.
+    base: usize,
+    /// Where those of its callers begin, the innermost last.
+    bases: Vec<usize>,
 }
 
 impl Model for Operands {
-    ghost use Rattle.std.specs.Prelude.{List, reverse};
-    ghost use Rattle.si_machine.specs.declared.value.Value.{Value as Item};
+    ghost use Rattle.std.specs.Prelude.{◌≤◌, length, reverse};
+    ghost use Rattle.si_machine.specs.Stacks.{OperandsSeen, operands_seen, Ascends};
 
-    ghost Value = { List Item };
+    ghost Value = { OperandsSeen };
 
-    ghost view = { λ s. reverse s.items.items };
+    ghost view = { λ s. operands_seen s.items.items s.base (reverse s.bases.items) };
+
+    ghost invariant = { λ s. (s.base ≤ length s.items.items) × Ascends 1 s.base (reverse s.bases.items) };
 }
 
 impl Operands {
-    /// No operands.
+    /// No operands, and no callers.
     pub fn new(alloc: Global) -> Operands
-        ensures { result ≡ [] }
+        ensures { result ≡ record { here = []; below = [] } }
     {
         Operands {
             items: Vec::new(alloc),
+            base: 0,
+            bases: Vec::new(alloc),
         }
     }
 
     /// One more on top.
+    ///
+    /// # Errors
+    ///
+    /// `NoMemory` where memory was refused; nothing has changed then.
     pub fn push(&mut self, value: Value) -> Result<(), NoMemory>
-        ensures ok { OnOk result (self.new ≡ value ∷ self.old) }
+        ensures ok { OnOk result (self.new ≡ record self.old { here = value ∷ self.old.here }) }
         ensures err { OnErr result (self.new ≡ self.old) }
     {
         self.items.push(value)?;
@@ -42,14 +56,20 @@ impl Operands {
 
     /// The topmost, taken off.
     pub fn pop(&mut self) -> Option<Value>
-        ensures { MatchOption result ((self.old ≡ []) × (self.new ≡ [])) (λ v. self.old ≡ v ∷ self.new) }
+        ensures { MatchOption result ((self.old.here ≡ []) × (self.new ≡ self.old)) (λ v. self.old ≡ record self.new { here = v ∷ self.new.here }) }
     {
-        self.items.pop()
+        if self.items.len() == self.base {
+            return None;
+        }
+        match self.items.pop() {
+            Some(value) => Some(value),
+            None => unreachable!(),
+        }
     }
 
     /// The topmost is taken off, where there is one.
     pub fn discard(&mut self)
-        ensures { self.new ≡ drop 1 self.old }
+        ensures { self.new ≡ record self.old { here = drop 1 self.old.here } }
     {
         match self.pop() {
             Some(_) => {}
@@ -59,10 +79,10 @@ impl Operands {
 
     /// The topmost.
     pub fn top(&self) -> Option<Value>
-        ensures { MatchOption result (self.now ≡ []) (λ v. self.now ≡ v ∷ drop 1 self.now) }
+        ensures { MatchOption result (self.now.here ≡ []) (λ v. self.now.here ≡ v ∷ drop 1 self.now.here) }
     {
         let n = self.items.len();
-        if n == 0 {
+        if n == self.base {
             return None;
         }
         Some(self.items[n - 1])
@@ -70,10 +90,10 @@ impl Operands {
 
     /// The two topmost, the lower one first.
     pub fn top_two(&self) -> Option<(Value, Value)>
-        ensures { MatchOption result (length self.now < 2) (λ p. self.now ≡ p.1 ∷ p.0 ∷ drop 2 self.now) }
+        ensures { MatchOption result (length self.now.here < 2) (λ p. self.now.here ≡ p.1 ∷ p.0 ∷ drop 2 self.now.here) }
     {
         let n = self.items.len();
-        if n < 2 {
+        if n - self.base < 2 {
             return None;
         }
         Some((self.items[n - 2], self.items[n - 1]))
@@ -81,8 +101,8 @@ impl Operands {
 
     /// A value in place of the topmost n and the one below them.
     pub fn replace(&mut self, n: usize, value: Value)
-        requires { n < length self.old }
-        ensures { self.new ≡ value ∷ drop (n + 1) self.old }
+        requires { n < length self.old.here }
+        ensures { self.new ≡ record self.old { here = value ∷ drop (n + 1) self.old.here } }
     {
         let below = self.items.len() - n - 1;
         self.items.truncate(below + 1);
@@ -90,9 +110,13 @@ impl Operands {
     }
 
     /// One more, below the topmost n.
+    ///
+    /// # Errors
+    ///
+    /// `NoMemory` where memory was refused; nothing has changed then.
     pub fn insert(&mut self, n: usize, value: Value) -> Result<(), NoMemory>
-        requires { n ≤ length self.old }
-        ensures ok { OnOk result (self.new ≡ take n self.old ++ value ∷ drop n self.old) }
+        requires { n ≤ length self.old.here }
+        ensures ok { OnOk result (self.new ≡ record self.old { here = take n self.old.here ++ value ∷ drop n self.old.here }) }
         ensures err { OnErr result (self.new ≡ self.old) }
     {
         let place = self.items.len() - n;
@@ -102,19 +126,128 @@ impl Operands {
 
     /// What lies below the topmost n, and these, the lowest first.
     pub fn call(&self, n: usize) -> Option<(Value, &[Value])>
-        ensures { MatchOption result (length self.now ≤ n) (λ p. (drop n self.now ≡ p.0 ∷ drop (n + 1) self.now) × (p.1.now ≡ reverse (take n self.now))) }
+        ensures { MatchOption result (length self.now.here ≤ n) (λ p. (drop n self.now.here ≡ p.0 ∷ drop (n + 1) self.now.here) × (p.1.now ≡ reverse (take n self.now.here))) }
     {
         let len = self.items.len();
-        if n >= len {
+        if n >= len - self.base {
             return None;
         }
         Some((self.items[len - n - 1], &self.items[len - n..]))
     }
 
-    /// All gone.
+    /// A call begins, with no operands: the topmost n, its arguments, and the callee below them go.
+    ///
+    /// # Errors
+    ///
+    /// `NoMemory` where memory was refused; nothing has changed then.
+    pub fn open(&mut self, n: usize) -> Result<(), NoMemory>
+        requires { n < length self.old.here }
+        ensures ok { OnOk result (self.new ≡ record { here = []; below = drop (n + 1) self.old.here ∷ self.old.below }) }
+        ensures err { OnErr result (self.new ≡ self.old) }
+    {
+        self.bases.push(self.base)?;
+        self.base = self.items.len() - n;
+        self.items.truncate(self.base);
+        Ok(())
+    }
+
+    /// The call that runs ends with a value, which its caller has on top.
+    pub fn close(&mut self, value: Value)
+        requires { 0 < length self.old.below }
+        ensures { self.new ≡ back_with value self.old.below }
+    {
+        self.items.truncate(self.base);
+        self.items[self.base - 1] = value;
+        match self.bases.pop() {
+            Some(base) => self.base = base,
+            None => unreachable!(),
+        }
+    }
+
+    /// How many callers there are.
+    pub fn depth(&self) -> usize
+        ensures { result ≡ length self.now.below }
+    {
+        self.bases.len()
+    }
+
+    /// The call that runs has none any more.
     pub fn clear(&mut self)
-        ensures { self.new ≡ [] }
+        ensures { self.new ≡ record self.old { here = [] } }
+    {
+        self.items.truncate(self.base);
+    }
+
+    /// No operands, and no callers.
+    pub fn reset(&mut self)
+        ensures { self.new ≡ record { here = []; below = [] } }
     {
         self.items.clear();
+        self.base = 0;
+        self.bases.clear();
+    }
+}
+
+#[cfg(test)]
+mod tests {
+    use super::*;
+    use std::test::Fail;
+
+    // Two calls within each other, with operands between them; each gives its value to its caller.
+    #[test]
+    fn a_value_takes_the_place_of_the_call(rt: HostRuntime) -> Result<(), Fail> {
+        let mut operands = Operands::new(rt.alloc());
+        operands.push(Value::Int(1))?;
+        operands.push(Value::Str(0))?;
+        operands.push(Value::Int(2))?;
+        operands.push(Value::Int(3))?;
+        assert!(rt;
+            matches!(
+                operands.call(2),
+                Some((Value::Str(0), [Value::Int(2), Value::Int(3)]))
+            )
+        );
+        operands.open(2)?;
+        assert_eq!(rt; operands.depth(), 1);
+        assert_eq!(rt; operands.top(), None);
+        assert_eq!(rt; operands.pop(), None);
+        operands.push(Value::Int(4))?;
+        operands.push(Value::Str(1))?;
+        assert!(rt; operands.call(2).is_none());
+        operands.open(0)?;
+        assert_eq!(rt; operands.depth(), 2);
+        assert_eq!(rt; operands.top_two(), None);
+        operands.push(Value::Int(5))?;
+        operands.push(Value::Int(6))?;
+        assert_eq!(rt; operands.top_two(), Some((Value::Int(5), Value::Int(6))));
+        operands.close(Value::Int(7));
+        assert_eq!(rt; operands.top_two(), Some((Value::Int(4), Value::Int(7))));
+        operands.insert(1, Value::None)?;
+        operands.replace(1, Value::Int(8));
+        operands.close(Value::Int(9));
+        assert_eq!(rt; operands.depth(), 0);
+        assert_eq!(rt; operands.pop(), Some(Value::Int(9)));
+        assert_eq!(rt; operands.pop(), Some(Value::Int(1)));
+        assert_eq!(rt; operands.pop(), None);
+        Ok(())
+    }
+
+    #[test]
+    fn own_operands_alone_are_cleared(rt: HostRuntime) -> Result<(), Fail> {
+        let mut operands = Operands::new(rt.alloc());
+        operands.push(Value::Int(1))?;
+        operands.push(Value::Str(0))?;
+        operands.open(0)?;
+        operands.push(Value::Int(2))?;
+        operands.clear();
+        operands.discard();
+        assert_eq!(rt; operands.top(), None);
+        operands.close(Value::None);
+        operands.discard();
+        assert_eq!(rt; operands.top(), Some(Value::Int(1)));
+        operands.reset();
+        assert_eq!(rt; operands.depth(), 0);
+        assert_eq!(rt; operands.top(), None);
+        Ok(())
     }
 }

@@ -1,5 +1,5 @@
 // Operators, and the `str` of a value.
-ghost use Rattle.std.specs.Prelude.{◌≡◌, ◌++◌, ◌<◌, ◌^◌, ℕ, List, [], ◌∷◌, length, map, All, Some, None, IfOk, IfErr, OnOk, Result, encode_utf8_all, string_bytes};
+ghost use Rattle.std.specs.Prelude.{codes, ◌≡◌, ◌++◌, ◌<◌, ◌^◌, ℕ, List, [], ◌∷◌, length, map, All, Some, None, IfOk, IfErr, OnOk, Result, encode_utf8_all, string_bytes};
 ghost use Rattle.si_semantics.specs.World.{World};
 ghost use Rattle.si_semantics.specs.Value.{Text as Characters, Int, Str};
 ghost use Rattle.si_semantics.specs.Text.{str_of, line_of};
@@ -16,8 +16,8 @@ use crate::comparisons::{int_of_truth, is_true};
 use crate::texts::Texts;
 use crate::value::{BuiltIn, Value};
 use si_plain::{
-    Kind, NoMemory, add, bit_and, bit_or, bit_xor, floordiv, invert, modulo, mul, neg, power, shl,
-    shr, sub,
+    Kind, NoMemory, Text, add, bit_and, bit_or, bit_xor, floordiv, invert, modulo, mul, neg, power,
+    shl, shr, sub,
 };
 use si_syntax::{BinaryOperator, UnaryOperator};
 
@@ -157,7 +157,17 @@ pub fn write_str(line: &mut String, texts: &Texts, value: Value) -> Result<(), N
         Value::Int(n) => write_int(line, n),
         Value::Str(place) => line.push_str(texts.at(place).as_str()),
         Value::BuiltIn(BuiltIn::Print) => line.push_str("<built-in print>"),
+        Value::Function(_, name) => write_function(line, texts.at(name as usize)),
     }
+}
+
+fn write_function(line: &mut String, name: &Text) -> Result<(), NoMemory>
+    ensures { OnOk result (string_bytes line.new ≡ string_bytes line.old ++ encode_utf8_all (codes "<function " ++ name.now ++ codes ">")) }
+{
+    line.push_str("<function ")?;
+    line.push_str(name.as_str())?;
+    line.push('>')?;
+    Ok(())
 }
 
 fn write_int(line: &mut String, n: i64) -> Result<(), NoMemory>
@@ -193,4 +203,49 @@ fn write_others(line: &mut String, texts: &Texts, values: &[Value]) -> Result<()
         write_str(line, texts, *value)?;
     }
     Ok(())
+}
+
+#[cfg(test)]
+mod tests {
+    use super::*;
+    use std::test::Fail;
+
+    #[test]
+    fn values_are_printed_by_their_str(rt: HostRuntime) -> Result<(), Fail> {
+        let mut texts = Texts::new(rt.alloc());
+        texts.add(Text::from_str(rt.alloc(), "it's")?)?;
+        texts.add(Text::from_str(rt.alloc(), "fib")?)?;
+        let values = [
+            Value::Function(7, 1),
+            Value::Str(0),
+            Value::Int(-3),
+            Value::None,
+            Value::Truth(false),
+        ];
+        let mut line = String::new(rt.alloc());
+        write_line(&mut line, &texts, &values)?;
+        assert_eq!(rt; line.as_str(), "<function fib> it's -3 None False\n");
+        Ok(())
+    }
+
+    #[test]
+    fn functions_have_no_operators(rt: HostRuntime) -> Result<(), Fail> {
+        let mut texts = Texts::new(rt.alloc());
+        let f = Value::Function(0, 0);
+        let wrong = Err(Fault::Raises(Cause::WrongType));
+        assert_eq!(rt; binary(&mut texts, BinaryOperator::Add, f, f), wrong);
+        assert_eq!(rt;
+            binary(&mut texts, BinaryOperator::Multiply, Value::Int(2), f),
+            wrong
+        );
+        assert_eq!(rt;
+            unary(&texts, UnaryOperator::Minus, f),
+            Err(Cause::WrongType)
+        );
+        assert_eq!(rt;
+            unary(&texts, UnaryOperator::Not, f),
+            Ok(Value::Truth(false))
+        );
+        Ok(())
+    }
 }

@@ -11,13 +11,13 @@ pub enum Outcome {
     Raised(Kind, Text),
 }
 
-/// What a step did.
-#[derive(Debug, Drop)]
+/// What a step did. How a run ended, the machine keeps until it is asked.
+#[derive(Clone, Copy, Debug, PartialEq, Eq)]
 pub enum Step {
     /// One instruction; the run goes on.
     Local,
     /// One instruction, with which the run has ended.
-    Ended(Outcome),
+    Ended,
     /// Memory was refused. The machine stands still for good.
     Starved,
 }

@@ -107,7 +107,8 @@ impl Texts {
 fn joined(alloc: Global, left: &Text, right: &Text) -> Result<Text, NoMemory>
     ensures { IfOk result (λ t. t ≡ left.now ++ right.now) }
 {
-    let mut joined = Text::new(alloc);
+    let bytes = left.as_str().len().saturating_add(right.as_str().len());
+    let mut joined = Text::with_capacity(alloc, bytes)?;
     joined.append(left)?;
     joined.append(right)?;
     Ok(joined)
@@ -127,7 +128,8 @@ fn effective(length: usize, count: i64) -> usize
 fn repeated(alloc: Global, text: &Text, count: usize) -> Result<Text, NoMemory>
     ensures { IfOk result (λ t. t ≡ times count text.now) }
 {
-    let mut all = Text::new(alloc);
+    let bytes = text.as_str().len().saturating_mul(count);
+    let mut all = Text::with_capacity(alloc, bytes)?;
     for i in 0..count {
         all.append(text)?;
     }

@@ -16,6 +16,9 @@ pub enum Value {
     /// A str, by the place of its text among the machine's texts.
     Str(usize),
     BuiltIn(BuiltIn),
+    /// A function of a script, by its number among those that its interpreter has read, and the place
+    /// of its name among the machine's texts.
+    Function(u32, u32),
 }
 
 /// The state of a global (Python Language Reference 3.14, 4.2.2): its own value, else the built-in of
@@ -26,3 +29,6 @@ pub enum Global {
     Provided(BuiltIn),
     Bound(Value),
 }
+
+// A value is small, since values are copied.
+const _: () = prove!(size_of::<Value>() <= 16);

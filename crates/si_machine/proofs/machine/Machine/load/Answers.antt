@@ -1,5 +1,5 @@
 use Rattle.si_code.specs.Views.{table_of}
-use Rattle.si_machine.proofs.Kept.{begun_kept}
+use Rattle.si_machine.proofs.Loaded.{begun_kept}
 use Rattle.si_machine.proofs.machine.Machine.load.Goals as goal
 
 pub invariant_of-self : goal.invariant_of-self

@@ -1,5 +1,7 @@
+use Rattle.std.proofs.Common.{◌+◌, ap, ◌∙◌}
 use Rattle.si_semantics.specs.Machine as machine
-use Rattle.si_machine.proofs.Lines.{local, discard_did}
+use Rattle.si_machine.specs.declared.state.State.{State}
+use Rattle.si_machine.proofs.Lines.{local, popped, discard_did}
 use Rattle.si_machine.specs.States.{line_of}
 use Rattle.si_machine.proofs.state.State.discard.Goals as goal
 
@@ -7,5 +9,6 @@ pub returns : goal.returns
 returns c =
     let h = c.requires.ready in
     let old = c.args.self.now in
+    let is = popped _ old.operands c.pop.new.self c.in-Some.ensures in
     local (line_of machine.Discard old) old c.advance.new.self c.advance.result c.advance.ensures.step
-    (discard_did _ c.pop.new.self old c.advance.new.self h.sound h.running c.in-Some.ensures c.advance.ensures.state)
+    (discard_did _ c.pop.new.self.here old c.advance.new.self h.sound h.running is.0 (c.advance.ensures.state ∙ ap (λ ops. let s : State = record old { pc = old.pc + 1; operands = ops } in s) is.1))

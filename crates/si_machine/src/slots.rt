@@ -1,0 +1,171 @@
+// The locals of all calls that are under way.
+ghost use Rattle.std.specs.Prelude.{◌≡◌, ◌<◌, ◌≤◌, List, [], ◌∷◌, ◌++◌, length, drop, OnOk, OnErr, slice_set};
+ghost use Rattle.si_machine.specs.Stacks.{slot_in, passed, entered, back};
+
+use crate::value::Value;
+use si_plain::NoMemory;
+use std::alloc::{AllocError, Global};
+use std::marker::Model;
+
+/// The slots of the call that runs and those of its callers, in one vector: a call takes no memory once it has grown.
+/// A slot without a value is one that is unbound.
+#[derive(Drop)]
+pub struct Slots {
+    items: Vec<Option<Value>>,
+    /// Where the slots of the call that runs begin.
+    base: usize,
+    /// Where those of its callers begin, the innermost last.
+    bases: Vec<usize>,
+}
+
+impl Model for Slots {
+    ghost use Rattle.std.specs.Prelude.{◌≤◌, length, reverse};
+    ghost use Rattle.si_machine.specs.Stacks.{SlotsSeen, slots_seen, Ascends};
+
+    ghost Value = { SlotsSeen };
+
+    ghost view = { λ s. slots_seen s.items.items s.base (reverse s.bases.items) };
+
+    ghost invariant = { λ s. (s.base ≤ length s.items.items) × Ascends 0 s.base (reverse s.bases.items) };
+}
+
+impl Slots {
+    /// No slots, and no callers.
+    pub fn new(alloc: Global) -> Slots
+        ensures { result ≡ record { here = []; below = [] } }
+    {
+        Slots {
+            items: Vec::new(alloc),
+            base: 0,
+            bases: Vec::new(alloc),
+        }
+    }
+
+    /// The value of a slot; None where it is unbound, and where there is no such slot.
+    pub fn get(&self, slot: u32) -> Option<Value>
+        ensures { result ≡ slot_in slot self.now.here }
+    {
+        match self.items.get(self.base + slot as usize) {
+            Some(value) => *value,
+            None => None,
+        }
+    }
+
+    /// A slot is bound to a value, where there is such a slot.
+    pub fn set(&mut self, slot: u32, value: Value)
+        ensures { self.new ≡ record self.old { here = slice_set self.old.here slot (Some value) } }
+    {
+        let place = self.base + slot as usize;
+        if place < self.items.len() {
+            self.items[place] = Some(value);
+        }
+    }
+
+    /// A call begins with so many slots, of which the first ones have the arguments; one for each argument where that
+    /// is more.
+    ///
+    /// # Errors
+    ///
+    /// `NoMemory` where memory was refused; nothing has changed then.
+    pub fn open(&mut self, arguments: &[Value], locals: usize) -> Result<(), NoMemory>
+        ensures ok { OnOk result (self.new ≡ record { here = entered locals arguments.now; below = self.old.here ∷ self.old.below }) }
+        ensures err { OnErr result (self.new ≡ self.old) }
+    {
+        let from = self.items.len();
+        let count = locals.max(arguments.len());
+        let Some(end) = from.checked_add(count) else {
+            return Err(AllocError);
+        };
+        self.items.resize(end, None)?;
+        match self.bases.push(self.base) {
+            Ok(()) => {
+                self.base = from;
+                bind(&mut self.items[from..], arguments);
+                Ok(())
+            }
+            Err(_) => {
+                self.items.truncate(from);
+                Err(AllocError)
+            }
+        }
+    }
+
+    /// The call that runs ends, and its caller has its slots again.
+    pub fn close(&mut self)
+        requires { 0 < length self.old.below }
+        ensures { self.new ≡ back self.old.below }
+    {
+        self.items.truncate(self.base);
+        match self.bases.pop() {
+            Some(base) => self.base = base,
+            None => unreachable!(),
+        }
+    }
+
+    /// No slots, and no callers.
+    pub fn reset(&mut self)
+        ensures { self.new ≡ record { here = []; below = [] } }
+    {
+        self.items.clear();
+        self.base = 0;
+        self.bases.clear();
+    }
+}
+
+/// The first slots are bound to these values.
+fn bind(slots: &mut [Option<Value>], values: &[Value])
+    requires { length values.now ≤ length slots.old }
+    ensures { slots.new ≡ passed values.now ++ drop (length values.now) slots.old }
+{
+    for (i, value) in values.iter().enumerate() {
+        slots[i] = Some(*value);
+    }
+}
+
+#[cfg(test)]
+mod tests {
+    use super::*;
+    use std::test::Fail;
+
+    // Two calls within each other, each with its own slots, and the caller's are as they were.
+    #[test]
+    fn each_call_has_its_own_slots(rt: HostRuntime) -> Result<(), Fail> {
+        let mut slots = Slots::new(rt.alloc());
+        assert_eq!(rt; slots.get(0), None);
+        slots.open(&[Value::Int(1), Value::Int(2)], 3)?;
+        assert_eq!(rt; slots.get(0), Some(Value::Int(1)));
+        assert_eq!(rt; slots.get(1), Some(Value::Int(2)));
+        assert_eq!(rt; slots.get(2), None);
+        slots.set(2, Value::Truth(true));
+        slots.set(3, Value::Truth(false));
+        assert_eq!(rt; slots.get(3), None);
+        slots.open(&[Value::Int(7)], 1)?;
+        slots.set(0, Value::Int(8));
+        assert_eq!(rt; slots.get(0), Some(Value::Int(8)));
+        assert_eq!(rt; slots.get(1), None);
+        slots.close();
+        assert_eq!(rt; slots.get(0), Some(Value::Int(1)));
+        assert_eq!(rt; slots.get(2), Some(Value::Truth(true)));
+        slots.close();
+        assert_eq!(rt; slots.get(0), None);
+        Ok(())
+    }
+
+    // For runs in which an allocation is refused: a call that did not begin leaves the caller's slots.
+    #[test]
+    fn refused_call_leaves_the_slots(rt: HostRuntime) -> Result<(), Fail> {
+        let mut slots = Slots::new(rt.alloc());
+        slots.open(&[Value::Int(1)], 2)?;
+        for locals in 0..40 {
+            if slots.open(&[Value::Int(2)], locals).is_ok() {
+                assert_eq!(rt; slots.get(0), Some(Value::Int(2)));
+                slots.close();
+            }
+            assert_eq!(rt; slots.get(0), Some(Value::Int(1)));
+            assert_eq!(rt; slots.get(2), None);
+        }
+        slots.reset();
+        assert_eq!(rt; slots.get(0), None);
+        Ok(())
+    }
+}
