@@ -1,14 +1,14 @@
 -- A machine on the course of interpreter 0, line by line.
-use Rattle.std.proofs.Common.{◌≡◌, ◌∙◌, ◌++◌, ◌+◌, ℕ, Bool, true, false, List, [], ◌∷◌, Option, Some, None, ap, append_assoc, chars, drop, encode_utf8_all, refl, reverse, slice_get, string_bytes, subst, sym, take}
+use Rattle.std.proofs.Common.{◌≡◌, ◌∙◌, ◌++◌, ◌+◌, ℕ, Bool, true, false, List, [], ◌∷◌, Option, Some, None, ap, append_assoc, chars, drop, encode_utf8_all, refl, reverse, slice_get, length, nat_eq, nat_lt, string_bytes, subst, sym, take}
 use Rattle.std.proofs.lemmas.Str.{chars-nil, chars_from_encodes, encodes-append, IsUtf8-string_bytes}
-use Rattle.si_semantics.specs.Value.{Text, Value}
+use Rattle.si_semantics.specs.Value.{Text, Value, Function}
 use Rattle.si_semantics.specs.Tree.{Module}
 use Rattle.si_semantics.specs.World.{Answer, Asked, Gave, Ran, Threw, World, first_world}
-use Rattle.si_semantics.specs.Meaning.{choose, decides}
-use Rattle.si_semantics.specs.Operations.{call, compare, is_true, load_global, operate, operate_unary}
+use Rattle.si_semantics.specs.Meaning.{choose, decides, entered, max_calls, slot_at}
+use Rattle.si_semantics.specs.Operations.{call_by_name, call_provided, compare, is_true, load_global, load_local, not_callable, operate, operate_unary, too_deep, wrong_arguments}
 use Rattle.si_semantics.specs.Life as life
 use Rattle.si_semantics.specs.Life.{not_read}
-use Rattle.si_semantics.specs.Machine.{At, Block, Calling, Closed, Course, Ending, Instr, LoadGlobal, ApplyUnary, ApplyBinary, ApplyComparison, EndChain, JumpOrDiscard, JumpIfFalse, CallTop, Line, Place, Stamped, Table, Taking, act, fetched, goes, next, on, on_callee, stamped, start, stuck, yields}
+use Rattle.si_semantics.specs.Machine.{At, Block, Calling, Closed, Course, Ending, Entry, Frame, Instr, LoadGlobal, LoadLocal, ApplyUnary, ApplyBinary, ApplyComparison, EndChain, JumpOrDiscard, JumpIfFalse, CallTop, CallByName, Line, Place, Stamped, Table, Taking, act, calls, depth, enters, fetched, goes, next, on, on_callee, stamped, start, stuck, yields}
 use Rattle.si_semantics.specs.Shows.{joined, standing_of, texts}
 use Rattle.si_compile.specs.Code.{compiled}
 use Rattle.si_compile.specs.Correct.{run_at}
@@ -54,10 +54,30 @@ yields_quietly (Gave v out w) next ops slots bs = λ o e. absurd cc
 yields_quietly (Threw k a w) next ops slots bs = λ o e. refl
 yields_quietly (Asked r w) next ops slots bs = λ o e. refl
 
-calls_quietly : (below : List Value) (args : List Value) (next : ℕ) (slots : List (Option Value)) (bs : List Block) (w : World) → IsQuiet (on_callee below (λ f rest. yields (call f args w) next rest slots bs) (stuck w))
+-- one of two lines
+choose_quietly : (t : Bool) (l m : Line) → IsQuiet l → IsQuiet m → IsQuiet (choose t l m)
 unfolding IsQuiet
-calls_quietly [] args next slots bs w = λ o e. refl
-calls_quietly (f ∷ rest) args next slots bs w = λ o e. yields_quietly (call f args w) next rest slots bs o e
+choose_quietly true l m h k = h
+choose_quietly false l m h k = k
+
+enters_quietly : (e : Option Entry) (room : Bool) (args : List Value) (next : ℕ) (ops : List Value) (slots : List (Option Value)) (bs : List Block) (w : World) → IsQuiet (enters e room args next ops slots bs w)
+unfolding IsQuiet
+enters_quietly None room args next ops slots bs w = yields_quietly (not_callable w) next ops slots bs
+enters_quietly (Some f) room args next ops slots bs w =
+    choose_quietly (nat_eq (length args) f.parameters) _ _
+    (choose_quietly room (goes (At f.at [] (entered f.locals args) (Frame next ops slots ∷ bs)) w) _ (λ o e. refl) (yields_quietly (too_deep w) next ops slots bs))
+    (yields_quietly (wrong_arguments w) next ops slots bs)
+
+calls_quietly : (es : List Entry) (f : Value) (args : List Value) (next : ℕ) (ops : List Value) (slots : List (Option Value)) (bs : List Block) (w : World) → IsQuiet (calls es f args next ops slots bs w)
+unfolding IsQuiet
+calls_quietly es (Function x k) args next ops slots bs w = enters_quietly (slice_get es k) (nat_lt (depth bs) max_calls) args next ops slots bs w
+calls_quietly es f args next ops slots bs w = yields_quietly (call_provided f args w) next ops slots bs
+
+-- what is done with a callee, or nothing more
+callee_quietly : (below : List Value) (go : Value → List Value → Line) (w : World) → ((f : Value) (rest : List Value) → IsQuiet (go f rest)) → IsQuiet (on_callee below go (stuck w))
+unfolding IsQuiet
+callee_quietly [] go w h = λ o e. refl
+callee_quietly (f ∷ rest) go w h = h f rest
 
 -- one of two places to go to, with nothing printed
 goes_quietly : (t : Bool) (p q : Place) (w : World) → IsQuiet (choose t (goes p w) (goes q w))
@@ -65,24 +85,26 @@ unfolding IsQuiet
 goes_quietly true p q w = λ o e. refl
 goes_quietly false p q w = λ o e. refl
 
-acts_quietly : (i : Instr) (next : ℕ) (ops : List Value) (slots : List (Option Value)) (bs : List Block) (w : World) → IsQuiet (act i next ops slots bs w)
+acts_quietly : (es : List Entry) (i : Instr) (next : ℕ) (ops : List Value) (slots : List (Option Value)) (bs : List Block) (w : World) → IsQuiet (act es i next ops slots bs w)
 unfolding IsQuiet
-acts_quietly (LoadGlobal x) next ops slots bs w = λ o e. yields_quietly (load_global x w) next ops slots bs o e
-acts_quietly (ApplyUnary op) next (v ∷ ops) slots bs w = λ o e. yields_quietly (operate_unary op v w) next ops slots bs o e
-acts_quietly (ApplyBinary op) next (v ∷ u ∷ ops) slots bs w = λ o e. yields_quietly (operate op u v w) next ops slots bs o e
-acts_quietly (ApplyComparison op) next (v ∷ u ∷ ops) slots bs w = λ o e. yields_quietly (compare op u v w) next ops slots bs o e
-acts_quietly (EndChain n) next (t ∷ v ∷ ops) slots bs w = goes_quietly (is_true t) _ _ w
-acts_quietly (JumpOrDiscard op n) next (v ∷ ops) slots bs w = goes_quietly (decides op v) _ _ w
-acts_quietly (JumpIfFalse n) next (v ∷ ops) slots bs w = goes_quietly (is_true v) _ _ w
-acts_quietly (CallTop n) next ops slots bs w = λ o e. calls_quietly (drop n ops) (reverse (take n ops)) next slots bs w o e
-acts_quietly _ next [] slots bs w = λ o e. refl
-acts_quietly _ next (v ∷ []) slots bs w = λ o e. refl
-acts_quietly _ next (v ∷ u ∷ ops) slots bs w = λ o e. refl
+acts_quietly es (LoadGlobal x) next ops slots bs w = λ o e. yields_quietly (load_global x w) next ops slots bs o e
+acts_quietly es (ApplyUnary op) next (v ∷ ops) slots bs w = λ o e. yields_quietly (operate_unary op v w) next ops slots bs o e
+acts_quietly es (ApplyBinary op) next (v ∷ u ∷ ops) slots bs w = λ o e. yields_quietly (operate op u v w) next ops slots bs o e
+acts_quietly es (ApplyComparison op) next (v ∷ u ∷ ops) slots bs w = λ o e. yields_quietly (compare op u v w) next ops slots bs o e
+acts_quietly es (EndChain n) next (t ∷ v ∷ ops) slots bs w = goes_quietly (is_true t) _ _ w
+acts_quietly es (JumpOrDiscard op n) next (v ∷ ops) slots bs w = goes_quietly (decides op v) _ _ w
+acts_quietly es (JumpIfFalse n) next (v ∷ ops) slots bs w = goes_quietly (is_true v) _ _ w
+acts_quietly es (CallTop n) next ops slots bs w = callee_quietly (drop n ops) _ w (λ f rest. calls_quietly es f (reverse (take n ops)) next rest slots bs w)
+acts_quietly es (CallByName n) next ops slots bs w = callee_quietly (drop n ops) _ w (λ f rest. yields_quietly (call_by_name f w) next rest slots bs)
+acts_quietly es (LoadLocal x k) next ops slots bs w = λ o e. yields_quietly (load_local x (slot_at k slots) w) next ops slots bs o e
+acts_quietly es _ next [] slots bs w = λ o e. refl
+acts_quietly es _ next (v ∷ []) slots bs w = λ o e. refl
+acts_quietly es _ next (v ∷ u ∷ ops) slots bs w = λ o e. refl
 
-fetched_quietly : (i : Option Instr) (pc : ℕ) (ops : List Value) (slots : List (Option Value)) (bs : List Block) (w : World) (o : life.Outcome) → (fetched i pc ops slots bs w).place ≡ Ending o → (fetched i pc ops slots bs w).out ≡ None
+fetched_quietly : (es : List Entry) (i : Option Instr) (pc : ℕ) (ops : List Value) (slots : List (Option Value)) (bs : List Block) (w : World) (o : life.Outcome) → (fetched es i pc ops slots bs w).place ≡ Ending o → (fetched es i pc ops slots bs w).out ≡ None
 unfolding IsQuiet
-fetched_quietly None pc ops slots bs w o e = refl
-fetched_quietly (Some i) pc ops slots bs w o e = acts_quietly i (pc + 1) ops slots bs w o e
+fetched_quietly es None pc ops slots bs w o e = refl
+fetched_quietly es (Some i) pc ops slots bs w o e = acts_quietly es i (pc + 1) ops slots bs w o e
 
 same_line : (p : Place) (answers : List Answer) (c : Course) → IsAt p → SameLine c (on compiled p answers c) (on compiled p answers (from_here c))
 same_line (At pc ops slots bs) answers c h =
@@ -91,7 +113,7 @@ same_line (At pc ops slots bs) answers c h =
       there = refl;
       lines = refl;
       printed = stamped_behind _ _ _ c.printed;
-      ends = λ o e. ap (λ out. texts (stamped out (c.lines + 1) c.printed)) (fetched_quietly i pc ops slots bs c.world o e);
+      ends = λ o e. ap (λ out. texts (stamped out (c.lines + 1) c.printed)) (fetched_quietly c.table.entries i pc ops slots bs c.world o e);
     }
 same_line (Calling r pc ops slots bs) answers c h = absurd h
 same_line Taking answers c h = absurd h
@@ -139,16 +161,20 @@ goes_on answers k s t u did =
     }
 
 -- one line more, with which the run has ended
-pub has_ended : (answers : List Answer) (k : ℕ) (o : Outcome) (s t : Seen) → IsUnderWay answers k s → Steps s t (step.Ended o) → HasRun answers (k + 1) (AtEnd o) t
-has_ended answers k o s t u did =
+pub has_ended : (answers : List Answer) (k : ℕ) (o : Outcome) (s t : Seen) → IsUnderWay answers k s → Steps s t step.Ended → outcome_of o ≡ t.outcome → HasRun answers (k + 1) (AtEnd o) t
+has_ended answers k o s t u did is =
     let l = next_line answers k s u in
     record {
       moment = next compiled u.moment;
       after = line_keeps answers u.moment u.after;
       lines = l.lines ∙ ap (λ n. n + 1) u.lines;
       printed = did.1.printed ∙ u.printed ∙ ap (λ ts. encode_utf8_all (joined ts)) (sym (l.ends _ did.0));
-      stands = ap (λ (c : Course). c.place) l.there ∙ did.0;
+      stands = ap (λ (c : Course). c.place) l.there ∙ did.0 ∙ ap Ending (sym is);
     }
+
+-- the outcome is asked for of a machine that has run
+pub outcome_asked : (answers : List Answer) (k : ℕ) (standing : Standing) (s : Seen) → HasRun answers k standing s → HasRun answers k standing (record s { outcome = life.Returned })
+outcome_asked answers k standing s h = record { moment = h.moment; after = h.after; lines = h.lines; printed = h.printed; stands = h.stands }
 
 -- no line more, and memory was refused
 pub has_starved : (answers : List Answer) (k : ℕ) (s t : Seen) → IsUnderWay answers k s → Steps s t step.Starved → HasRun answers k Starved t
@@ -172,7 +198,7 @@ has_paused answers k s u = record {
 
 -- the table of a new interpreter
 abbrev no_lines : Table
-no_lines = record { lines = [] }
+no_lines = record { lines = []; entries = [] }
 
 -- a text to run, as its run begins
 pub begins : (m : Module) (s : Seen) → machine.Stands s (run_at (compiled no_lines m) first_world) [] → IsUnderWay (one_run (Some m)) 0 s

@@ -13,7 +13,7 @@ use Rattle.si_cli.specs.declared.interpreter.Standing.TheVariants.{Ready, AtEnd,
 use Rattle.si_cli.specs.declared.interpreter.Solo.{Solo}
 use Rattle.si_cli.specs.Views.{printed_by}
 
--- a text is read as a tree, in which `break` and `continue` stand in loops alone
+-- a text is read as a tree that is well scoped
 abbrev pub IsTaken : List ℕ → Stmts → Type 0
 IsTaken text body = IsRead text body × (is_scoped body ≡ true)
 

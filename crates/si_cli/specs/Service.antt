@@ -1,12 +1,12 @@
 -- What it means to carry out a command (this project's own).
-use Rattle.std.specs.Prelude.{◌≡◌, ℕ, List, [], ◌∷◌, IsUtf8, Option, Some, bytes_eq, drop, if◌then◌else◌, take}
+use Rattle.std.specs.Prelude.{◌≡◌, ℕ, List, [], ◌∷◌, IsUtf8, Option, Some, bytes_eq, codes, drop, if◌then◌else◌, take}
 use Rattle.std.specs.Io.KnownBytes.{Appends, Keeps}
 use Rattle.si_semantics.specs.Report.{status}
 use Rattle.si_semantics.specs.Tree.{Stmts}
 use Rattle.si_cli.specs.declared.fault.CliFault.{CliFault}
 use Rattle.si_cli.specs.declared.fault.CliFault.TheVariants.{Write, Script, NoMemory, Input}
 use Rattle.si_cli.specs.declared.asked.Request.{Request}
-use Rattle.si_cli.specs.declared.asked.Request.TheVariants.{Serial}
+use Rattle.si_cli.specs.declared.asked.Request.TheVariants.{Serial, Check}
 use Rattle.si_cli.specs.declared.interpreter.Solo.{Solo}
 use Rattle.si_cli.specs.Runs.{IsTaken, ShowsLife, one_run}
 use Rattle.si_cli.specs.Views.{HasUsed, report_of, standing_of}
@@ -19,8 +19,7 @@ mark = 239 ∷ 187 ∷ 191 ∷ []
 abbrev pub without_mark : List ℕ → List ℕ
 without_mark bytes = if bytes_eq (take 3 bytes) mark then drop 3 bytes else bytes
 
--- the bytes of a script are read as a tree: they are UTF-8, the tokens of their text derive it, and `break` and
--- `continue` stand in loops alone
+-- the bytes of a script are read as a tree: they are UTF-8, the tokens of their text derive it, and it is well scoped
 abbrev pub IsScript : List ℕ → Stmts → Type 0
 IsScript bytes body = IsUtf8 (without_mark bytes) × IsTaken (without_mark bytes) body
 
@@ -28,10 +27,6 @@ IsScript bytes body = IsUtf8 (without_mark bytes) × IsTaken (without_mark bytes
 abbrev pub IsRefusal : CliFault → Type 0
 IsRefusal (Script line) = Unit {0}
 IsRefusal _ = ⊥
-
--- how many local turns a request allows
-abbrev pub turns_of : Request → ℕ
-turns_of (Serial path limits) = limits.turns
 
 -- the run of a script that is read, of so many turns at most, is reported: the writer grew by its report, and the
 -- status is the run's
@@ -43,6 +38,18 @@ pub record Reports (turns : ℕ) (script : List ℕ) (old new : Option (List ℕ
   pub used : HasUsed turns run
   pub report : Appends old new (report_of run)
   pub status_is : answer ≡ status (standing_of run.standing)
+
+-- a script is told to be well formed: it is read, the writer grew by the line `ok` and by nothing else, and the status is 0
+pub record SaysOk (script : List ℕ) (old new : Option (List ℕ)) (answer : ℕ) : Type 0 where
+  pub body : Stmts
+  pub read : IsScript script body
+  pub told : Appends old new (codes "ok\n")
+  pub status_is : answer ≡ 0
+
+-- a request is carried out: `serial` reports the run of the script, `check` tells that it is well formed, and runs nothing of it
+abbrev pub Answers : Request → List ℕ → Option (List ℕ) → Option (List ℕ) → ℕ → Type 0
+Answers (Serial path limits) script old new answer = Reports limits.turns script old new answer
+Answers (Check path) script old new answer = SaysOk script old new answer
 
 -- a fault of reading the script
 abbrev pub IsOfScript : CliFault → Type 0

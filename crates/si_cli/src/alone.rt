@@ -2,57 +2,55 @@
 
 ghost use Rattle.std.specs.Prelude.{◌≡◌, ◌≤◌, ℕ, List, None, Some, true, IfErr, IfOk};
 ghost use Rattle.si_semantics.specs.World.{Answer};
-ghost use Rattle.si_semantics.specs.Scope.{is_scoped};
 ghost use Rattle.si_semantics.specs.Tree.{Stmts};
 ghost use Rattle.si_parse.specs.Gives.{IsSyntax};
-ghost use Rattle.si_syntax.specs.Modules.{tree_of};
+ghost use Rattle.si_scope.specs.Scripts.{script_of};
 ghost use Rattle.si_cli.specs.Courses.{HasRun, IsUnderWay};
 ghost use Rattle.si_cli.specs.Runs.{IsRunOf, IsTaken, ShowsLife, one_run};
 ghost use Rattle.si_cli.specs.Views.{AreUsed, HasUsed};
 
 use crate::interpreter::{Outcome, Solo, Standing};
 use si_code::CodeTable;
-use si_compile::{CompileFault, compile};
+use si_compile::compile;
 use si_machine::{Machine, Step};
 use si_parse::{ParseFault, parse};
 use si_plain::{Kind, NoMemory, Text};
-use si_scope::is_scoped;
-use si_syntax::Module;
+use si_scope::{ScopeFault, Scoped, resolve};
 use std::alloc::{AllocError, Global};
 
 /// Runs a script in interpreter 0, until its run has ended, it is refused memory, or `turns` local turns are used.
 ///
-/// A text that isn't read, or in which `break` or `continue` stands in no loop, is a run left by SyntaxError
-/// `invalid syntax`. `NoMemory` where memory is refused before the
-/// first turn.
+/// A text that isn't read, or isn't well scoped, is a run left by SyntaxError `invalid syntax`. `NoMemory` where memory
+/// is refused before the first turn.
 pub fn solo(alloc: Global, script: &str, turns: u64) -> Result<Solo, NoMemory>
     requires { turns ≤ 1099511627776 }
     ensures used { IfOk result (HasUsed turns) }
     ensures shows { IfOk result (IsRunOf script.now) }
 {
     match read(alloc, script) {
-        Ok(module) => run_module(alloc, &module, turns),
+        Ok(tree) => run_script(alloc, &tree, turns),
         Err(ParseFault::Syntax(_)) => unread(alloc),
         Err(ParseFault::NoMemory) => Err(AllocError),
     }
 }
 
-/// The module as which a text is read, in which `break` and `continue` stand in loops alone.
+/// The script as which a text is read, with its names resolved.
 ///
-/// `Syntax` where there is none, with the line where reading stopped, and line 1 where `break` or `continue` stands in no
-/// loop; `NoMemory`.
-pub(crate) fn read(alloc: Global, text: &str) -> Result<Module, ParseFault>
-    ensures taken { IfOk result (λ m. IsTaken text.now (tree_of m)) }
+/// `Syntax` where there is none, with the line where reading stopped, or of the statement that breaks a rule of scope;
+/// `NoMemory`.
+pub(crate) fn read(alloc: Global, text: &str) -> Result<Scoped, ParseFault>
+    ensures taken { IfOk result (λ s. IsTaken text.now (script_of s)) }
     ensures refused { IfErr result (λ e. IsSyntax e → (body : Stmts) → IsTaken text.now body → ⊥) }
 {
     match parse(alloc, text) {
-        Ok(module) => {
-            if is_scoped(&module) {
-                Ok(module)
-            } else {
-                Err(ParseFault::Syntax(1))
+        Ok(tree) => match resolve(alloc, tree) {
+            Ok(script) => {
+                script.facts();
+                Ok(script)
             }
-        }
+            Err(ScopeFault::Scope(line)) => Err(ParseFault::Syntax(line)),
+            Err(ScopeFault::NoMemory) => Err(ParseFault::NoMemory),
+        },
         Err(fault) => Err(fault),
     }
 }
@@ -72,19 +70,14 @@ fn unread(alloc: Global) -> Result<Solo, NoMemory>
     })
 }
 
-/// Runs a module in interpreter 0, as `solo` runs the script that is read as it.
-pub(crate) fn run_module(alloc: Global, tree: &Module, turns: u64) -> Result<Solo, NoMemory>
-    requires few { turns ≤ 1099511627776 }
-    requires scoped { is_scoped (tree_of tree.now) ≡ true }
+/// Runs a script in interpreter 0, as `solo` runs the text that is read as it.
+pub(crate) fn run_script(alloc: Global, tree: &Scoped, turns: u64) -> Result<Solo, NoMemory>
+    requires { turns ≤ 1099511627776 }
     ensures used { IfOk result (HasUsed turns) }
-    ensures shows { IfOk result (ShowsLife (one_run (Some (record { body = tree_of tree.now })))) }
+    ensures shows { IfOk result (ShowsLife (one_run (Some (record { body = script_of tree.now })))) }
 {
     let mut table = CodeTable::new(alloc);
-    let entry = match compile(tree, &mut table) {
-        Ok(entry) => entry,
-        Err(CompileFault::NoMemory) => return Err(AllocError),
-        Err(CompileFault::Scope) => unreachable!(),
-    };
+    let entry = compile(tree, &mut table)?;
     let mut machine = Machine::new(alloc);
     machine.load(table, entry)?;
     let (locals, standing) = run(&mut machine, turns);
@@ -106,7 +99,7 @@ fn run(machine: &mut Machine, turns: u64) -> (u64, Standing)
     for turn in 0..turns {
         match machine.step() {
             Step::Local => {}
-            Step::Ended(outcome) => return (turn + 1, Standing::AtEnd(outcome)),
+            Step::Ended => return (turn + 1, Standing::AtEnd(machine.take_outcome())),
             Step::Starved => return (turn, Standing::Starved),
         }
     }

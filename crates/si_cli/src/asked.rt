@@ -1,7 +1,6 @@
 // What a command line asks for.
 
-ghost use Rattle.std.specs.Prelude.{◌≡◌, ◌≤◌, option_map};
-ghost use Rattle.si_cli.specs.Service.{turns_of};
+ghost use Rattle.std.specs.Prelude.{◌≡◌, option_map};
 ghost use Rattle.si_cli.specs.Words.{path_of};
 
 use si_plain::Limits;
@@ -14,6 +13,10 @@ pub enum Request<'a> {
         script: Option<&'a str>,
         limits: Limits,
     },
+    /// Say whether the script is read and well scoped, and run nothing of it.
+    Check {
+        script: Option<&'a str>,
+    },
 }
 
 impl<'a> Request<'a> {
@@ -22,17 +25,7 @@ impl<'a> Request<'a> {
         ensures { option_map (λ path. path.now) result ≡ path_of self.now }
     {
         match self {
-            Request::Serial { script, .. } => *script,
-        }
-    }
-
-    /// How many local turns an interpreter has at most.
-    pub(crate) fn turns(&self) -> u64
-        ensures value { result ≡ turns_of self.now }
-        ensures most { result ≤ 1099511627776 }
-    {
-        match self {
-            Request::Serial { limits, .. } => limits.turns(),
+            Request::Serial { script, .. } | Request::Check { script } => *script,
         }
     }
 }

@@ -10,7 +10,7 @@ use thiserror::Error;
 #[derive(Debug, Drop, Error)]
 pub enum CliFault {
     /// A write failed.
-    #[error("the report can't be written")]
+    #[error("the output can't be written")]
     Write,
     /// The script isn't UTF-8, or the grammar has no tree for it; the line where reading stopped, counted from 1.
     #[error("line {0}: invalid syntax")]

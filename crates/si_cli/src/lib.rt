@@ -1,8 +1,8 @@
 // The command line of `subpy`: from words and bytes to a report and a status.
 //
-// Its one contract is that of `serve`: the run that is reported is that of the script, which shows what its tree means;
-// what is appended to the writer is its report, and the answer is its status. A script that the grammar doesn't read is
-// refused, and no other.
+// Its one contract is that of `serve`. For `serial` the run that is reported is that of the script, which shows what its
+// tree means; what is appended to the writer is its report, and the answer is its status. For `check` it is the line `ok`,
+// where the script is read and well scoped. A script that is not is refused, and no other.
 //
 // In reading order: `asked` (what a command line asks for), `words` (how it is read), `input` (reading a script),
 // `interpreter` and `alone` (running a script in interpreter 0), `report` (its text), `serving` (all of these in a

@@ -72,7 +72,7 @@ fn end_text(standing: &Standing) -> &'static str
 }
 
 /// Appends a text.
-fn write_text<W: Write>(out: &mut W, text: &str) -> Result<(), CliFault>
+pub(crate) fn write_text<W: Write>(out: &mut W, text: &str) -> Result<(), CliFault>
     ensures text { OnOk result (Appends (W.contents out.old) (W.contents out.new) text.now) }
     ensures fault { IsOkUnless result CliFault.Write }
 {

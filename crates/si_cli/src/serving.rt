@@ -1,34 +1,37 @@
 // Carrying out a command.
 
-ghost use Rattle.std.specs.Prelude.{◌≡◌, IfErr, IfOk, IsOkUnless, IsUtf8, OnOk};
+ghost use Rattle.std.specs.Prelude.{◌≡◌, ◌≤◌, IfErr, IfOk, IsOkUnless, IsUtf8, OnOk};
 ghost use Rattle.std.specs.Io.KnownBytes.{Keeps};
 ghost use Rattle.si_semantics.specs.Report.{status};
 ghost use Rattle.si_semantics.specs.Tree.{Stmts};
-ghost use Rattle.si_syntax.specs.Modules.{tree_of};
-ghost use Rattle.si_cli.specs.Service.{IsOfScript, IsRefusal, IsScript, LeavesAlone, Reports, turns_of, without_mark};
+ghost use Rattle.si_scope.specs.Scripts.{script_of};
+ghost use Rattle.si_cli.specs.Service.{Answers, IsOfScript, IsRefusal, IsScript, LeavesAlone, Reports, SaysOk, without_mark};
 ghost use Rattle.si_cli.specs.Views.{standing_of};
 
-use crate::alone::{read, run_module};
+use crate::alone::{read, run_script};
 use crate::asked::Request;
 use crate::fault::CliFault;
 use crate::interpreter::{Outcome, Solo, Standing};
-use crate::report::write_report;
+use crate::report::{write_report, write_text};
 use si_parse::ParseFault;
-use si_syntax::Module;
+use si_scope::Scoped;
 use std::alloc::Global;
 use std::io::Write;
 
 /// A byte order mark in UTF-8.
 const MARK: [u8; 3] = [0xef, 0xbb, 0xbf];
 
-/// Carries out a request: runs the script, appends its report to `out`, and answers the program's status, which is 5
-/// where memory was refused in the run, 4 where its turns were used up, 1 where an exception left it, else 0.
+/// Carries out a request, and answers the program's status.
+///
+/// `Serial` runs the script and appends its report to `out`; the status is 5 where memory was refused in the run, 4 where
+/// its turns were used up, 1 where an exception left it, else 0. `Check` appends the line `ok` where the script is read and
+/// well scoped, and runs nothing of it; the status is 0.
 ///
 /// `script` is the script's bytes, of which one byte order mark at their front is dropped. No command of this stage
 /// reads `schedule` or writes to `saved`.
 ///
-/// Faults: `Script` where the script isn't UTF-8, isn't read, or has a `break` or `continue` in no loop, `NoMemory` where memory was refused before the run,
-/// and then nothing was written; `Write` where a write or the last flush failed.
+/// Faults: `Script` where the script isn't UTF-8, isn't read, or is not well scoped, `NoMemory` where
+/// memory was refused before the run, and then nothing was written; `Write` where a write or the last flush failed.
 pub fn serve<A: Write, B: Write>(
     alloc: Global,
     request: &Request,
@@ -37,24 +40,49 @@ pub fn serve<A: Write, B: Write>(
     _saved: &mut A,
     out: &mut B,
 ) -> Result<u8, CliFault>
-    ensures reports { IfOk result
-        (Reports (turns_of request.now) script.now (B.contents out.old) (B.contents out.new)) }
+    ensures answers { IfOk result
+        (Answers request.now script.now (B.contents out.old) (B.contents out.new)) }
     // Only a script that is not read is refused as a script.
     ensures refused { IfErr result (λ fault. IsRefusal fault → (body : Stmts) → IsScript script.now body → ⊥) }
     // After every other fault than that of a write the writer is as before.
     ensures alone { IfErr result (LeavesAlone (B.contents out.old) (B.contents out.new)) }
     ensures saved { Keeps (A.contents _saved.old) (A.contents _saved.new) }
 {
-    let module = read_module(alloc, script)?;
-    let solo = run_module(alloc, &module, request.turns())?;
+    match request {
+        Request::Serial { limits, .. } => serial(alloc, script, limits.turns(), out),
+        Request::Check { .. } => check(alloc, script, out),
+    }
+}
+
+/// Runs a script, and reports its run of at most so many turns.
+fn serial<W: Write>(alloc: Global, script: &[u8], turns: u64, out: &mut W) -> Result<u8, CliFault>
+    requires { turns ≤ 1099511627776 }
+    ensures reports { IfOk result (Reports turns script.now (W.contents out.old) (W.contents out.new)) }
+    ensures refused { IfErr result (λ fault. IsRefusal fault → (body : Stmts) → IsScript script.now body → ⊥) }
+    ensures alone { IfErr result (LeavesAlone (W.contents out.old) (W.contents out.new)) }
+{
+    let module = read_script(alloc, script)?;
+    let solo = run_script(alloc, &module, turns)?;
     write_report(out, &solo)?;
     flush(out)?;
     Ok(status_of(&solo))
 }
 
-/// The module as which a script's bytes are read.
-fn read_module(alloc: Global, script: &[u8]) -> Result<Module, CliFault>
-    ensures read { IfOk result (λ m. IsScript script.now (tree_of m)) }
+/// Tells that a script is read and well scoped, where it is, by the line `ok`.
+fn check<W: Write>(alloc: Global, script: &[u8], out: &mut W) -> Result<u8, CliFault>
+    ensures says { IfOk result (SaysOk script.now (W.contents out.old) (W.contents out.new)) }
+    ensures refused { IfErr result (λ fault. IsRefusal fault → (body : Stmts) → IsScript script.now body → ⊥) }
+    ensures alone { IfErr result (LeavesAlone (W.contents out.old) (W.contents out.new)) }
+{
+    let _module = read_script(alloc, script)?;
+    write_text(out, "ok\n")?;
+    flush(out)?;
+    Ok(0)
+}
+
+/// The script as which bytes are read.
+fn read_script(alloc: Global, script: &[u8]) -> Result<Scoped, CliFault>
+    ensures read { IfOk result (λ s. IsScript script.now (script_of s)) }
     ensures refused { IfErr result (λ fault. IsRefusal fault → (body : Stmts) → IsScript script.now body → ⊥) }
     ensures fault { IfErr result IsOfScript }
 {

@@ -104,6 +104,29 @@ fn a_refused_script_leaves_the_writer_alone(rt: HostRuntime) -> Result<(), Fail>
 }
 
 #[test]
+fn a_script_is_checked_and_not_run(rt: HostRuntime) -> Result<(), Fail> {
+    let asked = Request::Check { script: None };
+    for (script, is_right) in [
+        ("", true),
+        (RAISING, true),
+        ("print(", false),
+        ("break", false),
+    ] {
+        let mut out = Vec::new(rt.alloc());
+        let bytes = script.as_bytes();
+        match serve(rt.alloc(), &asked, bytes, &[], &mut io::sink(), &mut out) {
+            Ok(status) => assert!(rt;
+                is_right && status == 0 && out.as_slice() == b"ok\n".as_slice()
+            ),
+            Err(fault) => assert!(rt;
+                !is_right && matches!(fault, CliFault::Script(_)) && out.is_empty()
+            ),
+        }
+    }
+    Ok(())
+}
+
+#[test]
 fn a_failing_write_is_a_fault(rt: HostRuntime) -> Result<(), Fail> {
     // eight writes and a flush
     for (room, is_enough) in [(0, false), (1, false), (5, false), (8, false), (9, true)] {
@@ -177,10 +200,31 @@ fn words_that_are_taken(rt: HostRuntime) -> Result<(), Fail> {
         ),
     ];
     for (words, script, turns) in cases {
+        let Ok(
+            Request::Serial {
+                script: path,
+                limits,
+            },
+        ) = request(rt.alloc(), words)
+        else {
+            return Err(Fail::from("the words are refused"));
+        };
+        assert!(rt; path == script && limits.turns() == turns);
+    }
+    Ok(())
+}
+
+#[test]
+fn words_of_check(rt: HostRuntime) -> Result<(), Fail> {
+    let cases: [(&[&str], Option<&str>); 2] = [
+        (&["subpy", "check"], None),
+        (&["subpy", "check", "a.py"], Some("a.py")),
+    ];
+    for (words, script) in cases {
         let Ok(asked) = request(rt.alloc(), words) else {
             return Err(Fail::from("the words are refused"));
         };
-        assert!(rt; asked.script() == script && asked.turns() == turns);
+        assert!(rt; matches!(&asked, Request::Check { .. }) && asked.script() == script);
     }
     Ok(())
 }
@@ -195,7 +239,7 @@ fn fault_of(alloc: Global, words: &[&str]) -> Result<WordsFault, Fail> {
 
 #[test]
 fn words_that_are_refused(rt: HostRuntime) -> Result<(), Fail> {
-    let cases: [(&[&str], &str); 8] = [
+    let cases: [(&[&str], &str); 9] = [
         (
             &["subpy", "serial", "--turns", "0"],
             "--turns takes a whole number from 1 to 1099511627776, not \"0\"",
@@ -228,6 +272,10 @@ fn words_that_are_refused(rt: HostRuntime) -> Result<(), Fail> {
             &["subpy", "serial", "a", "b"],
             "unexpected argument 'b' found",
         ),
+        (
+            &["subpy", "check", "--turns", "1"],
+            "unexpected argument '--turns' found",
+        ),
     ];
     for (words, message) in cases {
         let fault = fault_of(rt.alloc(), words)?;
@@ -243,11 +291,14 @@ fn words_that_are_refused(rt: HostRuntime) -> Result<(), Fail> {
 fn words_that_ask_for_help(rt: HostRuntime) -> Result<(), Fail> {
     let general = "Runs Python scripts in isolated interpreters";
     let serial = "Runs a script in interpreter 0";
-    let cases: [(&[&str], &str); 4] = [
+    let check = "Says whether a script is well formed";
+    let cases: [(&[&str], &str); 6] = [
         (&["subpy", "--help"], general),
         (&["subpy", "help"], general),
         (&["subpy", "help", "serial"], serial),
         (&["subpy", "serial", "--help"], serial),
+        (&["subpy", "help", "check"], check),
+        (&["subpy", "check", "--help"], check),
     ];
     for (words, begins) in cases {
         let fault = fault_of(rt.alloc(), words)?;

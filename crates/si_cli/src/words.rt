@@ -1,10 +1,10 @@
 // The words of a command line: the second names the command, and each command reads the words after it by a clap
 // command of its own.
 
-ghost use Rattle.std.specs.Prelude.{◌≡◌, ℕ, IfNone, IfOk, IfErr, IfSome, option_map, true, false};
-ghost use Rattle.clap.specs.Words.{app_of, kind_of, rule_of};
+ghost use Rattle.std.specs.Prelude.{◌≡◌, ℕ, IfNone, IfOk, IfErr, IfSome, codes, option_map, true, false};
+ghost use Rattle.clap.specs.Words.{app_of, kind_of, rule_of, takes};
 ghost use Rattle.si_cli.specs.Status.{status_of_words};
-ghost use Rattle.si_cli.specs.Words.{Allows, AreRead, AreTaken, IsReadFrom, IsSaidBy, script, serial, texts, turns};
+ghost use Rattle.si_cli.specs.Words.{Allows, AreRead, AreTaken, IsReadFrom, IsSaidBy, check, name_of, script, serial, texts, turns};
 
 use crate::asked::Request;
 use clap::error::ErrorKind;
@@ -18,10 +18,11 @@ Usage: subpy COMMAND [ARGUMENTS]
 
 Commands:
   serial [SCRIPT] [--turns N]  Runs a script, one turn after another, and prints its report
+  check [SCRIPT]               Prints 'ok' where a script is well formed, and runs nothing of it
   help [COMMAND]               Prints this text, or that of a command
 
 Statuses:
-  0  the script has run to its end, or help was asked for
+  0  the script has run to its end, 'ok' was printed, or help was asked for
   1  the script was left by an exception
   2  the words or the script are refused, or a read or a write failed
   4  the script's turns were used up
@@ -32,6 +33,10 @@ const SERIAL_HELP: &str =
     "The report is the line '== interpreter 0 ==', what the script printed, the line 'raised KIND: MESSAGE'
 where it was left by an exception, and the line 'end: finished', 'end: spent' where its turns were
 used up, or 'end: starved' where memory was refused.";
+
+const CHECK_HELP: &str =
+    "The line 'ok' is printed where the script can be read, and its statements and names stand where they
+may. Otherwise the fault is told on standard error, with status 2. Nothing of the script is run.";
 
 /// Why the words ask for nothing that can be carried out.
 #[derive(Debug, Drop)]
@@ -81,6 +86,9 @@ pub fn request<'a>(alloc: Global, words: &'a [&'a str]) -> Result<Request<'a>, W
     if *name == "serial" {
         return serial_request(alloc, &words[1..]);
     }
+    if *name == "check" {
+        return check_request(alloc, &words[1..]);
+    }
     Err(match *name {
         "help" => help_of(alloc, words),
         "-h" | "--help" => general_help(alloc),
@@ -90,6 +98,7 @@ pub fn request<'a>(alloc: Global, words: &'a [&'a str]) -> Result<Request<'a>, W
 
 /// The request of the words from `serial` on.
 fn serial_request<'a>(alloc: Global, words: &'a [&'a str]) -> Result<Request<'a>, WordsFault>
+    ensures name { IfOk result (λ request. name_of request ≡ codes "serial") }
     ensures said { IfOk result (IsReadFrom (texts words.entry.now)) }
     ensures taken { IfErr result (λ fault. AreRead (texts words.entry.now) → fault ≡ WordsFault.NoMemory) }
 {
@@ -105,6 +114,21 @@ fn serial_request<'a>(alloc: Global, words: &'a [&'a str]) -> Result<Request<'a>
                 None => Err(no_turns(alloc, turns)),
             }
         }
+        Err(error) => Err(words_fault(alloc, &error)),
+    }
+}
+
+/// The request of the words from `check` on.
+fn check_request<'a>(alloc: Global, words: &'a [&'a str]) -> Result<Request<'a>, WordsFault>
+    ensures name { IfOk result (λ request. name_of request ≡ codes "check") }
+    ensures said { IfOk result (IsReadFrom (texts words.entry.now)) }
+    ensures taken { IfErr result (λ fault. takes check (texts words.entry.now) ≡ true → fault ≡ WordsFault.NoMemory) }
+{
+    let command = check_command(alloc)?;
+    match command.try_get_matches_from(words) {
+        Ok(matches) => Ok(Request::Check {
+            script: matches.get_str("SCRIPT"),
+        }),
         Err(error) => Err(words_fault(alloc, &error)),
     }
 }
@@ -135,6 +159,17 @@ fn serial_command<'a>(alloc: Global) -> Result<Command<'a>, AllocError>
         .after_help(SERIAL_HELP)
         .arg(script_argument(alloc))?
         .arg(turns_argument(alloc))
+}
+
+/// The definition of `check`.
+fn check_command<'a>(alloc: Global) -> Result<Command<'a>, AllocError>
+    ensures { IfOk result (λ command. app_of command ≡ check) }
+{
+    Command::new(alloc, "check")
+        .about("Says whether a script is well formed, and runs nothing of it.")
+        .override_usage("subpy check [SCRIPT]")
+        .after_help(CHECK_HELP)
+        .arg(script_argument(alloc))
 }
 
 /// The script's path, which may be left out.
@@ -232,14 +267,16 @@ fn help_of(alloc: Global, words: &[&str]) -> WordsFault {
     match words.get(2) {
         None => general_help(alloc),
         Some(name) => match *name {
-            "serial" => serial_help(alloc),
+            "serial" => command_help(serial_command(alloc)),
+            "check" => command_help(check_command(alloc)),
             _ => no_command(alloc, name),
         },
     }
 }
 
-fn serial_help(alloc: Global) -> WordsFault {
-    let rendered = match serial_command(alloc) {
+/// The help of a command, by its definition.
+fn command_help(command: Result<Command, AllocError>) -> WordsFault {
+    let rendered = match command {
         Ok(mut command) => command.render_help(),
         Err(error) => Err(error),
     };

@@ -1,6 +1,6 @@
-use Rattle.std.proofs.Common.{◌≡◌, ℕ, arith, subst}
-use Rattle.si_cli.proofs.CourseLemmas.{goes_on, has_ended, has_paused, has_starved}
-use Rattle.si_cli.specs.declared.interpreter.Standing.TheVariants.{Ready}
+use Rattle.std.proofs.Common.{◌≡◌, ℕ, ◌+◌, arith, sym, subst}
+use Rattle.si_cli.proofs.CourseLemmas.{goes_on, has_ended, has_paused, has_starved, outcome_asked}
+use Rattle.si_cli.specs.declared.interpreter.Standing.TheVariants.{Ready, AtEnd}
 use Rattle.si_cli.specs.Courses.{HasRun}
 use Rattle.si_cli.proofs.alone.run.Goals as goal
 
@@ -12,7 +12,8 @@ loop-turn-preserved c = λ answers begun.
 pub returns-in-Ended-clause-ran : goal.returns-in-Ended-clause-ran
 returns-in-Ended-clause-ran c = λ answers begun.
     let u = c.loop-turn.invariant answers begun in
-    has_ended answers c.loop-turn.turn c.in-Ended.outcome _ _ u (c.in-Ended.ensures.steps u.runs)
+    let ended = has_ended answers c.loop-turn.turn c.take_outcome.result _ c.step.new.self u (c.in-Ended.ensures.steps u.runs) c.take_outcome.ensures.taken in
+    subst (HasRun answers (c.loop-turn.turn + 1) (AtEnd c.take_outcome.result)) (sym c.take_outcome.ensures.rest) (outcome_asked answers (c.loop-turn.turn + 1) (AtEnd c.take_outcome.result) c.step.new.self ended)
 
 pub returns-in-Starved-clause-ran : goal.returns-in-Starved-clause-ran
 returns-in-Starved-clause-ran c = λ answers begun.

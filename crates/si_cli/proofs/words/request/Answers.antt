@@ -1,27 +1,20 @@
-use Rattle.std.proofs.Common.{◌≡◌, ◌∙◌, ap, codes, false, subst, sym, true, unwrap_or, Some, [], List, ℕ}
-use Rattle.std.proofs.lemmas.Result.{IfOk-weaker}
+use Rattle.std.proofs.Common.{◌≡◌, codes, sym}
 use Rattle.std.proofs.lemmas.Slice.Eq.{bytes_eq-Decides}
-use Rattle.si_cli.proofs.SecondWord.{from_second, second_word}
-use Rattle.si_cli.specs.Words.{IsReadFrom, NamesSerial, texts}
-use Rattle.si_cli.specs.Words.{IsSaidBy}
+use Rattle.si_cli.proofs.SecondWord.{is_said, named}
 use Rattle.si_cli.proofs.words.request.Goals as goal
 
 pub returns-then-eq-clause-said : goal.returns-then-eq-clause-said
 returns-then-eq-clause-said c =
     let words = c.args.words.now in
     let found = c.in-Some.ensures.lookup.3 in
-    let name = c.in-Some.name.now.now in
-    let same : name ≡ codes "serial" = (bytes_eq-Decides name (codes "serial")).0 (sym c.if-eq.ensures) in
-    let named : NamesSerial (texts words) = second_word words c.in-Some.name.now found.0 found.1 ∙ ap Some same in
-    IfOk-weaker c.serial_request.result _ (IsSaidBy (texts words))
-    (λ r read. (named, subst (λ (ws : List (List ℕ)). IsReadFrom ws r) (from_second words) read))
-    c.serial_request.ensures.said
+    let word = c.in-Some.name.now in
+    let same : word.now ≡ codes "serial" = (bytes_eq-Decides word.now (codes "serial")).0 (sym c.if-eq.ensures) in
+    is_said words (codes "serial") c.serial_request.result (named words word (codes "serial") found.0 found.1 same) c.serial_request.ensures.name c.serial_request.ensures.said
 
-pub returns-clause-taken : goal.returns-clause-taken
-returns-clause-taken c = λ taken.
+pub returns-then-eq-2-clause-said : goal.returns-then-eq-2-clause-said
+returns-then-eq-2-clause-said c =
+    let words = c.args.words.now in
     let found = c.in-Some.ensures.lookup.3 in
-    let name = c.in-Some.name.now.now in
-    let is : Some name ≡ Some (codes "serial") = sym (second_word c.args.words.now c.in-Some.name.now found.0 found.1) ∙ taken.0 in
-    let same : name ≡ codes "serial" = ap (λ o. unwrap_or o []) is in
-    let bad : false ≡ true = c.if-eq.ensures ∙ (bytes_eq-Decides name (codes "serial")).1 same in
-    absurd cc
+    let word = c.in-Some.name.now in
+    let same : word.now ≡ codes "check" = (bytes_eq-Decides word.now (codes "check")).0 (sym c.if-eq-2.ensures) in
+    is_said words (codes "check") c.check_request.result (named words word (codes "check") found.0 found.1 same) c.check_request.ensures.name c.check_request.ensures.said

@@ -1,8 +1,8 @@
-use Rattle.std.proofs.Common.{◌≡◌, ◌∙◌, Option, ap, ap₂, codes, option_map, refl, subst, sym, true}
+use Rattle.std.proofs.Common.{◌≡◌, ◌∙◌, Option, ap, ap₂, codes, refl, subst, sym, true}
 use Rattle.clap.specs.Words.{Text, app_of, first_of, found_of, is_simple, matches_of, takes}
 use Rattle.clap.proofs.OnLiterals.{clap_on_literals}
 use Rattle.clap.proofs.WalkLemmas.{first_value-rows}
-use Rattle.si_cli.specs.Words.{Allows, serial, texts, turns_among}
+use Rattle.si_cli.specs.Words.{Allows, serial}
 use Rattle.si_cli.proofs.words.serial_request.Goals as goal
 
 is_simple_serial : is_simple serial ≡ true

@@ -1,0 +1,2 @@
+print('printed')
+print(1 // 0)

@@ -1,0 +1,3 @@
+def f(x): return x
+print(f(1))
+f(x=print('evaluated'))

@@ -1,0 +1,2 @@
+def f(print): return print + 1
+print(f(2))

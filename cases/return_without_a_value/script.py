@@ -1,0 +1,5 @@
+def f(x):
+    if x: return
+    print('here')
+print(f(1))
+print(f(0))

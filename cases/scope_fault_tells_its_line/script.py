@@ -1,0 +1,4 @@
+print(1)
+def f():
+    print(x)
+    global x
