@@ -200,16 +200,14 @@ fn words_that_are_taken(rt: HostRuntime) -> Result<(), Fail> {
         ),
     ];
     for (words, script, turns) in cases {
-        let Ok(
-            Request::Serial {
-                script: path,
-                limits,
-            },
-        ) = request(rt.alloc(), words)
-        else {
+        let Ok(asked) = request(rt.alloc(), words) else {
             return Err(Fail::from("the words are refused"));
         };
-        assert!(rt; path == script && limits.turns() == turns);
+        assert!(rt; asked.script() == script);
+        match &asked {
+            Request::Serial { limits, .. } => assert_eq!(rt; limits.turns(), turns),
+            Request::Check { .. } => return Err(Fail::from("another command is asked for")),
+        }
     }
     Ok(())
 }

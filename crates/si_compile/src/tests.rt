@@ -286,6 +286,7 @@ fn functions_come_first(rt: HostRuntime) -> Result<(), Fail> {
         })
     );
     assert_eq!(rt; table.routine(2), None);
+    assert_eq!(rt; table.literals().len(), 2);
     assert_eq!(rt; table.literals()[1].as_str(), "g");
     Ok(())
 }
