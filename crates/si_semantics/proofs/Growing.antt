@@ -2,13 +2,13 @@
 use Rattle.std.proofs.Common.{◌≡◌, ℕ, zero, suc, ◌+◌, ◌≤◌, List, [], ◌∷◌, ◌++◌, length, Bool, true, false, Option, Some, None, refl, sym, ap, ◌∙◌, subst, arith, append_assoc, length-append}
 use Rattle.std.specs.Prelude.{nat_eq, slice_get}
 use Rattle.std.proofs.lemmas.List.{append-nil}
-use Rattle.si_semantics.specs.Value.{Text, Value, Nothing, Truth, Int, Str, Provided, Function, Exception}
-use Rattle.si_semantics.specs.Tree.{BooleanOperator, Expr, Constant, Name, Unary, Binary, Call, Boolean, Compare, Conditional, Exprs, NoExprs, MoreExprs, Comparisons, NoComparisons, MoreComparisons, Stmt, Evaluate, Assign, Augment, Pass, If, While, Break, Continue, Define, Return, Global, Stmts, NoStmts, MoreStmts, functions_of, functions_in}
+use Rattle.si_semantics.specs.Value.{Text, Value, Nothing, Truth, Int, Str, Provided, Function, Range, Class, Address}
+use Rattle.si_semantics.specs.Tree.{BooleanOperator, Expr, Constant, Name, Unary, Binary, Call, Boolean, Compare, Conditional, Exprs, NoExprs, MoreExprs, Comparisons, NoComparisons, MoreComparisons, Stmt, Evaluate, Assign, Augment, Pass, If, While, For, Break, Continue, Define, Return, Global, Raise, Try, Finally, Stmts, NoStmts, MoreStmts, Clauses, NoClauses, MoreClauses, functions_of, functions_in, functions_in_clauses}
 use Rattle.si_semantics.specs.Tree as tree
 use Rattle.si_semantics.specs.Scope.{place_of, locals_of}
 use Rattle.si_semantics.specs.World.{World, Request, Bind, Run, Closing, Answer, Taken, Done, Replied, Got, Failed, Wants, Ran, Gave, Threw, Asked, bind_all}
-use Rattle.si_semantics.specs.Operations.{exception, operate, operate_unary, is_true, compare, load_global, load_local, call_provided, call_by_name, not_callable, wrong_arguments, too_deep, reply}
-use Rattle.si_semantics.specs.Meaning.{State, Raises, Returns, Breaks, Continues, Result, Gives, Leaves, Asks, Cut, Meaning, Scope, behind, visit, then, printed, raised, asked, ran, slot_at, read, assign, calls, choose, decides, compared, expr, exprs, operands, chain, after_turn, loop, returning, stmt, stmts, returned, entered, fitting, run_body, call, max_calls}
+use Rattle.si_semantics.specs.Operations.{exception, operate, operate_unary, is_true, compare, load_global, load_local, call_provided, call_by_name, not_callable, wrong_arguments, too_deep, type_error, raised_by, raised_again, catches, Iterator, iterator_of, next_item, reply}
+use Rattle.si_semantics.specs.Meaning.{State, Raises, Returns, Breaks, Continues, Result, Gives, Leaves, Asks, Cut, Meaning, Scope, behind, with_active, visit, then, printed, raised, asked, ran, slot_at, read, assign, unassign, calls, choose, decides, compared, expr, exprs, operands, chain, after_turn, loop, for_loop, over, returning, raising, caught, active_in, finally, named, stmt, stmts, clauses, returned, entered, fitting, run_body, call, max_calls}
 use Rattle.si_semantics.specs.Life.{Outcome, Returned, Told, Stops, IsGone, IsCut, Action, outcome_of, not_read, after_end, ends_with, run_ended, module_scope, run_of, takes, life, newborn, life_of}
 use Rattle.si_semantics.specs.Shows.{end_of}
 use Rattle.si_semantics.specs.Laws.{Grows, state_of, OneLife, LivesGrow, GoneStays}
@@ -82,17 +82,27 @@ assign_adds : (x : Text) (p : Option ℕ) (v : Value) → Adds (assign x p v)
 assign_adds x None v s = record { pieces = (same s).pieces; visits = (same s).visits }
 assign_adds x (Some k) v s = record { pieces = (same s).pieces; visits = (same s).visits }
 
--- the calls of functions that were read only add
+unassign_adds : (x : Text) (p : Option ℕ) → Adds (unassign x p)
+unassign_adds x None s = record { pieces = (same s).pieces; visits = (same s).visits }
+unassign_adds x (Some k) s = record { pieces = (same s).pieces; visits = (same s).visits }
+
+raised_adds : (x : ℕ × World) (s : State) → Grows s (state_at {A = Unit {0}} (raised x s))
+raised_adds x s = record { pieces = (same s).pieces; visits = (same s).visits }
+
+-- the calls of functions that were read only add, whatever exception is active
 abbrev Calls_add : Scope → Type 0
-Calls_add e = (k : ℕ) (vs : List Value) → Adds (e.call k vs)
+Calls_add e = (x : Option ℕ) (k : ℕ) (vs : List Value) → Adds (e.call x k vs)
 
 calls_add : (e : Scope) → Calls_add e → (g : Value) (vs : List Value) (names : List Text) → Adds (calls e g vs names)
-calls_add e h (Function f k) vs [] s = h k vs s
+calls_add e h (Function f k) vs [] s = h e.active k vs s
 calls_add e h Nothing vs [] s = ran_adds (call_provided Nothing vs s.world) s
 calls_add e h (Truth t) vs [] s = ran_adds (call_provided (Truth t) vs s.world) s
 calls_add e h (Int i) vs [] s = ran_adds (call_provided (Int i) vs s.world) s
 calls_add e h (Str t) vs [] s = ran_adds (call_provided (Str t) vs s.world) s
 calls_add e h (Provided f) vs [] s = ran_adds (call_provided (Provided f) vs s.world) s
+calls_add e h (Range a b c) vs [] s = ran_adds (call_provided (Range a b c) vs s.world) s
+calls_add e h (Class k) vs [] s = ran_adds (call_provided (Class k) vs s.world) s
+calls_add e h (Address x) vs [] s = ran_adds (call_provided (Address x) vs s.world) s
 calls_add e h g vs (x ∷ names) s = ran_adds (call_by_name g s.world) s
 
 module _ (e : Scope) (calling : Calls_add e) where
@@ -131,6 +141,10 @@ module _ (e : Scope) (calling : Calls_add e) where
   returning_adds None s = same s
   returning_adds (Some a) s = both_add s (expr e a s) _ (expr_adds a s) (λ v s1. same s1)
 
+  raising_adds : (a : Option Expr) → Adds (raising e a)
+  raising_adds None s = raised_adds (raised_again e.active s.world) s
+  raising_adds (Some a) s = both_add s (expr e a s) _ (expr_adds a s) (λ v s1. raised_adds (raised_by v s1.world) s1)
+
 after_turn_adds : (r : Result (Unit {0})) (again : Meaning (Unit {0})) → Adds again → Grows (state_at r) (state_at (after_turn r again))
 after_turn_adds (Gives u s) again h = h s
 after_turn_adds (Leaves Continues s) again h = h s
@@ -145,6 +159,52 @@ loop_adds zero test body last h k l s = same s
 loop_adds (suc n) test body last h k l s =
     both_add s (test (visit s)) _ (trans (visit_adds s) (h (visit s)))
     (λ t s1. choose_adds (is_true t) (after_turn (body s1) (loop n test body last)) (last s1) (trans (k s1) (after_turn_adds (body s1) (loop n test body last) (loop_adds n test body last h k l))) (l s1))
+
+-- the turns of a `for`, by the next item
+items_add : (o : Option (Value × Iterator)) (n : ℕ) (put : Value → Meaning (Unit {0})) (body last : Meaning (Unit {0})) → ((v : Value) → Adds (put v)) → Adds body → Adds last → ((it : Iterator) → Adds (for_loop n put body last it)) → (s : State) → Grows s (state_at (elim o [ None ↦ last (visit s) | Some p ↦ then (put p.0 (visit s)) (λ u s1. after_turn (body s1) (for_loop n put body last p.1)) ]))
+items_add None n put body last h k l r s = trans (visit_adds s) (l (visit s))
+items_add (Some p) n put body last h k l r s =
+    both_add s (put p.0 (visit s)) _ (trans (visit_adds s) (h p.0 (visit s))) (λ u s1. trans (k s1) (after_turn_adds (body s1) (for_loop n put body last p.1) (r p.1)))
+
+for_loop_adds : (n : ℕ) (put : Value → Meaning (Unit {0})) (body last : Meaning (Unit {0})) → ((v : Value) → Adds (put v)) → Adds body → Adds last → (it : Iterator) → Adds (for_loop n put body last it)
+for_loop_adds zero put body last h k l it s = same s
+for_loop_adds (suc n) put body last h k l it s = items_add (next_item it) n put body last h k l (λ j. for_loop_adds n put body last h k l j) s
+
+over_adds : (o : Option Iterator) (f : Iterator → Meaning (Unit {0})) → ((it : Iterator) → Adds (f it)) → Adds (over o f)
+over_adds None f h s = raised_adds (type_error s.world) s
+over_adds (Some it) f h s = h it s
+
+caught_adds : (r : Result (Unit {0})) (handle : ℕ → Meaning (Unit {0})) (last : Meaning (Unit {0})) → ((x : ℕ) → Adds (handle x)) → Adds last → Grows (state_at r) (state_at (caught r handle last))
+caught_adds (Gives u s) handle last h k = k s
+caught_adds (Leaves (Raises x) s) handle last h k = h x s
+caught_adds (Leaves (Returns v) s) handle last h k = same s
+caught_adds (Leaves Breaks s) handle last h k = same s
+caught_adds (Leaves Continues s) handle last h k = same s
+caught_adds (Asks q s) handle last h k = same s
+caught_adds (Cut s) handle last h k = same s
+
+finally_adds : (old : Option ℕ) (r : Result (Unit {0})) (last : Option ℕ → Meaning (Unit {0})) → ((x : Option ℕ) → Adds (last x)) → Grows (state_at r) (state_at (finally old r last))
+finally_adds old (Gives u s) last h = h old s
+finally_adds old (Leaves p s) last h = both_add s (last (active_in p old) s) _ (h (active_in p old) s) (λ u s1. same s1)
+finally_adds old (Asks q s) last h = same s
+finally_adds old (Cut s) last h = same s
+
+named_adds : (e : Scope) (y : Option Text) (x : ℕ) (suite : Meaning (Unit {0})) → Adds suite → Adds (named e y x suite)
+named_adds e None x suite h s = h s
+named_adds e (Some y) x suite h s =
+    let p = place_of y e.locals in
+    both_add s (assign y p (Address x) s) _ (assign_adds y p (Address x) s)
+    (λ u s1. trans (h s1) (finally_adds e.active (suite s1) (λ active s2. unassign y p s2) (λ active s2. unassign_adds y p s2)))
+
+-- the except clauses of a `try`, its else suite and its finally suite
+abbrev handling : Scope → Stmts → Clauses → ℕ → Meaning (Unit {0})
+handling e b cs x = clauses (behind (functions_in b) (with_active (Some x) e)) cs x
+
+abbrev otherwise : Scope → Stmts → Clauses → Stmts → Meaning (Unit {0})
+otherwise e b cs c = stmts (behind (functions_in b ++ functions_in_clauses cs) e) c
+
+abbrev lastly : Scope → Stmts → Clauses → (c f : Stmts) → Option ℕ → Meaning (Unit {0})
+lastly e b cs c f active = stmts (behind (functions_in b ++ (functions_in_clauses cs ++ functions_in c)) (with_active active e)) f
 
 mutual
   stmt_adds : (e : Scope) → Calls_add e → (a : Stmt) → Adds (stmt e a)
@@ -169,10 +229,36 @@ mutual
   stmt_adds e h (Define f ps b) s = trans (visit_adds s) (assign_adds f (place_of f e.locals) (Function f e.first) (visit s))
   stmt_adds e h (Return a) s = trans (visit_adds s) (returning_adds e h a (visit s))
   stmt_adds e h (Global xs) s = visit_adds s
+  stmt_adds e h (Raise a) s = trans (visit_adds s) (raising_adds e h a (visit s))
+  stmt_adds e h (For x a b c) s =
+      both_add s (expr e a (visit s)) _ (trans (visit_adds s) (expr_adds e h a (visit s)))
+      (λ v s1. over_adds (iterator_of v) _
+      (λ it. for_loop_adds e.turns (λ u s2. assign x (place_of x e.locals) u (visit s2)) (stmts e b) (stmts (behind (functions_in b) e) c)
+      (λ u s2. trans (visit_adds s2) (assign_adds x (place_of x e.locals) u (visit s2))) (λ s2. stmts_add e h b s2) (λ s2. stmts_add (behind (functions_in b) e) h c s2) it) s1)
+  stmt_adds e h (Try b cs c) s =
+      trans (trans (visit_adds s) (stmts_add e h b (visit s)))
+      (caught_adds (stmts e b (visit s)) (handling e b cs) (otherwise e b cs c)
+      (λ x s1. clauses_add (behind (functions_in b) (with_active (Some x) e)) h cs x s1) (λ s1. stmts_add (behind (functions_in b ++ functions_in_clauses cs) e) h c s1))
+  stmt_adds e h (Finally b cs c f) s =
+      trans
+      (trans (trans (visit_adds s) (stmts_add e h b (visit s)))
+      (caught_adds (stmts e b (visit s)) (handling e b cs) (otherwise e b cs c)
+      (λ x s1. clauses_add (behind (functions_in b) (with_active (Some x) e)) h cs x s1) (λ s1. stmts_add (behind (functions_in b ++ functions_in_clauses cs) e) h c s1)))
+      (finally_adds e.active (caught (stmts e b (visit s)) (handling e b cs) (otherwise e b cs c)) (lastly e b cs c f)
+      (λ active s1. stmts_add (behind (functions_in b ++ (functions_in_clauses cs ++ functions_in c)) (with_active active e)) h f s1))
 
   stmts_add : (e : Scope) → Calls_add e → (b : Stmts) → Adds (stmts e b)
   stmts_add e h NoStmts s = same s
   stmts_add e h (MoreStmts a b) s = both_add s (stmt e a s) _ (stmt_adds e h a s) (λ u s1. stmts_add (behind (functions_of a) e) h b s1)
+
+  clauses_add : (e : Scope) → Calls_add e → (cs : Clauses) (x : ℕ) → Adds (clauses e cs x)
+  clauses_add e h NoClauses x s = same s
+  clauses_add e h (MoreClauses None y b cs) x s = trans (visit_adds s) (named_adds e y x (stmts e b) (λ s1. stmts_add e h b s1) (visit s))
+  clauses_add e h (MoreClauses (Some a) y b cs) x s =
+      both_add s (expr e a (visit s)) _ (trans (visit_adds s) (expr_adds e h a (visit s)))
+      (λ v s1. both_add s1 (ran (catches v x s1.world) s1) _ (ran_adds (catches v x s1.world) s1)
+      (λ t s2. choose_adds (is_true t) (named e y x (stmts e b) s2) (clauses (behind (functions_in b) e) cs x s2)
+      (named_adds e y x (stmts e b) (λ s3. stmts_add e h b s3) s2) (clauses_add (behind (functions_in b) e) h cs x s2)))
 
 -- ---- growing, of a call
 
@@ -191,22 +277,22 @@ fitting_adds (Some f) vs go h s =
     choose_adds (nat_eq (length vs) (length f.parameters)) (go f s) (ran (wrong_arguments s.world) s) (h f s) (ran_adds (wrong_arguments s.world) s)
 
 -- what the suite of a function is given
-abbrev suite_scope : ℕ → (ℕ → List Value → Meaning Value) → tree.Function → Scope
-suite_scope n calling f = record { locals = locals_of f; first = 0; active = None; turns = n; call = calling }
+abbrev suite_scope : ℕ → (Option ℕ → ℕ → List Value → Meaning Value) → tree.Function → Option ℕ → Scope
+suite_scope n calling f active = record { locals = locals_of f; first = 0; active = active; turns = n; call = calling }
 
-run_body_adds : (n : ℕ) (calling : ℕ → List Value → Meaning Value) → ((k : ℕ) (vs : List Value) → Adds (calling k vs)) → (f : tree.Function) (vs : List Value) → Adds (run_body n calling f vs)
-run_body_adds n calling h f vs s =
+run_body_adds : (n : ℕ) (calling : Option ℕ → ℕ → List Value → Meaning Value) → ((x : Option ℕ) (k : ℕ) (vs : List Value) → Adds (calling x k vs)) → (f : tree.Function) (active : Option ℕ) (vs : List Value) → Adds (run_body n calling f active vs)
+run_body_adds n calling h f active vs s =
     let t = record s { slots = entered (length (locals_of f)) vs } in
-    let g = trans (stmts_add (suite_scope n calling f) h f.body t) (returned_adds s.slots (stmts (suite_scope n calling f) f.body t)) in
+    let g = trans (stmts_add (suite_scope n calling f active) h f.body t) (returned_adds s.slots (stmts (suite_scope n calling f active) f.body t)) in
     record { pieces = g.pieces; visits = g.visits }
 
-call_adds : (fs : List tree.Function) (n d k : ℕ) (vs : List Value) → Adds (call fs n d k vs)
-call_adds fs n zero k vs s = fitting_adds (slice_get fs k) vs (λ f s1. ran (too_deep s1.world) s1) (λ f s1. ran_adds (too_deep s1.world) s1) s
-call_adds fs n (suc d) k vs s =
-    fitting_adds (slice_get fs k) vs (λ f s1. run_body n (call fs n d) f vs s1) (λ f s1. run_body_adds n (call fs n d) (λ j us. call_adds fs n d j us) f vs s1) s
+call_adds : (fs : List tree.Function) (n d : ℕ) (active : Option ℕ) (k : ℕ) (vs : List Value) → Adds (call fs n d active k vs)
+call_adds fs n zero active k vs s = fitting_adds (slice_get fs k) vs (λ f s1. ran (too_deep s1.world) s1) (λ f s1. ran_adds (too_deep s1.world) s1) s
+call_adds fs n (suc d) active k vs s =
+    fitting_adds (slice_get fs k) vs (λ f s1. run_body n (call fs n d) f active vs s1) (λ f s1. run_body_adds n (call fs n d) (λ z j us. call_adds fs n d z j us) f active vs s1) s
 
 run_adds : (fs : List tree.Function) (n : ℕ) (body : Stmts) → Adds (run_of fs n body)
-run_adds fs n body s = stmts_add (module_scope (fs ++ functions_in body) (length fs) n) (λ k vs. call_adds (fs ++ functions_in body) n max_calls k vs) body s
+run_adds fs n body s = stmts_add (module_scope (fs ++ functions_in body) (length fs) n) (λ x k vs. call_adds (fs ++ functions_in body) n max_calls x k vs) body s
 
 -- ---- growing, of a life
 
@@ -323,108 +409,219 @@ assign_further : (b : List Answer) (x : Text) (p : Option ℕ) (v : Value) (s : 
 assign_further b x None v s = refl
 assign_further b x (Some k) v s = refl
 
+unassign_further : (b : List Answer) (x : Text) (p : Option ℕ) (s : State) → Further b (unassign x p s) (unassign x p (more b s))
+unassign_further b x None s = refl
+unassign_further b x (Some k) s = refl
+
+over_further : (b : List Answer) (o : Option Iterator) (f f' : Iterator → Meaning (Unit {0})) → ((it : Iterator) (s : State) → Further b (f it s) (f' it (more b s))) → (s : State) → Further b (over o f s) (over o f' (more b s))
+over_further b None f f' h s = refl
+over_further b (Some it) f f' h s = h it s
+
+-- a `for`, from what is known of its parts
+module _ (b : List Answer) (put put' : Value → Meaning (Unit {0})) (body body' last last' : Meaning (Unit {0}))
+    (puts : (v : Value) (s : State) → Further b (put v s) (put' v (more b s))) (bodies : (s : State) → Further b (body s) (body' (more b s))) (lasts : (s : State) → Further b (last s) (last' (more b s)))
+    (put_adds : (v : Value) → Adds (put' v)) (body_adds : Adds body') (last_adds : Adds last') where
+  items_further : (o : Option (Value × Iterator)) (n m : ℕ) → ((it : Iterator) (s : State) → Further b (for_loop n put body last it s) (for_loop m put' body' last' it (more b s))) → (s : State)
+      → Further b (elim o [ None ↦ last (visit s) | Some p ↦ then (put p.0 (visit s)) (λ u s1. after_turn (body s1) (for_loop n put body last p.1)) ])
+      (elim o [ None ↦ last' (visit (more b s)) | Some p ↦ then (put' p.0 (visit (more b s))) (λ u s1. after_turn (body' s1) (for_loop m put' body' last' p.1)) ])
+  items_further None n m h s = lasts (visit s)
+  items_further (Some p) n m h s =
+      let adds = for_loop_adds m put' body' last' put_adds body_adds last_adds p.1 in
+      then_further b _ _ _ _ (puts p.0 (visit s))
+      (λ u s1. after_turn_further b (body s1) (body' (more b s1)) (for_loop n put body last p.1) (for_loop m put' body' last' p.1) (bodies s1) (λ s2. h p.1 s2) adds)
+      (λ u s1. trans (body_adds s1) (after_turn_adds (body' s1) (for_loop m put' body' last' p.1) adds))
+
+  for_loop_further : (n m : ℕ) → n ≤ m → (it : Iterator) (s : State) → Further b (for_loop n put body last it s) (for_loop m put' body' last' it (more b s))
+  for_loop_further zero m fewer it s = let g = for_loop_adds m put' body' last' put_adds body_adds last_adds it (more b s) in record { pieces = g.pieces; visits = g.visits }
+  for_loop_further (suc n) zero fewer it s = absurd (omega arith)
+  for_loop_further (suc n) (suc m) fewer it s = items_further (next_item it) n m (λ j s1. for_loop_further n m (omega arith) j s1) s
+
+caught_further : (b : List Answer) (r r' : Result (Unit {0})) (handle handle' : ℕ → Meaning (Unit {0})) (last last' : Meaning (Unit {0})) → Further b r r' → ((x : ℕ) (s : State) → Further b (handle x s) (handle' x (more b s))) → ((s : State) → Further b (last s) (last' (more b s))) → ((x : ℕ) → Adds (handle' x)) → Adds last' → Further b (caught r handle last) (caught r' handle' last')
+caught_further b (Gives u s) r' handle handle' last last' h k l g a = subst (λ z. Further b (last s) (caught z handle' last')) (sym h) (l s)
+caught_further b (Leaves (Raises x) s) r' handle handle' last last' h k l g a = subst (λ z. Further b (handle x s) (caught z handle' last')) (sym h) (k x s)
+caught_further b (Leaves (Returns v) s) r' handle handle' last last' h k l g a = ap (λ z. caught z handle' last') h
+caught_further b (Leaves Breaks s) r' handle handle' last last' h k l g a = ap (λ z. caught z handle' last') h
+caught_further b (Leaves Continues s) r' handle handle' last last' h k l g a = ap (λ z. caught z handle' last') h
+caught_further b (Asks q s) r' handle handle' last last' h k l g a = (trans h.0 (caught_adds r' handle' last' g a), λ e. ap (λ z. caught z handle' last') (h.1 e))
+caught_further b (Cut s) r' handle handle' last last' h k l g a = trans h (caught_adds r' handle' last' g a)
+
+finally_further : (b : List Answer) (old : Option ℕ) (r r' : Result (Unit {0})) (last last' : Option ℕ → Meaning (Unit {0})) → Further b r r' → ((x : Option ℕ) (s : State) → Further b (last x s) (last' x (more b s))) → ((x : Option ℕ) → Adds (last' x)) → Further b (finally old r last) (finally old r' last')
+finally_further b old (Gives u s) r' last last' h k g = subst (λ z. Further b (last old s) (finally old z last')) (sym h) (k old s)
+finally_further b old (Leaves p s) r' last last' h k g =
+    subst (λ z. Further b (then (last (active_in p old) s) (λ u s1. Leaves p s1)) (finally old z last')) (sym h)
+    (then_further b _ _ _ _ (k (active_in p old) s) (λ u s1. refl) (λ u s1. same s1))
+finally_further b old (Asks q s) r' last last' h k g = (trans h.0 (finally_adds old r' last' g), λ e. ap (λ z. finally old z last') (h.1 e))
+finally_further b old (Cut s) r' last last' h k g = trans h (finally_adds old r' last' g)
+
 -- scopes that differ in the most turns of a loop, and in what a call means, where that goes further too
-module _ (b : List Answer) (locals : List Text) (active : Option Exception) (n m : ℕ) (fewer : n ≤ m) (call1 call2 : ℕ → List Value → Meaning Value)
-    (calls_go : (k : ℕ) (vs : List Value) (s : State) → Further b (call1 k vs s) (call2 k vs (more b s))) (adds : (k : ℕ) (vs : List Value) → Adds (call2 k vs)) where
-  abbrev scope1 : ℕ → Scope
-  scope1 i = record { locals = locals; first = i; active = active; turns = n; call = call1 }
+module _ (b : List Answer) (locals : List Text) (n m : ℕ) (fewer : n ≤ m) (call1 call2 : Option ℕ → ℕ → List Value → Meaning Value)
+    (calls_go : (z : Option ℕ) (k : ℕ) (vs : List Value) (s : State) → Further b (call1 z k vs s) (call2 z k vs (more b s))) (adds : (z : Option ℕ) (k : ℕ) (vs : List Value) → Adds (call2 z k vs)) where
+  abbrev scope1 : Option ℕ → ℕ → Scope
+  scope1 z i = record { locals = locals; first = i; active = z; turns = n; call = call1 }
 
-  abbrev scope2 : ℕ → Scope
-  scope2 i = record { locals = locals; first = i; active = active; turns = m; call = call2 }
+  abbrev scope2 : Option ℕ → ℕ → Scope
+  scope2 z i = record { locals = locals; first = i; active = z; turns = m; call = call2 }
 
-  calls_further : (i : ℕ) (g : Value) (vs : List Value) (names : List Text) (s : State) → Further b (calls (scope1 i) g vs names s) (calls (scope2 i) g vs names (more b s))
-  calls_further i (Function f k) vs [] s = calls_go k vs s
-  calls_further i Nothing vs [] s = ran_further b (call_provided Nothing vs s.world) s
-  calls_further i (Truth t) vs [] s = ran_further b (call_provided (Truth t) vs s.world) s
-  calls_further i (Int j) vs [] s = ran_further b (call_provided (Int j) vs s.world) s
-  calls_further i (Str t) vs [] s = ran_further b (call_provided (Str t) vs s.world) s
-  calls_further i (Provided f) vs [] s = ran_further b (call_provided (Provided f) vs s.world) s
-  calls_further i g vs (x ∷ names) s = ran_further b (call_by_name g s.world) s
+  calls_further : (z : Option ℕ) (i : ℕ) (g : Value) (vs : List Value) (names : List Text) (s : State) → Further b (calls (scope1 z i) g vs names s) (calls (scope2 z i) g vs names (more b s))
+  calls_further z i (Function f k) vs [] s = calls_go z k vs s
+  calls_further z i Nothing vs [] s = ran_further b (call_provided Nothing vs s.world) s
+  calls_further z i (Truth t) vs [] s = ran_further b (call_provided (Truth t) vs s.world) s
+  calls_further z i (Int j) vs [] s = ran_further b (call_provided (Int j) vs s.world) s
+  calls_further z i (Range a c d) vs [] s = ran_further b (call_provided (Range a c d) vs s.world) s
+  calls_further z i (Class k) vs [] s = ran_further b (call_provided (Class k) vs s.world) s
+  calls_further z i (Address x) vs [] s = ran_further b (call_provided (Address x) vs s.world) s
+  calls_further z i (Str t) vs [] s = ran_further b (call_provided (Str t) vs s.world) s
+  calls_further z i (Provided f) vs [] s = ran_further b (call_provided (Provided f) vs s.world) s
+  calls_further z i g vs (x ∷ names) s = ran_further b (call_by_name g s.world) s
 
   mutual
-    expr_further : (i : ℕ) (a : Expr) (s : State) → Further b (expr (scope1 i) a s) (expr (scope2 i) a (more b s))
-    expr_further i (Constant v) s = refl
-    expr_further i (Name x) s = read_further b x (place_of x locals) (visit s)
-    expr_further i (Unary o a) s =
-        then_further b _ _ _ _ (expr_further i a (visit s)) (λ v s1. ran_further b (operate_unary o v s1.world) s1) (λ v s1. ran_adds (operate_unary o v s1.world) s1)
-    expr_further i (Binary o a c) s =
-        then_further b _ _ _ _ (expr_further i a (visit s))
-        (λ u s1. then_further b _ _ _ _ (expr_further i c s1) (λ v s2. ran_further b (operate o u v s2.world) s2) (λ v s2. ran_adds (operate o u v s2.world) s2))
-        (λ u s1. both_add s1 (expr (scope2 i) c s1) _ (expr_adds (scope2 i) adds c s1) (λ v s2. ran_adds (operate o u v s2.world) s2))
-    expr_further i (Call f args names) s =
-        then_further b _ _ _ _ (expr_further i f (visit s))
-        (λ g s1. then_further b _ _ _ _ (exprs_further i args s1) (λ vs s2. calls_further i g vs names s2) (λ vs s2. calls_add (scope2 i) adds g vs names s2))
-        (λ g s1. both_add s1 (exprs (scope2 i) args s1) _ (exprs_add (scope2 i) adds args s1) (λ vs s2. calls_add (scope2 i) adds g vs names s2))
-    expr_further i (Boolean o a c) s =
-        then_further b _ _ _ _ (expr_further i a (visit s)) (λ u s1. operands_further i o u c s1) (λ u s1. operands_add (scope2 i) adds o u c s1)
-    expr_further i (Compare a cs) s = then_further b _ _ _ _ (expr_further i a (visit s)) (λ u s1. chain_further i u cs s1) (λ u s1. chain_adds (scope2 i) adds u cs s1)
-    expr_further i (Conditional a c d) s =
-        then_further b _ _ _ _ (expr_further i a (visit s))
-        (λ t s1. choose_further b (is_true t) _ _ _ _ (expr_further i c s1) (expr_further i d s1))
-        (λ t s1. choose_adds (is_true t) (expr (scope2 i) c s1) (expr (scope2 i) d s1) (expr_adds (scope2 i) adds c s1) (expr_adds (scope2 i) adds d s1))
+    expr_further : (z : Option ℕ) (i : ℕ) (a : Expr) (s : State) → Further b (expr (scope1 z i) a s) (expr (scope2 z i) a (more b s))
+    expr_further z i (Constant v) s = refl
+    expr_further z i (Name x) s = read_further b x (place_of x locals) (visit s)
+    expr_further z i (Unary o a) s =
+        then_further b _ _ _ _ (expr_further z i a (visit s)) (λ v s1. ran_further b (operate_unary o v s1.world) s1) (λ v s1. ran_adds (operate_unary o v s1.world) s1)
+    expr_further z i (Binary o a c) s =
+        then_further b _ _ _ _ (expr_further z i a (visit s))
+        (λ u s1. then_further b _ _ _ _ (expr_further z i c s1) (λ v s2. ran_further b (operate o u v s2.world) s2) (λ v s2. ran_adds (operate o u v s2.world) s2))
+        (λ u s1. both_add s1 (expr (scope2 z i) c s1) _ (expr_adds (scope2 z i) adds c s1) (λ v s2. ran_adds (operate o u v s2.world) s2))
+    expr_further z i (Call f args names) s =
+        then_further b _ _ _ _ (expr_further z i f (visit s))
+        (λ g s1. then_further b _ _ _ _ (exprs_further z i args s1) (λ vs s2. calls_further z i g vs names s2) (λ vs s2. calls_add (scope2 z i) adds g vs names s2))
+        (λ g s1. both_add s1 (exprs (scope2 z i) args s1) _ (exprs_add (scope2 z i) adds args s1) (λ vs s2. calls_add (scope2 z i) adds g vs names s2))
+    expr_further z i (Boolean o a c) s =
+        then_further b _ _ _ _ (expr_further z i a (visit s)) (λ u s1. operands_further z i o u c s1) (λ u s1. operands_add (scope2 z i) adds o u c s1)
+    expr_further z i (Compare a cs) s = then_further b _ _ _ _ (expr_further z i a (visit s)) (λ u s1. chain_further z i u cs s1) (λ u s1. chain_adds (scope2 z i) adds u cs s1)
+    expr_further z i (Conditional a c d) s =
+        then_further b _ _ _ _ (expr_further z i a (visit s))
+        (λ t s1. choose_further b (is_true t) _ _ _ _ (expr_further z i c s1) (expr_further z i d s1))
+        (λ t s1. choose_adds (is_true t) (expr (scope2 z i) c s1) (expr (scope2 z i) d s1) (expr_adds (scope2 z i) adds c s1) (expr_adds (scope2 z i) adds d s1))
 
-    exprs_further : (i : ℕ) (args : Exprs) (s : State) → Further b (exprs (scope1 i) args s) (exprs (scope2 i) args (more b s))
-    exprs_further i NoExprs s = refl
-    exprs_further i (MoreExprs a args) s =
-        then_further b _ _ _ _ (expr_further i a s)
-        (λ v s1. then_further b _ _ _ _ (exprs_further i args s1) (λ vs s2. refl) (λ vs s2. same s2))
-        (λ v s1. both_add s1 (exprs (scope2 i) args s1) _ (exprs_add (scope2 i) adds args s1) (λ vs s2. same s2))
+    exprs_further : (z : Option ℕ) (i : ℕ) (args : Exprs) (s : State) → Further b (exprs (scope1 z i) args s) (exprs (scope2 z i) args (more b s))
+    exprs_further z i NoExprs s = refl
+    exprs_further z i (MoreExprs a args) s =
+        then_further b _ _ _ _ (expr_further z i a s)
+        (λ v s1. then_further b _ _ _ _ (exprs_further z i args s1) (λ vs s2. refl) (λ vs s2. same s2))
+        (λ v s1. both_add s1 (exprs (scope2 z i) args s1) _ (exprs_add (scope2 z i) adds args s1) (λ vs s2. same s2))
 
-    operands_further : (i : ℕ) (o : BooleanOperator) (u : Value) (c : Exprs) (s : State) → Further b (operands (scope1 i) o u c s) (operands (scope2 i) o u c (more b s))
-    operands_further i o u NoExprs s = refl
-    operands_further i o u (MoreExprs a c) s =
+    operands_further : (z : Option ℕ) (i : ℕ) (o : BooleanOperator) (u : Value) (c : Exprs) (s : State) → Further b (operands (scope1 z i) o u c s) (operands (scope2 z i) o u c (more b s))
+    operands_further z i o u NoExprs s = refl
+    operands_further z i o u (MoreExprs a c) s =
         choose_further b (decides o u) _ _ _ _ refl
-        (then_further b _ _ _ _ (expr_further i a s) (λ v s1. operands_further i o v c s1) (λ v s1. operands_add (scope2 i) adds o v c s1))
+        (then_further b _ _ _ _ (expr_further z i a s) (λ v s1. operands_further z i o v c s1) (λ v s1. operands_add (scope2 z i) adds o v c s1))
 
-    chain_further : (i : ℕ) (u : Value) (cs : Comparisons) (s : State) → Further b (chain (scope1 i) u cs s) (chain (scope2 i) u cs (more b s))
-    chain_further i u NoComparisons s = refl
-    chain_further i u (MoreComparisons o a cs) s =
-        then_further b _ _ _ _ (expr_further i a s)
+    chain_further : (z : Option ℕ) (i : ℕ) (u : Value) (cs : Comparisons) (s : State) → Further b (chain (scope1 z i) u cs s) (chain (scope2 z i) u cs (more b s))
+    chain_further z i u NoComparisons s = refl
+    chain_further z i u (MoreComparisons o a cs) s =
+        then_further b _ _ _ _ (expr_further z i a s)
         (λ v s1. then_further b _ _ _ _ (ran_further b (compare o u v s1.world) s1)
-        (λ t s2. compared_further b cs t (chain (scope1 i) v cs) (chain (scope2 i) v cs) (λ s3. chain_further i v cs s3) s2)
-        (λ t s2. compared_adds cs t (chain (scope2 i) v cs) (chain_adds (scope2 i) adds v cs) s2))
-        (λ v s1. both_add s1 (ran (compare o u v s1.world) s1) _ (ran_adds (compare o u v s1.world) s1) (λ t s2. compared_adds cs t (chain (scope2 i) v cs) (chain_adds (scope2 i) adds v cs) s2))
+        (λ t s2. compared_further b cs t (chain (scope1 z i) v cs) (chain (scope2 z i) v cs) (λ s3. chain_further z i v cs s3) s2)
+        (λ t s2. compared_adds cs t (chain (scope2 z i) v cs) (chain_adds (scope2 z i) adds v cs) s2))
+        (λ v s1. both_add s1 (ran (compare o u v s1.world) s1) _ (ran_adds (compare o u v s1.world) s1) (λ t s2. compared_adds cs t (chain (scope2 z i) v cs) (chain_adds (scope2 z i) adds v cs) s2))
 
-  returning_further : (i : ℕ) (a : Option Expr) (s : State) → Further b (returning (scope1 i) a s) (returning (scope2 i) a (more b s))
-  returning_further i None s = refl
-  returning_further i (Some a) s = then_further b _ _ _ _ (expr_further i a s) (λ v s1. refl) (λ v s1. same s1)
+  returning_further : (z : Option ℕ) (i : ℕ) (a : Option Expr) (s : State) → Further b (returning (scope1 z i) a s) (returning (scope2 z i) a (more b s))
+  returning_further z i None s = refl
+  returning_further z i (Some a) s = then_further b _ _ _ _ (expr_further z i a s) (λ v s1. refl) (λ v s1. same s1)
+
+  raising_further : (z : Option ℕ) (i : ℕ) (a : Option Expr) (s : State) → Further b (raising (scope1 z i) a s) (raising (scope2 z i) a (more b s))
+  raising_further z i None s = refl
+  raising_further z i (Some a) s = then_further b _ _ _ _ (expr_further z i a s) (λ v s1. refl) (λ v s1. raised_adds (raised_by v s1.world) s1)
+
+  named_further : (z : Option ℕ) (i : ℕ) (y : Option Text) (x : ℕ) (suite suite' : Meaning (Unit {0})) → ((s : State) → Further b (suite s) (suite' (more b s))) → Adds suite' → (s : State) → Further b (named (scope1 z i) y x suite s) (named (scope2 z i) y x suite' (more b s))
+  named_further z i None x suite suite' h g s = h s
+  named_further z i (Some y) x suite suite' h g s =
+      let p = place_of y locals in
+      then_further b _ _ _ _ (assign_further b y p (Address x) s)
+      (λ u s1. finally_further b z (suite s1) (suite' (more b s1)) (λ active s2. unassign y p s2) (λ active s2. unassign y p s2) (h s1)
+      (λ active s2. unassign_further b y p s2) (λ active s2. unassign_adds y p s2))
+      (λ u s1. trans (g s1) (finally_adds z (suite' s1) (λ active s2. unassign y p s2) (λ active s2. unassign_adds y p s2)))
+
+  -- what follows the test of a clause only adds
+  tested_adds : (z : Option ℕ) (i : ℕ) (y : Option Text) (x : ℕ) (c : Stmts) (cs : Clauses) (t : Value) (s : State) → Grows s (state_at (choose (is_true t) (named (scope2 z i) y x (stmts (scope2 z i) c) s) (clauses (scope2 z (i + length (functions_in c))) cs x s)))
+  tested_adds z i y x c cs t s =
+      choose_adds (is_true t) (named (scope2 z i) y x (stmts (scope2 z i) c) s) (clauses (scope2 z (i + length (functions_in c))) cs x s)
+      (named_adds (scope2 z i) y x (stmts (scope2 z i) c) (λ s1. stmts_add (scope2 z i) adds c s1) s) (clauses_add (scope2 z (i + length (functions_in c))) adds cs x s)
 
   mutual
-    stmt_further : (i : ℕ) (a : Stmt) (s : State) → Further b (stmt (scope1 i) a s) (stmt (scope2 i) a (more b s))
-    stmt_further i (Evaluate a) s = then_further b _ _ _ _ (expr_further i a (visit s)) (λ v s1. refl) (λ v s1. same s1)
-    stmt_further i (Assign x a) s =
+    stmt_further : (z : Option ℕ) (i : ℕ) (a : Stmt) (s : State) → Further b (stmt (scope1 z i) a s) (stmt (scope2 z i) a (more b s))
+    stmt_further z i (Evaluate a) s = then_further b _ _ _ _ (expr_further z i a (visit s)) (λ v s1. refl) (λ v s1. same s1)
+    stmt_further z i (Assign x a) s =
         let p = place_of x locals in
-        then_further b _ _ _ _ (expr_further i a (visit s)) (λ v s1. assign_further b x p v (visit s1)) (λ v s1. trans (visit_adds s1) (assign_adds x p v (visit s1)))
-    stmt_further i (Augment x o a) s =
+        then_further b _ _ _ _ (expr_further z i a (visit s)) (λ v s1. assign_further b x p v (visit s1)) (λ v s1. trans (visit_adds s1) (assign_adds x p v (visit s1)))
+    stmt_further z i (Augment x o a) s =
         let p = place_of x locals in
         then_further b _ _ _ _ (read_further b x p (visit (visit s)))
-        (λ u s1. then_further b _ _ _ _ (expr_further i a s1)
+        (λ u s1. then_further b _ _ _ _ (expr_further z i a s1)
         (λ v s2. then_further b _ _ _ _ (ran_further b (operate o u v s2.world) s2) (λ z s3. assign_further b x p z s3) (λ z s3. assign_adds x p z s3))
         (λ v s2. both_add s2 (ran (operate o u v s2.world) s2) _ (ran_adds (operate o u v s2.world) s2) (λ z s3. assign_adds x p z s3)))
-        (λ u s1. both_add s1 (expr (scope2 i) a s1) _ (expr_adds (scope2 i) adds a s1)
+        (λ u s1. both_add s1 (expr (scope2 z i) a s1) _ (expr_adds (scope2 z i) adds a s1)
         (λ v s2. both_add s2 (ran (operate o u v s2.world) s2) _ (ran_adds (operate o u v s2.world) s2) (λ z s3. assign_adds x p z s3)))
-    stmt_further i Pass s = refl
-    stmt_further i (If a c d) s =
+    stmt_further z i Pass s = refl
+    stmt_further z i (If a c d) s =
         let j = i + length (functions_in c) in
-        then_further b _ _ _ _ (expr_further i a (visit s))
-        (λ t s1. choose_further b (is_true t) _ _ _ _ (stmts_further i c s1) (stmts_further j d s1))
-        (λ t s1. choose_adds (is_true t) (stmts (scope2 i) c s1) (stmts (scope2 j) d s1) (stmts_add (scope2 i) adds c s1) (stmts_add (scope2 j) adds d s1))
-    stmt_further i (While a c d) s =
+        then_further b _ _ _ _ (expr_further z i a (visit s))
+        (λ t s1. choose_further b (is_true t) _ _ _ _ (stmts_further z i c s1) (stmts_further z j d s1))
+        (λ t s1. choose_adds (is_true t) (stmts (scope2 z i) c s1) (stmts (scope2 z j) d s1) (stmts_add (scope2 z i) adds c s1) (stmts_add (scope2 z j) adds d s1))
+    stmt_further z i (While a c d) s =
         let j = i + length (functions_in c) in
-        loop_further b (expr (scope1 i) a) (expr (scope2 i) a) (stmts (scope1 i) c) (stmts (scope2 i) c) (stmts (scope1 j) d) (stmts (scope2 j) d)
-        (λ s1. expr_further i a s1) (λ s1. stmts_further i c s1) (λ s1. stmts_further j d s1)
-        (λ s1. expr_adds (scope2 i) adds a s1) (λ s1. stmts_add (scope2 i) adds c s1) (λ s1. stmts_add (scope2 j) adds d s1) n m fewer (visit s)
-    stmt_further i Break s = refl
-    stmt_further i Continue s = refl
-    stmt_further i (Define f ps c) s = assign_further b f (place_of f locals) (Function f i) (visit s)
-    stmt_further i (Return a) s = returning_further i a (visit s)
-    stmt_further i (Global xs) s = refl
+        loop_further b (expr (scope1 z i) a) (expr (scope2 z i) a) (stmts (scope1 z i) c) (stmts (scope2 z i) c) (stmts (scope1 z j) d) (stmts (scope2 z j) d)
+        (λ s1. expr_further z i a s1) (λ s1. stmts_further z i c s1) (λ s1. stmts_further z j d s1)
+        (λ s1. expr_adds (scope2 z i) adds a s1) (λ s1. stmts_add (scope2 z i) adds c s1) (λ s1. stmts_add (scope2 z j) adds d s1) n m fewer (visit s)
+    stmt_further z i Break s = refl
+    stmt_further z i Continue s = refl
+    stmt_further z i (Define f ps c) s = assign_further b f (place_of f locals) (Function f i) (visit s)
+    stmt_further z i (Return a) s = returning_further z i a (visit s)
+    stmt_further z i (Global xs) s = refl
+    stmt_further z i (Raise a) s = raising_further z i a (visit s)
+    stmt_further z i (For x a c d) s =
+        let p = place_of x locals in
+        let j = i + length (functions_in c) in
+        then_further b _ _ _ _ (expr_further z i a (visit s))
+        (λ v s1. over_further b (iterator_of v) _ _
+        (λ it s2. for_loop_further b (λ u s3. assign x p u (visit s3)) (λ u s3. assign x p u (visit s3)) (stmts (scope1 z i) c) (stmts (scope2 z i) c) (stmts (scope1 z j) d) (stmts (scope2 z j) d)
+        (λ u s3. assign_further b x p u (visit s3)) (λ s3. stmts_further z i c s3) (λ s3. stmts_further z j d s3)
+        (λ u s3. trans (visit_adds s3) (assign_adds x p u (visit s3))) (λ s3. stmts_add (scope2 z i) adds c s3) (λ s3. stmts_add (scope2 z j) adds d s3) n m fewer it s2) s1)
+        (λ v s1. over_adds (iterator_of v) _
+        (λ it. for_loop_adds m (λ u s3. assign x p u (visit s3)) (stmts (scope2 z i) c) (stmts (scope2 z j) d)
+        (λ u s3. trans (visit_adds s3) (assign_adds x p u (visit s3))) (λ s3. stmts_add (scope2 z i) adds c s3) (λ s3. stmts_add (scope2 z j) adds d s3) it) s1)
+    stmt_further z i (Try c cs d) s =
+        let j = i + length (functions_in c) in
+        let k = i + length (functions_in c ++ functions_in_clauses cs) in
+        caught_further b (stmts (scope1 z i) c (visit s)) (stmts (scope2 z i) c (visit (more b s)))
+        (handling (scope1 z i) c cs) (handling (scope2 z i) c cs) (otherwise (scope1 z i) c cs d) (otherwise (scope2 z i) c cs d)
+        (stmts_further z i c (visit s)) (λ x s1. clauses_further (Some x) j cs x s1) (λ s1. stmts_further z k d s1)
+        (λ x s1. clauses_add (scope2 (Some x) j) adds cs x s1) (λ s1. stmts_add (scope2 z k) adds d s1)
+    stmt_further z i (Finally c cs d f) s =
+        let j = i + length (functions_in c) in
+        let k = i + length (functions_in c ++ functions_in_clauses cs) in
+        let l = i + length (functions_in c ++ (functions_in_clauses cs ++ functions_in d)) in
+        finally_further b z
+        (caught (stmts (scope1 z i) c (visit s)) (handling (scope1 z i) c cs) (otherwise (scope1 z i) c cs d))
+        (caught (stmts (scope2 z i) c (visit (more b s))) (handling (scope2 z i) c cs) (otherwise (scope2 z i) c cs d))
+        (lastly (scope1 z i) c cs d f) (lastly (scope2 z i) c cs d f)
+        (caught_further b (stmts (scope1 z i) c (visit s)) (stmts (scope2 z i) c (visit (more b s)))
+        (handling (scope1 z i) c cs) (handling (scope2 z i) c cs) (otherwise (scope1 z i) c cs d) (otherwise (scope2 z i) c cs d)
+        (stmts_further z i c (visit s)) (λ x s1. clauses_further (Some x) j cs x s1) (λ s1. stmts_further z k d s1)
+        (λ x s1. clauses_add (scope2 (Some x) j) adds cs x s1) (λ s1. stmts_add (scope2 z k) adds d s1))
+        (λ x s1. stmts_further x l f s1) (λ x s1. stmts_add (scope2 x l) adds f s1)
 
-    stmts_further : (i : ℕ) (c : Stmts) (s : State) → Further b (stmts (scope1 i) c s) (stmts (scope2 i) c (more b s))
-    stmts_further i NoStmts s = refl
-    stmts_further i (MoreStmts a c) s =
+    stmts_further : (z : Option ℕ) (i : ℕ) (c : Stmts) (s : State) → Further b (stmts (scope1 z i) c s) (stmts (scope2 z i) c (more b s))
+    stmts_further z i NoStmts s = refl
+    stmts_further z i (MoreStmts a c) s =
         let j = i + length (functions_of a) in
-        then_further b _ _ _ _ (stmt_further i a s) (λ u s1. stmts_further j c s1) (λ u s1. stmts_add (scope2 j) adds c s1)
+        then_further b _ _ _ _ (stmt_further z i a s) (λ u s1. stmts_further z j c s1) (λ u s1. stmts_add (scope2 z j) adds c s1)
+
+    clauses_further : (z : Option ℕ) (i : ℕ) (cs : Clauses) (x : ℕ) (s : State) → Further b (clauses (scope1 z i) cs x s) (clauses (scope2 z i) cs x (more b s))
+    clauses_further z i NoClauses x s = refl
+    clauses_further z i (MoreClauses None y c cs) x s =
+        named_further z i y x (stmts (scope1 z i) c) (stmts (scope2 z i) c) (λ s1. stmts_further z i c s1) (λ s1. stmts_add (scope2 z i) adds c s1) (visit s)
+    clauses_further z i (MoreClauses (Some a) y c cs) x s =
+        let j = i + length (functions_in c) in
+        then_further b _ _ _ _ (expr_further z i a (visit s))
+        (λ v s1. then_further b _ _ _ _ (ran_further b (catches v x s1.world) s1)
+        (λ t s2. choose_further b (is_true t) _ _ _ _
+        (named_further z i y x (stmts (scope1 z i) c) (stmts (scope2 z i) c) (λ s3. stmts_further z i c s3) (λ s3. stmts_add (scope2 z i) adds c s3) s2) (clauses_further z j cs x s2))
+        (λ t s2. tested_adds z i y x c cs t s2))
+        (λ v s1. both_add s1 (ran (catches v x s1.world) s1) _ (ran_adds (catches v x s1.world) s1) (λ t s2. tested_adds z i y x c cs t s2))
 
 -- ---- going further, of a call
 
@@ -443,20 +640,20 @@ fitting_further b (Some f) vs go go' h s =
     choose_further b (nat_eq (length vs) (length f.parameters)) _ _ _ _ (h f s) (ran_further b (wrong_arguments s.world) s)
 
 module _ (b : List Answer) (fs : List tree.Function) (n m : ℕ) (fewer : n ≤ m) where
-  call_further : (d k : ℕ) (vs : List Value) (s : State) → Further b (call fs n d k vs s) (call fs m d k vs (more b s))
-  call_further zero k vs s =
+  call_further : (d : ℕ) (active : Option ℕ) (k : ℕ) (vs : List Value) (s : State) → Further b (call fs n d active k vs s) (call fs m d active k vs (more b s))
+  call_further zero active k vs s =
       fitting_further b (slice_get fs k) vs (λ f s1. ran (too_deep s1.world) s1) (λ f s1. ran (too_deep s1.world) s1) (λ f s1. ran_further b (too_deep s1.world) s1) s
-  call_further (suc d) k vs s =
-      fitting_further b (slice_get fs k) vs (λ f s1. run_body n (call fs n d) f vs s1) (λ f s1. run_body m (call fs m d) f vs s1)
+  call_further (suc d) active k vs s =
+      fitting_further b (slice_get fs k) vs (λ f s1. run_body n (call fs n d) f active vs s1) (λ f s1. run_body m (call fs m d) f active vs s1)
       (λ f s1. returned_further b s1.slots _ _
-      (stmts_further b (locals_of f) None n m fewer (call fs n d) (call fs m d) (λ j us s2. call_further d j us s2) (λ j us. call_adds fs m d j us) 0 f.body (record s1 { slots = entered (length (locals_of f)) vs })))
+      (stmts_further b (locals_of f) n m fewer (call fs n d) (call fs m d) (λ z j us s2. call_further d z j us s2) (λ z j us. call_adds fs m d z j us) active 0 f.body (record s1 { slots = entered (length (locals_of f)) vs })))
       s
 
 run_further : (b : List Answer) (n m : ℕ) → n ≤ m → (fs : List tree.Function) (body : Stmts) (s : State) → Further b (run_of fs n body s) (run_of fs m body (more b s))
 run_further b n m fewer fs body s =
     let gs = fs ++ functions_in body in
-    stmts_further b [] None n m fewer (call gs n max_calls) (call gs m max_calls)
-    (λ k vs s1. call_further b gs n m fewer max_calls k vs s1) (λ k vs. call_adds gs m max_calls k vs) (length fs) body s
+    stmts_further b [] n m fewer (call gs n max_calls) (call gs m max_calls)
+    (λ z k vs s1. call_further b gs n m fewer max_calls z k vs s1) (λ z k vs. call_adds gs m max_calls z k vs) None (length fs) body s
 
 -- ---- going further, of a life
 

@@ -2,8 +2,12 @@ pub mod Growing
 pub mod Courses
 pub mod Worked
 pub mod WorkedFunctions
+pub mod WorkedExceptions
+pub mod WorkedFinally
+pub mod WorkedItems
 pub mod WorkedScope
 pub mod Names
 pub mod WorkedLiterals
 pub mod Scoped
 pub mod WorkedLayout
+pub mod KindsAbove

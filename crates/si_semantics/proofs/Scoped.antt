@@ -1,21 +1,21 @@
 -- A well scoped text is left by exceptions alone.
 use Rattle.std.proofs.Common.{◌≡◌, ℕ, zero, suc, List, [], ◌∷◌, ◌++◌, length, Bool, true, false, ◌&&◌, Option, Some, None, refl, subst}
 use Rattle.std.specs.Prelude.{nat_eq, slice_get}
-use Rattle.si_semantics.specs.Value.{Text, Value, Nothing, Truth, Int, Str, Provided, Function, Exception}
-use Rattle.si_semantics.specs.Tree.{BooleanOperator, Expr, Constant, Name, Unary, Binary, Call, Boolean, Compare, Conditional, Exprs, NoExprs, MoreExprs, Comparisons, NoComparisons, MoreComparisons, Stmt, Evaluate, Assign, Augment, Pass, If, While, Break, Continue, Define, Return, Global, Stmts, NoStmts, MoreStmts, functions_of, functions_in}
+use Rattle.si_semantics.specs.Value.{Text, Value, Nothing, Truth, Int, Str, Provided, Function, Range, Class, Address}
+use Rattle.si_semantics.specs.Tree.{BooleanOperator, Expr, Constant, Name, Unary, Binary, Call, Boolean, Compare, Conditional, Exprs, NoExprs, MoreExprs, Comparisons, NoComparisons, MoreComparisons, Stmt, Evaluate, Assign, Augment, Pass, If, While, For, Break, Continue, Define, Return, Global, Raise, Try, Finally, Stmts, NoStmts, MoreStmts, Clauses, NoClauses, MoreClauses, functions_of, functions_in, functions_in_clauses}
 use Rattle.si_semantics.specs.Tree as tree
 use Rattle.si_semantics.specs.World.{Request, Answer, Replied, Got, Failed, Wants, Ran, Gave, Threw, Asked}
-use Rattle.si_semantics.specs.Operations.{exception, operate, operate_unary, is_true, compare, load_global, load_local, call_provided, call_by_name, not_callable, wrong_arguments, too_deep, reply}
-use Rattle.si_semantics.specs.Meaning.{State, Leave, Raises, Returns, Breaks, Continues, Result, Gives, Leaves, Asks, Cut, Meaning, Scope, behind, visit, then, raised, asked, ran, slot_at, read, assign, calls, choose, decides, compared, expr, exprs, operands, chain, after_turn, loop, returning, stmt, stmts, returned, fitting, run_body, call, max_calls}
-use Rattle.si_semantics.specs.Scope.{place_of, Within, InText, InFunction, in_loop, in_function, looping, stmt_scoped, stmts_scoped}
+use Rattle.si_semantics.specs.Operations.{exception, operate, operate_unary, is_true, compare, load_global, load_local, call_provided, call_by_name, not_callable, wrong_arguments, too_deep, catches, Iterator, iterator_of, next_item, reply}
+use Rattle.si_semantics.specs.Meaning.{State, Leave, Raises, Returns, Breaks, Continues, Result, Gives, Leaves, Asks, Cut, Meaning, Scope, behind, visit, then, raised, asked, ran, slot_at, read, assign, calls, choose, decides, compared, expr, exprs, operands, chain, after_turn, loop, for_loop, over, returning, raising, caught, active_in, finally, unassign, named, with_active, clauses, stmt, stmts, returned, fitting, run_body, call, max_calls}
+use Rattle.si_semantics.specs.Scope.{place_of, Within, InText, InFunction, in_loop, may_return, looping, finishing, stmt_scoped, stmts_scoped, clauses_scoped}
 use Rattle.si_semantics.specs.Life.{module_scope}
 use Rattle.si_semantics.specs.Laws.{LeftByExceptions}
 
--- a result is left by `break` and `continue` in a loop alone, and by `return` in a function alone
+-- a result is left by `break` and `continue` in a loop alone, and by `return` where it may stand
 abbrev Keeps : {A : Type 0} → Within → Result A → Type 0
 Keeps w (Gives a s) = Unit {0}
 Keeps w (Leaves (Raises x) s) = Unit {0}
-Keeps w (Leaves (Returns v) s) = in_function w ≡ true
+Keeps w (Leaves (Returns v) s) = may_return w ≡ true
 Keeps w (Leaves Breaks s) = in_loop w ≡ true
 Keeps w (Leaves Continues s) = in_loop w ≡ true
 Keeps w (Asks q s) = Unit {0}
@@ -57,6 +57,10 @@ assign_keeps : (w : Within) (x : Text) (p : Option ℕ) (v : Value) (s : State) 
 assign_keeps w x None v s = tt
 assign_keeps w x (Some k) v s = tt
 
+unassign_keeps : (w : Within) (x : Text) (p : Option ℕ) (s : State) → Keeps w (unassign x p s)
+unassign_keeps w x None s = tt
+unassign_keeps w x (Some k) s = tt
+
 compared_keeps : (w : Within) (cs : Comparisons) (t : Value) (rest : Meaning Value) → ((s : State) → Keeps w (rest s)) → (s : State) → Keeps w (compared cs t rest s)
 compared_keeps w NoComparisons t rest h s = tt
 compared_keeps w (MoreComparisons o a cs) t rest h s = choose_keeps w (is_true t) (rest s) (Gives t s) (h s) tt
@@ -78,22 +82,25 @@ fitting_keeps w None vs go h s = ran_keeps w (not_callable s.world) s
 fitting_keeps w (Some f) vs go h s =
     choose_keeps w (nat_eq (length vs) (length f.parameters)) (go f s) (ran (wrong_arguments s.world) s) (h f s) (ran_keeps w (wrong_arguments s.world) s)
 
-call_keeps : (w : Within) (fs : List tree.Function) (n d k : ℕ) (vs : List Value) (s : State) → Keeps w (call fs n d k vs s)
-call_keeps w fs n zero k vs s = fitting_keeps w (slice_get fs k) vs (λ f s1. ran (too_deep s1.world) s1) (λ f s1. ran_keeps w (too_deep s1.world) s1) s
-call_keeps w fs n (suc d) k vs s =
-    fitting_keeps w (slice_get fs k) vs (λ f s1. run_body n (call fs n d) f vs s1) (λ f s1. returned_keeps w s1.slots _) s
+call_keeps : (w : Within) (fs : List tree.Function) (n d : ℕ) (active : Option ℕ) (k : ℕ) (vs : List Value) (s : State) → Keeps w (call fs n d active k vs s)
+call_keeps w fs n zero active k vs s = fitting_keeps w (slice_get fs k) vs (λ f s1. ran (too_deep s1.world) s1) (λ f s1. ran_keeps w (too_deep s1.world) s1) s
+call_keeps w fs n (suc d) active k vs s =
+    fitting_keeps w (slice_get fs k) vs (λ f s1. run_body n (call fs n d) f active vs s1) (λ f s1. returned_keeps w s1.slots _) s
 
 -- the calls of functions that were read are left by exceptions alone
 abbrev Calls_keep : Scope → Type 0
-Calls_keep e = (w : Within) (k : ℕ) (vs : List Value) (s : State) → Keeps w (e.call k vs s)
+Calls_keep e = (w : Within) (active : Option ℕ) (k : ℕ) (vs : List Value) (s : State) → Keeps w (e.call active k vs s)
 
 calls_keep : (w : Within) (e : Scope) → Calls_keep e → (g : Value) (vs : List Value) (names : List Text) (s : State) → Keeps w (calls e g vs names s)
-calls_keep w e h (Function f k) vs [] s = h w k vs s
+calls_keep w e h (Function f k) vs [] s = h w e.active k vs s
 calls_keep w e h Nothing vs [] s = ran_keeps w (call_provided Nothing vs s.world) s
 calls_keep w e h (Truth t) vs [] s = ran_keeps w (call_provided (Truth t) vs s.world) s
 calls_keep w e h (Int i) vs [] s = ran_keeps w (call_provided (Int i) vs s.world) s
 calls_keep w e h (Str t) vs [] s = ran_keeps w (call_provided (Str t) vs s.world) s
 calls_keep w e h (Provided f) vs [] s = ran_keeps w (call_provided (Provided f) vs s.world) s
+calls_keep w e h (Range a b c) vs [] s = ran_keeps w (call_provided (Range a b c) vs s.world) s
+calls_keep w e h (Class k) vs [] s = ran_keeps w (call_provided (Class k) vs s.world) s
+calls_keep w e h (Address x) vs [] s = ran_keeps w (call_provided (Address x) vs s.world) s
 calls_keep w e h g vs (x ∷ names) s = ran_keeps w (call_by_name g s.world) s
 
 -- ---- expressions
@@ -130,10 +137,10 @@ module _ (w : Within) (e : Scope) (calling : Calls_keep e) where
 
 -- ---- statements
 
--- in a loop of a function one is in that function
-out_of_loop : (w : Within) → in_function (looping w) ≡ true → in_function w ≡ true
+-- where `return` may stand in a loop's body it may stand in front of the loop
+out_of_loop : (w : Within) → may_return (looping w) ≡ true → may_return w ≡ true
 out_of_loop (InText l) h = h
-out_of_loop (InFunction l) h = h
+out_of_loop (InFunction l r) h = h
 
 -- a turn's body may be left by `break` and `continue`
 turn_keeps : (w : Within) (r : Result (Unit {0})) (again : Meaning (Unit {0})) → Keeps (looping w) r → ((s : State) → Keeps w (again s)) → Keeps w (after_turn r again)
@@ -151,7 +158,69 @@ loop_keeps w test body last h k m (suc n) s =
     then_keeps w (test (visit s)) _ (h (visit s))
     (λ t s1. choose_keeps w (is_true t) (after_turn (body s1) (loop n test body last)) (last s1) (turn_keeps w (body s1) (loop n test body last) (k s1) (λ s2. loop_keeps w test body last h k m n s2)) (m s1))
 
-returning_keeps : (w : Within) (e : Scope) → Calls_keep e → (a : Option Expr) (s : State) → in_function w ≡ true → Keeps w (returning e a s)
+-- the same over items: a turn with an item, or the else suite
+item_keeps : (w : Within) (put : Value → Meaning (Unit {0})) (body last : Meaning (Unit {0})) (again : Iterator → Meaning (Unit {0})) → ((v : Value) (s : State) → Keeps w (put v s)) → ((s : State) → Keeps (looping w) (body s)) → ((s : State) → Keeps w (last s))
+    → ((it : Iterator) (s : State) → Keeps w (again it s)) → (o : Option (Value × Iterator)) (s : State)
+    → Keeps w (elim o [ None ↦ last (visit s) | Some p ↦ then (put p.0 (visit s)) (λ u s1. after_turn (body s1) (again p.1)) ])
+item_keeps w put body last again h k m l None s = m (visit s)
+item_keeps w put body last again h k m l (Some p) s = then_keeps w (put p.0 (visit s)) _ (h p.0 (visit s)) (λ u s1. turn_keeps w (body s1) (again p.1) (k s1) (λ s2. l p.1 s2))
+
+for_keeps : (w : Within) (put : Value → Meaning (Unit {0})) (body last : Meaning (Unit {0})) → ((v : Value) (s : State) → Keeps w (put v s)) → ((s : State) → Keeps (looping w) (body s)) → ((s : State) → Keeps w (last s))
+    → (n : ℕ) (it : Iterator) (s : State) → Keeps w (for_loop n put body last it s)
+for_keeps w put body last h k m zero it s = tt
+for_keeps w put body last h k m (suc n) it s = item_keeps w put body last (for_loop n put body last) h k m (λ more s1. for_keeps w put body last h k m n more s1) (next_item it) s
+
+over_keeps : (w : Within) (o : Option Iterator) (f : Iterator → Meaning (Unit {0})) → ((it : Iterator) (s : State) → Keeps w (f it s)) → (s : State) → Keeps w (over o f s)
+over_keeps w None f h s = tt
+over_keeps w (Some it) f h s = h it s
+
+-- ---- exceptions
+
+raising_keeps : (w : Within) (e : Scope) → Calls_keep e → (a : Option Expr) (s : State) → Keeps w (raising e a s)
+raising_keeps w e h None s = tt
+raising_keeps w e h (Some a) s = then_keeps w (expr e a s) _ (expr_keeps w e h a s) (λ v s1. tt)
+
+caught_keeps : (w : Within) (r : Result (Unit {0})) (handle : ℕ → Meaning (Unit {0})) (last : Meaning (Unit {0})) → Keeps w r → ((x : ℕ) (s : State) → Keeps w (handle x s)) → ((s : State) → Keeps w (last s)) → Keeps w (caught r handle last)
+caught_keeps w (Gives u s) handle last h k m = m s
+caught_keeps w (Leaves (Raises x) s) handle last h k m = k x s
+caught_keeps w (Leaves (Returns v) s) handle last h k m = h
+caught_keeps w (Leaves Breaks s) handle last h k m = h
+caught_keeps w (Leaves Continues s) handle last h k m = h
+caught_keeps w (Asks q s) handle last h k m = tt
+caught_keeps w (Cut s) handle last h k m = tt
+
+-- a finally suite is left by an exception alone
+out_of_end : {A : Type 0} (w : Within) (r : Result A) → Keeps (finishing w) r → Keeps w r
+out_of_end w (Gives a s) h = tt
+out_of_end w (Leaves (Raises x) s) h = tt
+out_of_end (InText l) (Leaves (Returns v) s) h = cc
+out_of_end (InFunction l r) (Leaves (Returns v) s) h = cc
+out_of_end (InText l) (Leaves Breaks s) h = cc
+out_of_end (InFunction l r) (Leaves Breaks s) h = cc
+out_of_end (InText l) (Leaves Continues s) h = cc
+out_of_end (InFunction l r) (Leaves Continues s) h = cc
+out_of_end w (Asks q s) h = tt
+out_of_end w (Cut s) h = tt
+
+finally_keeps : (w : Within) (old : Option ℕ) (r : Result (Unit {0})) (last : Option ℕ → Meaning (Unit {0})) → Keeps w r → ((x : Option ℕ) (s : State) → Keeps w (last x s)) → Keeps w (finally old r last)
+finally_keeps w old (Gives u s) last h k = k old s
+finally_keeps w old (Leaves p s) last h k = then_keeps w (last (active_in p old) s) _ (k (active_in p old) s) (λ u s1. by p h s1)
+  where
+    by : (q : Leave) → Keeps {A = Unit {0}} w (Leaves q s) → (s1 : State) → Keeps {A = Unit {0}} w (Leaves q s1)
+    by (Raises x) g s1 = tt
+    by (Returns v) g s1 = g
+    by Breaks g s1 = g
+    by Continues g s1 = g
+finally_keeps w old (Asks q s) last h k = tt
+finally_keeps w old (Cut s) last h k = tt
+
+named_keeps : (w : Within) (e : Scope) (y : Option Text) (x : ℕ) (suite : Meaning (Unit {0})) → ((s : State) → Keeps w (suite s)) → (s : State) → Keeps w (named e y x suite s)
+named_keeps w e None x suite h s = h s
+named_keeps w e (Some y) x suite h s =
+    then_keeps w (assign y (place_of y e.locals) (Address x) s) _ (assign_keeps w y (place_of y e.locals) (Address x) s)
+    (λ u s1. finally_keeps w e.active (suite s1) _ (h s1) (λ active s2. unassign_keeps w y (place_of y e.locals) s2))
+
+returning_keeps : (w : Within) (e : Scope) → Calls_keep e → (a : Option Expr) (s : State) → may_return w ≡ true → Keeps w (returning e a s)
 returning_keeps w e h None s g = g
 returning_keeps w e h (Some a) s g = then_keeps w (expr e a s) _ (expr_keeps w e h a s) (λ v s1. g)
 
@@ -178,11 +247,44 @@ mutual
       let g = both_true (stmts_scoped (looping w) b) (stmts_scoped w c) h in
       loop_keeps w (expr e a) (stmts e b) (stmts (behind (functions_in b) e) c)
       (λ s1. expr_keeps w e k a s1) (λ s1. stmts_keep (looping w) e k b s1 g.0) (λ s1. stmts_keep w (behind (functions_in b) e) k c s1 g.1) e.turns (visit s)
+  stmt_keeps w e k (For x a b c) s h =
+      let g = both_true (stmts_scoped (looping w) b) (stmts_scoped w c) h in
+      then_keeps w (expr e a (visit s)) _ (expr_keeps w e k a (visit s))
+      (λ v s1. over_keeps w (iterator_of v) _
+      (λ it s2. for_keeps w (λ u s3. assign x (place_of x e.locals) u (visit s3)) (stmts e b) (stmts (behind (functions_in b) e) c) (λ u s3. assign_keeps w x (place_of x e.locals) u (visit s3))
+      (λ s3. stmts_keep (looping w) e k b s3 g.0) (λ s3. stmts_keep w (behind (functions_in b) e) k c s3 g.1) e.turns it s2) s1)
   stmt_keeps w e k Break s h = h
   stmt_keeps w e k Continue s h = h
   stmt_keeps w e k (Define f ps b) s h = assign_keeps w f (place_of f e.locals) (Function f e.first) (visit s)
   stmt_keeps w e k (Return a) s h = returning_keeps w e k a (visit s) h
   stmt_keeps w e k (Global xs) s h = tt
+  stmt_keeps w e k (Raise a) s h = raising_keeps w e k a (visit s)
+  stmt_keeps w e k (Try b cs c) s h =
+      let g = both_true (stmts_scoped w b && clauses_scoped w cs) (stmts_scoped w c) h in
+      let f = both_true (stmts_scoped w b) (clauses_scoped w cs) g.0 in
+      caught_keeps w (stmts e b (visit s)) _ _ (stmts_keep w e k b (visit s) f.0)
+      (λ x s1. clauses_keep w (behind (functions_in b) (with_active (Some x) e)) k cs x s1 f.1) (λ s1. stmts_keep w (behind (functions_in b ++ functions_in_clauses cs) e) k c s1 g.1)
+  stmt_keeps w e k (Finally b cs c d) s h =
+      let i = both_true ((stmts_scoped w b && clauses_scoped w cs) && stmts_scoped w c) (stmts_scoped (finishing w) d) h in
+      let g = both_true (stmts_scoped w b && clauses_scoped w cs) (stmts_scoped w c) i.0 in
+      let f = both_true (stmts_scoped w b) (clauses_scoped w cs) g.0 in
+      let end = behind (functions_in b ++ (functions_in_clauses cs ++ functions_in c)) in
+      finally_keeps w e.active _ (λ active. stmts (end (with_active active e)) d)
+      (caught_keeps w (stmts e b (visit s)) _ _ (stmts_keep w e k b (visit s) f.0)
+      (λ x s1. clauses_keep w (behind (functions_in b) (with_active (Some x) e)) k cs x s1 f.1) (λ s1. stmts_keep w (behind (functions_in b ++ functions_in_clauses cs) e) k c s1 g.1))
+      (λ active s1. out_of_end w (stmts (end (with_active active e)) d s1) (stmts_keep (finishing w) (end (with_active active e)) k d s1 i.1))
+
+  clauses_keep : (w : Within) (e : Scope) → Calls_keep e → (cs : Clauses) (x : ℕ) (s : State) → clauses_scoped w cs ≡ true → Keeps w (clauses e cs x s)
+  clauses_keep w e k NoClauses x s h = tt
+  clauses_keep w e k (MoreClauses None y b cs) x s h =
+      let g = both_true (stmts_scoped w b) (clauses_scoped w cs) h in
+      named_keeps w e y x (stmts e b) (λ s1. stmts_keep w e k b s1 g.0) (visit s)
+  clauses_keep w e k (MoreClauses (Some a) y b cs) x s h =
+      let g = both_true (stmts_scoped w b) (clauses_scoped w cs) h in
+      then_keeps w (expr e a (visit s)) _ (expr_keeps w e k a (visit s))
+      (λ v s1. then_keeps w (ran (catches v x s1.world) s1) _ (ran_keeps w (catches v x s1.world) s1)
+      (λ t s2. choose_keeps w (is_true t) (named e y x (stmts e b) s2) (clauses (behind (functions_in b) e) cs x s2)
+      (named_keeps w e y x (stmts e b) (λ s3. stmts_keep w e k b s3 g.0) s2) (clauses_keep w (behind (functions_in b) e) k cs x s2 g.1)))
 
   stmts_keep : (w : Within) (e : Scope) → Calls_keep e → (b : Stmts) (s : State) → stmts_scoped w b ≡ true → Keeps w (stmts e b s)
   stmts_keep w e k NoStmts s h = tt
@@ -192,7 +294,7 @@ mutual
 
 -- ---- a run
 
-raises : (p : Leave) (t : State) → Keeps {A = Unit {0}} (InText false) (Leaves p t) → (x : Exception) × (p ≡ Raises x)
+raises : (p : Leave) (t : State) → Keeps {A = Unit {0}} (InText false) (Leaves p t) → (x : ℕ) × (p ≡ Raises x)
 raises (Raises x) t h = (x, refl)
 raises (Returns v) t h = cc
 raises Breaks t h = cc
@@ -201,4 +303,4 @@ raises Continues t h = cc
 pub left_by_exceptions : LeftByExceptions
 left_by_exceptions fs n body s t p h is =
     let gs = fs ++ functions_in body in
-    raises p t (subst (Keeps (InText false)) is (stmts_keep (InText false) (module_scope gs (length fs) n) (λ w k vs s1. call_keeps w gs n max_calls k vs s1) body s h))
+    raises p t (subst (Keeps (InText false)) is (stmts_keep (InText false) (module_scope gs (length fs) n) (λ w active k vs s1. call_keeps w gs n max_calls active k vs s1) body s h))

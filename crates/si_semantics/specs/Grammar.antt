@@ -1,8 +1,8 @@
 -- The grammar: which tokens derive which tree (Python Language Reference 3.14, 6, 7, 8 and 10).
 -- Each rule stands in the line above its production, in the notation of the reference.
 use Rattle.std.specs.Prelude.{◌≡◌, ℕ, zero, suc, ◌+◌, ◌<◌, ◌≤◌, max, Bool, true, false, List, [], ◌∷◌, ◌++◌, length, map, flat_map, ◌⊎◌, Option, Some, None}
-use Rattle.si_semantics.specs.Value.{Text, Nothing, Truth, Int, Str, Provided, Function}
-use Rattle.si_semantics.specs.Tree.{BinaryOperator, Add, Subtract, Multiply, FloorDivide, Modulo, Power, BitOr, BitXor, BitAnd, ShiftLeft, ShiftRight, UnaryOperator, ComparisonOperator, BooleanOperator, Expr, Constant, Name, Unary, Binary, Call, Boolean, Compare, Conditional, Exprs, NoExprs, MoreExprs, Comparisons, NoComparisons, MoreComparisons, Stmt, Evaluate, Assign, Augment, Pass, If, While, Break, Continue, Define, Return, Global, Stmts, NoStmts, MoreStmts}
+use Rattle.si_semantics.specs.Value.{Text, Nothing, Truth, Int, Str, Provided, Function, Range, Class, Address}
+use Rattle.si_semantics.specs.Tree.{BinaryOperator, Add, Subtract, Multiply, FloorDivide, Modulo, Power, BitOr, BitXor, BitAnd, ShiftLeft, ShiftRight, UnaryOperator, ComparisonOperator, BooleanOperator, Expr, Constant, Name, Unary, Binary, Call, Boolean, Compare, Conditional, Exprs, NoExprs, MoreExprs, Comparisons, NoComparisons, MoreComparisons, Stmt, Evaluate, Assign, Augment, Pass, If, While, For, Break, Continue, Define, Return, Global, Raise, Try, Finally, Stmts, NoStmts, MoreStmts, Clauses, NoClauses, MoreClauses}
 use Rattle.si_semantics.specs.Tree as tree
 use Rattle.si_semantics.specs.Scope.{are_distinct}
 use Rattle.si_semantics.specs.Tokens.{Symbol, Keyword, TokenKind, Token}
@@ -228,6 +228,9 @@ Produces E l (Constant Nothing) ts = ts ≡ Word token.NoneWord ∷ []
 Produces E l (Constant (Truth b)) ts = ts ≡ Word (truth_word b) ∷ []
 Produces E l (Constant (Provided b)) ts = ⊥
 Produces E l (Constant (Function x k)) ts = ⊥
+Produces E l (Constant (Range a b c)) ts = ⊥
+Produces E l (Constant (Class k)) ts = ⊥
+Produces E l (Constant (Address x)) ts = ⊥
 -- factor: ('+' | '-' | '~') factor; inversion: 'not' inversion
 Produces E l (Unary op a) ts = (f : List Terminal) × (ts ≡ prefix_of op ∷ f) × (l ≤ prefix_level op) × E (prefix_level op) a f
 -- bitor: bitor '|' bitxor; bitxor: bitxor '^' bitand; bitand: bitand '&' shift; shift: shift ('<<' | '>>') sum;
@@ -291,7 +294,7 @@ Names [] ts = ⊥
 Names (x ∷ xs) ts = (f : List Terminal) × (ts ≡ NAME x ∷ f) × Many (Behind (Sign token.Comma) IsName) xs f
 
 -- small: expression | NAME '=' expression | NAME augmented expression | 'pass' | 'break' | 'continue' | 'return' [expression]
--- | 'global' NAME { ',' NAME }, where brackets may stand round the name that is assigned to
+-- | 'global' NAME { ',' NAME } | 'raise' [expression], where brackets may stand round the name that is assigned to
 abbrev pub Small : Stmt → List Terminal → Type 0
 Small (Evaluate e) ts = IsExpression e ts
 Small (Assign x e) ts = (f : List Terminal) × (g : List Terminal) × (ts ≡ f ++ Sign token.Equal ∷ g) × IsExpression (Name x) f × IsExpression e g
@@ -303,9 +306,14 @@ Small Continue ts = ts ≡ Word token.ContinueWord ∷ []
 Small (Return None) ts = ts ≡ Word token.ReturnWord ∷ []
 Small (Return (Some e)) ts = Behind (Word token.ReturnWord) IsExpression e ts
 Small (Global xs) ts = Behind (Word token.GlobalWord) Names xs ts
+Small (Raise None) ts = ts ≡ Word token.RaiseWord ∷ []
+Small (Raise (Some e)) ts = Behind (Word token.RaiseWord) IsExpression e ts
 Small (Define x ps body) ts = ⊥
 Small (If test body other) ts = ⊥
 Small (While test body other) ts = ⊥
+Small (For x over body other) ts = ⊥
+Small (Try body cs other) ts = ⊥
+Small (Finally body cs other last) ts = ⊥
 
 -- simple: small { ';' small } [';'] NEWLINE
 abbrev pub Simple : List Stmt → List Terminal → Type 0
@@ -346,6 +354,39 @@ abbrev pub elifs_of : List Branch → Stmts → Stmts
 elifs_of [] last = last
 elifs_of (b ∷ more) last = MoreStmts (If b.0 b.1 (elifs_of more last)) NoStmts
 
+-- an except clause: its expression, or none, the name that it binds, or none, and its suite
+abbrev pub Clause : Type 0
+Clause = Option Expr × Option Text × Stmts
+
+abbrev pub clauses_of : List Clause → Clauses
+clauses_of [] = NoClauses
+clauses_of (c ∷ cs) = MoreClauses c.0 c.1 c.2 (clauses_of cs)
+
+abbrev pub clause_list : Clauses → List Clause
+clause_list NoClauses = []
+clause_list (MoreClauses a y b cs) = (a, y, b) ∷ clause_list cs
+
+-- except: 'except' [ expression ['as' NAME] ] suite
+abbrev pub Excepts : Lines → Clause → List Terminal → Type 0
+Excepts L (None, None, body) ts = Behind (Word token.ExceptWord) (Suite L) body ts
+Excepts L (None, Some y, body) ts = ⊥
+Excepts L (Some e, None, body) ts = Behind (Word token.ExceptWord) (Tested L) (e, body) ts
+Excepts L (Some e, Some y, body) ts =
+    (f : List Terminal) × (g : List Terminal) × (ts ≡ Word token.ExceptWord ∷ (f ++ Word token.AsWord ∷ (NAME y ∷ g))) × IsExpression e f × Suite L body g
+
+-- a bare `except` stands last (8.4.1)
+abbrev pub bare_is_last : List Clause → Bool
+bare_is_last [] = true
+bare_is_last (c ∷ []) = true
+bare_is_last ((None, y, b) ∷ d ∷ cs) = false
+bare_is_last ((Some e, y, b) ∷ d ∷ cs) = bare_is_last (d ∷ cs)
+
+-- { except } ['else' suite], the else suite behind an except clause alone
+abbrev pub Handlers : Lines → List Clause → Stmts → List Terminal → Type 0
+Handlers L [] other ts = (other ≡ NoStmts) × (ts ≡ [])
+Handlers L (c ∷ cs) other ts =
+    (f : List Terminal) × (g : List Terminal) × (ts ≡ f ++ g) × Many (Excepts L) (c ∷ cs) f × (bare_is_last (c ∷ cs) ≡ true) × Otherwise L other g
+
 -- the most parameters of a function (this project's own)
 abbrev pub max_parameters : ℕ
 max_parameters = 255
@@ -356,8 +397,21 @@ Compound L (If test body other) ts =
     (elifs : List Branch) × (last : Stmts) × (f : List Terminal) × (g : List Terminal) × (h : List Terminal)
     × (ts ≡ Word token.IfWord ∷ (f ++ (g ++ h))) × (other ≡ elifs_of elifs last)
     × Tested L (test, body) f × Many (Behind (Word token.ElifWord) (Tested L)) elifs g × Otherwise L last h
--- while: 'while' expression suite
-Compound L (While test body other) ts = (other ≡ NoStmts) × Behind (Word token.WhileWord) (Tested L) (test, body) ts
+-- while: 'while' expression suite ['else' suite]
+Compound L (While test body other) ts =
+    (f : List Terminal) × (g : List Terminal) × (ts ≡ Word token.WhileWord ∷ (f ++ g)) × Tested L (test, body) f × Otherwise L other g
+-- for: 'for' target 'in' expression suite ['else' suite], where brackets may stand round the name that is the target
+Compound L (For x over body other) ts =
+    (f : List Terminal) × (g : List Terminal) × (h : List Terminal)
+    × (ts ≡ Word token.ForWord ∷ (f ++ Word token.InWord ∷ (g ++ h))) × Spells max_depth 18 (Name x) f × Tested L (over, body) g × Otherwise L other h
+-- try: 'try' suite except { except } ['else' suite]
+Compound L (Try body cs other) ts =
+    (f : List Terminal) × (g : List Terminal)
+    × (ts ≡ Word token.TryWord ∷ (f ++ g)) × Suite L body f × (0 < length (clause_list cs)) × Handlers L (clause_list cs) other g
+-- | 'try' suite { except } ['else' suite] 'finally' suite
+Compound L (Finally body cs other last) ts =
+    (f : List Terminal) × (g : List Terminal) × (h : List Terminal)
+    × (ts ≡ Word token.TryWord ∷ (f ++ (g ++ Word token.FinallyWord ∷ h))) × Suite L body f × Handlers L (clause_list cs) other g × Suite L last h
 -- def: 'def' NAME '(' [ NAME { ',' NAME } [','] ] ')' suite
 Compound L (Define x ps body) ts =
     (f : List Terminal) × (g : List Terminal)
@@ -366,7 +420,7 @@ Compound L (Define x ps body) ts =
 Compound L _ ts = ⊥
 
 -- The tokens of a line, in which compound statements are nested this deep at most.
--- line: simple | if | while | def
+-- line: simple | if | while | for | try | def
 abbrev pub Nests : ℕ → Lines
 Nests zero ss ts = Simple ss ts
 Nests (suc n) ss ts = Simple ss ts ⊎ ((s : Stmt) × (ss ≡ s ∷ []) × Compound (Nests n) s ts)
@@ -420,7 +474,15 @@ abbrev mutual
   IsShallow (Define x ps body) = (length ps ≤ max_parameters) × AreShallow body
   IsShallow (Return a) = depth_of_value a ≤ max_depth
   IsShallow (Global xs) = Unit {0}
+  IsShallow (For x over body other) = (depth_of over ≤ max_depth) × AreShallow body × AreShallow other
+  IsShallow (Raise a) = depth_of_value a ≤ max_depth
+  IsShallow (Try body cs other) = AreShallow body × ClausesAreShallow cs × AreShallow other
+  IsShallow (Finally body cs other last) = AreShallow body × ClausesAreShallow cs × AreShallow other × AreShallow last
 
   pub AreShallow : Stmts → Type 0
   AreShallow NoStmts = Unit {0}
   AreShallow (MoreStmts s ss) = IsShallow s × AreShallow ss
+
+  pub ClausesAreShallow : Clauses → Type 0
+  ClausesAreShallow NoClauses = Unit {0}
+  ClausesAreShallow (MoreClauses a y b cs) = (depth_of_value a ≤ max_depth) × AreShallow b × ClausesAreShallow cs

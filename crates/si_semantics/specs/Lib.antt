@@ -12,6 +12,10 @@ pub mod Shows
 pub mod Report
 pub mod Cases
 pub mod FunctionCases
+pub mod Scripts
+pub mod ExceptionCases
+pub mod FinallyCases
+pub mod ItemCases
 pub mod ScopeCases
 pub mod Laws
 pub mod Literals

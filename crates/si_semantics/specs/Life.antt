@@ -1,9 +1,9 @@
 -- The life of an interpreter: one function of the answers that it is given (this project's own).
-use Rattle.std.specs.Prelude.{codes, ℕ, zero, suc, ◌+◌, List, [], ◌∷◌, ◌++◌, length, Some, None}
+use Rattle.std.specs.Prelude.{codes, ℕ, zero, suc, ◌+◌, List, [], ◌∷◌, ◌++◌, length, Option, Some, None, slice_get}
 use Rattle.si_plain.specs.declared.kind.Kind.{Kind}
-use Rattle.si_plain.specs.declared.kind.Kind.TheVariants.{SyntaxError}
-use Rattle.si_semantics.specs.Value.{Text, Thrown}
-use Rattle.si_semantics.specs.Text.{message_of}
+use Rattle.si_plain.specs.declared.kind.Kind.TheVariants.{BaseException, SyntaxError}
+use Rattle.si_semantics.specs.Value.{Text, Address, Object, Exception}
+use Rattle.si_semantics.specs.Text.{str_in, message_of}
 use Rattle.si_semantics.specs.World.{World, Request, Bind, Run, Closing, Answer, Taken, Done, bind_all, first_world}
 use Rattle.si_semantics.specs.Tree.{Function, Stmts, functions_in}
 use Rattle.si_semantics.specs.Meaning.{State, Leave, Raises, Returns, Breaks, Continues, Result, Gives, Leaves, Asks, Cut, Meaning, Scope, visit, stmts, call, max_calls}
@@ -25,9 +25,14 @@ pub data Told : Type 0 where
   IsGone : State → Told
   IsCut : State → Told
 
+-- the kind of an object that is an exception
+abbrev pub kind_of : Option Object → Kind
+kind_of (Some (Exception k a)) = k
+kind_of None = BaseException
+
 -- the outcome of a run that was left; `return` stands in functions alone and `break` and `continue` in loops (Language Reference, 7.6, 7.9 and 7.10), and leave no run
 abbrev pub outcome_of : Leave → World → Outcome
-outcome_of (Raises (Thrown k a)) w = Raised k (message_of (Thrown k a))
+outcome_of (Raises x) w = Raised (kind_of (slice_get w.store x)) (message_of (str_in w.store (Address x)))
 outcome_of (Returns v) w = Returned
 outcome_of Breaks w = Returned
 outcome_of Continues w = Returned

@@ -1,11 +1,11 @@
 -- What a tree means (Python Language Reference 3.14, 6 to 8): no program counter, no frame, no stack.
 use Rattle.std.specs.Prelude.{ℕ, zero, suc, ◌+◌, List, [], ◌∷◌, ◌++◌, ◌-◌, length, Bool, true, false, not, Option, Some, None, nat_eq, slice_get, slice_set}
-use Rattle.si_semantics.specs.Value.{Text, Value, Nothing, Function, Exception}
-use Rattle.si_semantics.specs.Tree.{BooleanOperator, And, Or, Expr, Constant, Name, Unary, Binary, Call, Boolean, Compare, Conditional, Exprs, NoExprs, MoreExprs, Comparisons, NoComparisons, MoreComparisons, Stmt, Evaluate, Assign, Augment, Pass, If, While, Break, Continue, Define, Return, Global, Stmts, NoStmts, MoreStmts, functions_of, functions_in}
+use Rattle.si_semantics.specs.Value.{Text, Value, Nothing, Function, Address}
+use Rattle.si_semantics.specs.Tree.{BooleanOperator, And, Or, Expr, Constant, Name, Unary, Binary, Call, Boolean, Compare, Conditional, Exprs, NoExprs, MoreExprs, Comparisons, NoComparisons, MoreComparisons, Stmt, Evaluate, Assign, Augment, Pass, If, While, For, Break, Continue, Define, Return, Global, Raise, Try, Finally, Stmts, NoStmts, MoreStmts, Clauses, NoClauses, MoreClauses, functions_of, functions_in, functions_in_clauses}
 use Rattle.si_semantics.specs.Tree as tree
 use Rattle.si_semantics.specs.Scope.{place_of, locals_of}
-use Rattle.si_semantics.specs.World.{World, Request, Answer, Got, Failed, Wants, Ran, Gave, Threw, Asked, set_global}
-use Rattle.si_semantics.specs.Operations.{exception, operate, operate_unary, is_true, compare, load_global, load_local, call_provided, call_by_name, not_callable, wrong_arguments, too_deep, reply}
+use Rattle.si_semantics.specs.World.{World, Request, Answer, Got, Failed, Wants, Ran, Gave, Threw, Asked, set_global, unset_global}
+use Rattle.si_semantics.specs.Operations.{exception, operate, operate_unary, is_true, compare, load_global, load_local, call_provided, call_by_name, not_callable, wrong_arguments, too_deep, type_error, raised_by, raised_again, catches, Iterator, iterator_of, next_item, reply}
 
 -- a printed text, and its number: the visits begun before it
 pub record Piece : Type 0 where
@@ -20,9 +20,9 @@ pub record State : Type 0 where
   pub visits : ℕ
   pub pieces : List Piece
 
--- how a suite is left other than at its end (Language Reference, 4.3)
+-- how a suite is left other than at its end (Language Reference, 4.3): by an exception, told by its address, and so on
 pub data Leave : Type 0 where
-  Raises : Exception → Leave
+  Raises : ℕ → Leave
   Returns : Value → Leave
   Breaks : Leave
   Continues : Leave
@@ -38,20 +38,24 @@ pub data Result (A : Type 0) : Type 0 where
 abbrev pub Meaning : Type 0 → Type 0
 Meaning A = State → Result A
 
--- what a suite's evaluation is given: the names that are local, the number of the next function that it defines, the active exception,
--- the most turns of a loop, and what a call of the function of a number means
+-- what a suite's evaluation is given: the names that are local, the number of the next function that it defines, the innermost active
+-- exception (Language Reference, 7.8), the most turns of a loop, and what a call of the function of a number means, with that exception active
 pub record Scope : Type 0 where
   pub locals : List Text
   pub first : ℕ
-  pub active : Option Exception
+  pub active : Option ℕ
   pub turns : ℕ
-  pub call : ℕ → List Value → Meaning Value
+  pub call : Option ℕ → ℕ → List Value → Meaning Value
 
 -- the same behind so many functions
 abbrev pub behind : List tree.Function → Scope → Scope
 behind fs e = record e { first = e.first + length fs }
 
--- the evaluation of a statement, an expression or a target begins, or a turn of a loop
+-- the same with this exception active, or none
+abbrev pub with_active : Option ℕ → Scope → Scope
+with_active x e = record e { active = x }
+
+-- the evaluation of a statement, an expression or a target begins, or a turn of a loop, or the test of an except clause
 abbrev pub visit : State → State
 visit s = record s { visits = s.visits + 1 }
 
@@ -68,7 +72,7 @@ printed None s = s
 printed (Some t) s = record s { pieces = s.pieces ++ record { text = t; number = s.visits } ∷ [] }
 
 -- an exception is raised
-abbrev pub raised : {A : Type 0} → Exception × World → Meaning A
+abbrev pub raised : {A : Type 0} → ℕ × World → Meaning A
 raised x s = Leaves (Raises x.0) (record s { world = x.1 })
 
 -- a request, under the answers that are left
@@ -101,9 +105,14 @@ abbrev pub assign : Text → Option ℕ → Value → Meaning (Unit {0})
 assign x None v s = Gives tt (record s { world = set_global x v s.world })
 assign x (Some k) v s = Gives tt (record s { slots = slice_set s.slots k (Some v) })
 
+-- a name is unbound, where it is bound (Language Reference, 8.4.1)
+abbrev pub unassign : Text → Option ℕ → Meaning (Unit {0})
+unassign x None s = Gives tt (record s { world = unset_global x s.world })
+unassign x (Some k) s = Gives tt (record s { slots = slice_set s.slots k None })
+
 -- a call of a value with its arguments, some of them perhaps by name (Language Reference, 6.3.4)
 abbrev pub calls : Scope → Value → List Value → List Text → Meaning Value
-calls e (Function f k) vs [] s = e.call k vs s
+calls e (Function f k) vs [] s = e.call e.active k vs s
 calls e g vs [] s = ran (call_provided g vs s.world) s
 calls e g vs (x ∷ names) s = ran (call_by_name g s.world) s
 
@@ -165,10 +174,59 @@ abbrev pub loop : ℕ → Meaning Value → Meaning (Unit {0}) → Meaning (Unit
 loop zero test body last s = Cut s
 loop (suc n) test body last s = then (test (visit s)) (λ t s1. choose (is_true t) (after_turn (body s1) (loop n test body last)) (last s1))
 
+-- a loop over items, of at most n turns; to ask for an item is a turn, also where there is none (Language Reference, 8.3)
+abbrev pub for_loop : ℕ → (Value → Meaning (Unit {0})) → Meaning (Unit {0}) → Meaning (Unit {0}) → Iterator → Meaning (Unit {0})
+for_loop zero put body last it s = Cut s
+for_loop (suc n) put body last it s =
+    elim (next_item it) [
+      | None ↦ last (visit s)
+      | Some p ↦ then (put p.0 (visit s)) (λ u s1. after_turn (body s1) (for_loop n put body last p.1))
+    ]
+
+-- what can be gone over, else an exception (Language Reference, 8.3)
+abbrev pub over : Option Iterator → (Iterator → Meaning (Unit {0})) → Meaning (Unit {0})
+over None f s = raised (type_error s.world) s
+over (Some it) f s = f it s
+
 -- `return` with the value of its expression, or with None (Language Reference, 7.6)
 abbrev pub returning : Scope → Option Expr → Meaning (Unit {0})
 returning e None s = Leaves (Returns Nothing) s
 returning e (Some a) s = then (expr e a s) (λ v s1. Leaves (Returns v) s1)
+
+-- `raise` with the value of its expression, or the active exception again (Language Reference, 7.8)
+abbrev pub raising : Scope → Option Expr → Meaning (Unit {0})
+raising e None s = raised (raised_again e.active s.world) s
+raising e (Some a) s = then (expr e a s) (λ v s1. raised (raised_by v s1.world) s1)
+
+-- an exception goes to the except clauses, and what comes to its end to the else suite (Language Reference, 8.4)
+abbrev pub caught : Result (Unit {0}) → (ℕ → Meaning (Unit {0})) → Meaning (Unit {0}) → Result (Unit {0})
+caught (Gives u s) handle last = last s
+caught (Leaves (Raises x) s) handle last = handle x s
+caught (Leaves (Returns v) s) handle last = Leaves (Returns v) s
+caught (Leaves Breaks s) handle last = Leaves Breaks s
+caught (Leaves Continues s) handle last = Leaves Continues s
+caught (Asks r s) handle last = Asks r s
+caught (Cut s) handle last = Cut s
+
+-- the exception that enters a finally suite is active in it
+abbrev pub active_in : Leave → Option ℕ → Option ℕ
+active_in (Raises x) old = Some x
+active_in (Returns v) old = old
+active_in Breaks old = old
+active_in Continues old = old
+
+-- a finally suite, which is given the active exception; at its end what was left is left (Language Reference, 8.4.4)
+abbrev pub finally : Option ℕ → Result (Unit {0}) → (Option ℕ → Meaning (Unit {0})) → Result (Unit {0})
+finally old (Gives u s) last = last old s
+finally old (Leaves p s) last = then (last (active_in p old) s) (λ u s1. Leaves p s1)
+finally old (Asks r s) last = Asks r s
+finally old (Cut s) last = Cut s
+
+-- the suite of an except clause, with a name for the exception; the name is unbound in whatever way the suite is left (Language Reference, 8.4.1)
+abbrev pub named : Scope → Option Text → ℕ → Meaning (Unit {0}) → Meaning (Unit {0})
+named e None x suite s = suite s
+named e (Some y) x suite s =
+    then (assign y (place_of y e.locals) (Address x) s) (λ u s1. finally e.active (suite s1) (λ active s2. unassign y (place_of y e.locals) s2))
 
 abbrev mutual
   -- a statement (Language Reference, 7 and 8): of an assignment the right side first, then its target; of an augmented one the target, its value, the right side, the operation, and then the name is bound (7.2.1);
@@ -181,16 +239,33 @@ abbrev mutual
   stmt e Pass s = Gives tt (visit s)
   stmt e (If a b c) s = then (expr e a (visit s)) (λ t s1. choose (is_true t) (stmts e b s1) (stmts (behind (functions_in b) e) c s1))
   stmt e (While a b c) s = loop e.turns (expr e a) (stmts e b) (stmts (behind (functions_in b) e) c) (visit s)
+  stmt e (For x a b c) s =
+      then (expr e a (visit s)) (λ v s1. over (iterator_of v) (for_loop e.turns (λ u s2. assign x (place_of x e.locals) u (visit s2)) (stmts e b) (stmts (behind (functions_in b) e) c)) s1)
   stmt e Break s = Leaves Breaks (visit s)
   stmt e Continue s = Leaves Continues (visit s)
   stmt e (Define f ps b) s = assign f (place_of f e.locals) (Function f e.first) (visit s)
   stmt e (Return a) s = returning e a (visit s)
   stmt e (Global xs) s = Gives tt (visit s)
+  stmt e (Raise a) s = raising e a (visit s)
+  stmt e (Try b cs c) s =
+      caught (stmts e b (visit s)) (λ x. clauses (behind (functions_in b) (with_active (Some x) e)) cs x) (stmts (behind (functions_in b ++ functions_in_clauses cs) e) c)
+  stmt e (Finally b cs c f) s =
+      finally e.active
+      (caught (stmts e b (visit s)) (λ x. clauses (behind (functions_in b) (with_active (Some x) e)) cs x) (stmts (behind (functions_in b ++ functions_in_clauses cs) e) c))
+      (λ active. stmts (behind (functions_in b ++ (functions_in_clauses cs ++ functions_in c)) (with_active active e)) f)
 
   -- statements in a row
   pub stmts : Scope → Stmts → Meaning (Unit {0})
   stmts e NoStmts s = Gives tt s
   stmts e (MoreStmts a b) s = then (stmt e a s) (λ u s1. stmts (behind (functions_of a) e) b s1)
+
+  -- the except clauses for an exception: the suite of the first that matches, those behind it are not looked at; a bare one matches each (Language Reference, 8.4.1)
+  pub clauses : Scope → Clauses → ℕ → Meaning (Unit {0})
+  clauses e NoClauses x s = Leaves (Raises x) s
+  clauses e (MoreClauses None y b cs) x s = named e y x (stmts e b) (visit s)
+  clauses e (MoreClauses (Some a) y b cs) x s =
+      then (expr e a (visit s))
+      (λ v s1. then (ran (catches v x s1.world) s1) (λ t s2. choose (is_true t) (named e y x (stmts e b) s2) (clauses (behind (functions_in b) e) cs x s2)))
 
 -- ---- calls
 
@@ -224,15 +299,15 @@ abbrev pub fitting : Option tree.Function → List Value → (tree.Function → 
 fitting None vs go s = ran (not_callable s.world) s
 fitting (Some f) vs go s = choose (nat_eq (length vs) (length f.parameters)) (go f s) (ran (wrong_arguments s.world) s)
 
--- the suite of a function runs, with its own locals
-abbrev pub run_body : ℕ → (ℕ → List Value → Meaning Value) → tree.Function → List Value → Meaning Value
-run_body n calling f vs s =
-    returned s.slots (stmts (record { locals = locals_of f; first = 0; active = None; turns = n; call = calling }) f.body (record s { slots = entered (length (locals_of f)) vs }))
+-- the suite of a function runs, with its own locals; what is active where it is called is active in it (Language Reference, 7.8)
+abbrev pub run_body : ℕ → (Option ℕ → ℕ → List Value → Meaning Value) → tree.Function → Option ℕ → List Value → Meaning Value
+run_body n calling f active vs s =
+    returned s.slots (stmts (record { locals = locals_of f; first = 0; active = active; turns = n; call = calling }) f.body (record s { slots = entered (length (locals_of f)) vs }))
 
 -- what a call means of the function of a number among these, where calls are at most so many within each other
-abbrev pub call : List tree.Function → (turns depth : ℕ) → ℕ → List Value → Meaning Value
-call fs n zero k vs s = fitting (slice_get fs k) vs (λ f s1. ran (too_deep s1.world) s1) s
-call fs n (suc d) k vs s = fitting (slice_get fs k) vs (λ f s1. run_body n (call fs n d) f vs s1) s
+abbrev pub call : List tree.Function → (turns depth : ℕ) → Option ℕ → ℕ → List Value → Meaning Value
+call fs n zero active k vs s = fitting (slice_get fs k) vs (λ f s1. ran (too_deep s1.world) s1) s
+call fs n (suc d) active k vs s = fitting (slice_get fs k) vs (λ f s1. run_body n (call fs n d) f active vs s1) s
 
 -- the most calls within each other (this project's own)
 abbrev pub max_calls : ℕ

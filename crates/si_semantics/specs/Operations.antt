@@ -1,16 +1,18 @@
--- What operations on values do (Python Language Reference 3.14, 6.5 to 6.10). They never see answers.
-use Rattle.std.specs.Prelude.{codes, ℕ, zero, suc, ◌*◌, ℤ, pos, negsuc, int_lt, int_le, List, [], ◌∷◌, ◌++◌, length, Bool, true, false, not, ◌&&◌, ◌||◌, Option, Some, None, option_map, Result, Ok, Err, nat_lt, nat_eq, if◌then◌else◌}
+-- What operations on values do (Python Language Reference 3.14, 6.5 to 6.10, 7.8, 8.3 and 8.4). They never see answers.
+use Rattle.std.specs.Prelude.{codes, ℕ, zero, suc, ◌+◌, ◌-◌, ◌*◌, ◌/◌, ◌-ℤ◌, ℤ, pos, negsuc, unsigned_abs, int_lt, List, [], ◌∷◌, ◌++◌, length, Bool, true, false, not, ◌&&◌, ◌||◌, Option, Some, None, option_map, Result, Ok, Err, nat_lt, nat_eq, slice_get, if◌then◌else◌}
 use Rattle.si_plain.specs.declared.kind.Kind.{Kind}
-use Rattle.si_plain.specs.declared.kind.Kind.TheVariants.{TypeError, ValueError, NameError, UnboundLocalError, RecursionError, OverflowError, ZeroDivisionError}
+use Rattle.si_plain.specs.declared.kind.Kind.TheVariants.{BaseException, Exception, ArithmeticError, OverflowError, ZeroDivisionError, AttributeError, LookupError, IndexError, KeyError, NameError, UnboundLocalError, RuntimeError, RecursionError, SyntaxError, TypeError, ValueError}
+use Rattle.si_plain.specs.Kinds.{name_of, same_kind, is_a}
 use Rattle.si_plain.specs.Integers.{sum_of, difference_of, product_of, floor_quotient, floor_remainder, power_result, negative_of, shifted_left, shifted_right, inverted, bits_and, bits_or, bits_xor}
-use Rattle.si_semantics.specs.Value.{Text, Value, Nothing, Truth, Int, Str, Provided, Function, BuiltIn, Print, Exception, Thrown}
+use Rattle.si_semantics.specs.Value.{Text, Value, Nothing, Truth, Int, Str, Provided, Function, Range, Class, Address, BuiltIn, Print, MakeRange, MakeStr, Repr, Object}
+use Rattle.si_semantics.specs.Value as value
 use Rattle.si_semantics.specs.Tree.{BinaryOperator, Add, Subtract, Multiply, FloorDivide, Modulo, Power, BitOr, BitXor, BitAnd, ShiftLeft, ShiftRight, UnaryOperator, Plus, Minus, Invert, Not, ComparisonOperator, Less, Greater, LessEqual, GreaterEqual, Equal, NotEqual, Is, IsNot}
-use Rattle.si_semantics.specs.Text.{max_length, same_text, line_of}
+use Rattle.si_semantics.specs.Text.{max_length, same_text, same_int, str_in, repr_in, line_of}
 use Rattle.si_semantics.specs.World.{World, Request, Answer, Ran, Gave, Threw, Replied}
 
--- the exception of a kind with an argument, and the world with it (Language Reference, 8.4; 3.2)
-abbrev pub exception : Kind → Option Value → World → Exception × World
-exception k a w = (Thrown k a, w)
+-- a new exception of a kind with an argument, by its address, and the world with it
+abbrev pub exception : Kind → Option Value → World → ℕ × World
+exception k a w = (length w.store, record w { store = w.store ++ value.Exception k a ∷ [] })
 
 -- a value, and nothing is printed
 abbrev pub gave : Value → World → Ran
@@ -102,12 +104,23 @@ operate Multiply (Int i) (Str t) w = repeated t i w
 operate Multiply (Truth a) (Str t) w = repeated t (int_of_truth a) w
 operate _ _ _ w = wrong_type w
 
+-- an item of a range lies before its stop, the way that the step goes (Standard Library, "Built-in Types": ranges)
+abbrev pub is_item : (at stop step : ℤ) → Bool
+is_item at stop (pos c) = int_lt at stop
+is_item at stop (negsuc c) = int_lt stop at
+
+-- how many items a range has: those from its start on, a step apart, before its stop
+abbrev pub range_length : (start stop step : ℤ) → ℕ
+range_length a b (pos c) = if int_lt a b then (unsigned_abs (b -ℤ a) - 1) / c + 1 else 0
+range_length a b (negsuc c) = if int_lt b a then (unsigned_abs (a -ℤ b) - 1) / (c + 1) + 1 else 0
+
 -- whether a value counts as true (Standard Library, "Built-in Types": truth value testing)
 abbrev pub is_true : Value → Bool
 is_true Nothing = false
 is_true (Truth b) = b
 is_true (Int (pos zero)) = false
 is_true (Str []) = false
+is_true (Range a b c) = is_item a b c
 is_true _ = true
 
 -- an operator before a value (Language Reference, 6.6; `not`: 6.11)
@@ -131,12 +144,18 @@ is_before (c ∷ cs) (d ∷ ds) = nat_lt c d || (nat_eq c d && is_before cs ds)
 -- two built-ins have one name
 abbrev pub same_built_in : BuiltIn → BuiltIn → Bool
 same_built_in Print Print = true
+same_built_in MakeRange MakeRange = true
+same_built_in MakeStr MakeStr = true
+same_built_in Repr Repr = true
+same_built_in _ _ = false
 
--- integers are equal
-abbrev pub same_int : ℤ → ℤ → Bool
-same_int i j = int_le i j && int_le j i
+-- two ranges have the same items (Standard Library, "Built-in Types": ranges)
+abbrev pub same_range : (a b c d e f : ℤ) → Bool
+same_range a b c d e f =
+    let n = range_length a b c in nat_eq n (range_length d e f) && (nat_eq n 0 || (same_int a d && (nat_eq n 1 || same_int c f)))
 
--- `==`: integers, True and False by their values, str by their characters, built-ins by name, None is equal to itself;
+-- `==`: integers, True and False by their values, str by their characters, ranges by their items, built-ins and kinds by name, exceptions
+-- by address, None is equal to itself;
 -- what is of different kinds is unequal (Language Reference, 6.10.1); of two functions there is no answer (this project's own)
 abbrev pub are_equal : Value → Value → Option Bool
 are_equal Nothing Nothing = Some true
@@ -147,6 +166,9 @@ are_equal (Truth a) (Truth b) = Some (not (differ a b))
 are_equal (Str s) (Str t) = Some (same_text s t)
 are_equal (Provided f) (Provided g) = Some (same_built_in f g)
 are_equal (Function f k) (Function g l) = None
+are_equal (Range a b c) (Range d e f) = Some (same_range a b c d e f)
+are_equal (Class k) (Class l) = Some (same_kind k l)
+are_equal (Address x) (Address y) = Some (nat_eq x y)
 are_equal _ _ = Some false
 
 -- `is`: None, True and False are each itself and nothing else (Language Reference, 6.10.3); the grammar lets nothing else stand behind it
@@ -180,9 +202,25 @@ compare NotEqual u v w = truth (option_map not (are_equal u v)) w
 compare Is u v w = gave (Truth (is_same u v)) w
 compare IsNot u v w = gave (Truth (not (is_same u v))) w
 
+-- the kinds that have built-in names (Standard Library, "Built-in Exceptions")
+abbrev pub built_in_kinds : List Kind
+built_in_kinds =
+    BaseException ∷ Exception ∷ ArithmeticError ∷ OverflowError ∷ ZeroDivisionError ∷ AttributeError ∷ LookupError ∷ IndexError ∷ KeyError ∷ NameError
+    ∷ UnboundLocalError ∷ RuntimeError ∷ RecursionError ∷ SyntaxError ∷ TypeError ∷ ValueError ∷ []
+
+-- the kind of a name among these
+abbrev pub kind_named : Text → List Kind → Option Kind
+kind_named x [] = None
+kind_named x (k ∷ ks) = if same_text x (name_of k) then Some k else kind_named x ks
+
 -- the value of a built-in name (Language Reference, 4.2.2)
 abbrev pub built_in : Text → Option Value
-built_in x = if same_text x (codes "print") then Some (Provided Print) else None
+built_in x =
+    if same_text x (codes "print") then Some (Provided Print)
+    else (if same_text x (codes "range") then Some (Provided MakeRange)
+    else (if same_text x (codes "str") then Some (Provided MakeStr)
+    else (if same_text x (codes "repr") then Some (Provided Repr)
+    else option_map Class (kind_named x built_in_kinds))))
 
 -- the first of two that is there
 abbrev pub or_else : Option Value → Option Value → Option Value
@@ -215,20 +253,120 @@ not_callable w = refused TypeError (codes "not callable") w
 abbrev pub too_deep : World → Ran
 too_deep w = refused RecursionError (codes "too deep") w
 
--- a call of a built-in (Standard Library, "Built-in Functions": print)
+-- the message about a text that can't be written (this project's own)
+abbrev pub text_message : Kind → Text
+text_message RecursionError = codes "too deep"
+text_message _ = codes "too long"
+
+-- a str that was written, or why it can't be
+abbrev pub text : Result Text Kind → World → Ran
+text (Ok t) w = gave (Str t) w
+text (Err k) w = refused k (text_message k) w
+
+-- a line that is printed, or why it can't be
+abbrev pub printing : Result Text Kind → World → Ran
+printing (Ok t) w = Gave Nothing (Some t) w
+printing (Err k) w = refused k (text_message k) w
+
+-- an integer, or what True and False count as
+abbrev pub integer_in : Value → Option ℤ
+integer_in (Int i) = Some i
+integer_in (Truth b) = Some (int_of_truth b)
+integer_in _ = None
+
+-- a range from integers, whose step is not 0 (Standard Library, "Built-in Types": ranges; the message is this project's own)
+abbrev pub range_of : (start stop step : Option ℤ) → World → Ran
+range_of (Some a) (Some b) (Some (pos zero)) w = refused ValueError (codes "wrong value") w
+range_of (Some a) (Some b) (Some c) w = gave (Range a b c) w
+range_of _ _ _ w = wrong_type w
+
+-- a call of a built-in (Standard Library, "Built-in Functions": print, range, str, repr)
 abbrev pub call_built_in : BuiltIn → List Value → World → Ran
-call_built_in Print vs w = Gave Nothing (Some (line_of vs)) w
+call_built_in Print vs w = printing (line_of w.store vs) w
+call_built_in MakeRange (b ∷ []) w = range_of (Some (pos 0)) (integer_in b) (Some (pos 1)) w
+call_built_in MakeRange (a ∷ b ∷ []) w = range_of (integer_in a) (integer_in b) (Some (pos 1)) w
+call_built_in MakeRange (a ∷ b ∷ c ∷ []) w = range_of (integer_in a) (integer_in b) (integer_in c) w
+call_built_in MakeStr (v ∷ []) w = text (str_in w.store v) w
+call_built_in Repr (v ∷ []) w = text (repr_in w.store v) w
+call_built_in _ _ w = wrong_arguments w
+
+-- a new exception as a value
+abbrev pub made : ℕ × World → Ran
+made x = gave (Address x.0) x.1
+
+-- a call of a kind: an exception with an argument or without one (Standard Library, "Built-in Exceptions")
+abbrev pub call_kind : Kind → List Value → World → Ran
+call_kind k [] w = made (exception k None w)
+call_kind k (v ∷ []) w = made (exception k (Some v) w)
+call_kind k _ w = wrong_arguments w
 
 -- a call of a value that is no function of a script, with its arguments (Language Reference, 6.3.4)
 abbrev pub call_provided : Value → List Value → World → Ran
 call_provided (Provided b) vs w = call_built_in b vs w
+call_provided (Class k) vs w = call_kind k vs w
 call_provided _ vs w = not_callable w
 
 -- a call with an argument by name: nothing that can be called takes one yet (this project's own)
 abbrev pub call_by_name : Value → World → Ran
 call_by_name (Provided b) w = wrong_arguments w
+call_by_name (Class k) w = wrong_arguments w
 call_by_name (Function f k) w = wrong_arguments w
 call_by_name _ w = not_callable w
+
+-- ---- exceptions
+
+-- the exception about an operand of a wrong kind
+abbrev pub type_error : World → ℕ × World
+type_error w = exception TypeError (Some (Str (codes "wrong type"))) w
+
+-- what `raise` raises: an exception itself, of a kind a new one without argument (Language Reference, 7.8); each object is an exception so far
+abbrev pub raised_by : Value → World → ℕ × World
+raised_by (Address x) w = (x, w)
+raised_by (Class k) w = exception k None w
+raised_by _ w = type_error w
+
+-- what a bare `raise` raises: the active exception again (Language Reference, 7.8; the message is this project's own)
+abbrev pub raised_again : Option ℕ → World → ℕ × World
+raised_again (Some x) w = (x, w)
+raised_again None w = exception RuntimeError (Some (Str (codes "no active exception"))) w
+
+-- an object is an exception of a kind, or of one under it
+abbrev pub is_of : Kind → Option Object → Bool
+is_of top None = false
+is_of top (Some (value.Exception k a)) = is_a k top
+
+-- whether an except clause with this value matches an exception (Language Reference, 8.4.1)
+abbrev pub catches : Value → ℕ → World → Ran
+catches (Class top) x w = gave (Truth (is_of top (slice_get w.store x))) w
+catches _ x w = wrong_type w
+
+-- ---- items
+
+-- what a `for` still has to give (Language Reference, 8.3)
+pub data Iterator : Type 0 where
+  -- the items of a range from this one on
+  Numbers : (at stop step : ℤ) → Iterator
+  -- the characters of a text, each as a str
+  Characters : Text → Iterator
+  NoMore : Iterator
+
+-- what a value gives, where it can be gone over
+abbrev pub iterator_of : Value → Option Iterator
+iterator_of (Range a b c) = Some (Numbers a b c)
+iterator_of (Str s) = Some (Characters s)
+iterator_of _ = None
+
+-- the items of a range behind one: what lies past the integers lies past the stop
+abbrev pub numbers_from : Result ℤ Kind → (stop step : ℤ) → Iterator
+numbers_from (Ok at) stop step = Numbers at stop step
+numbers_from (Err k) stop step = NoMore
+
+-- the next item, and what is left, where there is one
+abbrev pub next_item : Iterator → Option (Value × Iterator)
+next_item (Numbers at stop step) = if is_item at stop step then Some (Int at, numbers_from (sum_of at step) stop step) else None
+next_item (Characters []) = None
+next_item (Characters (c ∷ cs)) = Some (Str (c ∷ []), Characters cs)
+next_item NoMore = None
 
 -- what an answer makes of a request
 abbrev pub reply : Request → Answer → World → Replied

@@ -2,7 +2,7 @@
 use Rattle.std.specs.Prelude.{ℕ, ◌+◌, List, [], ◌∷◌, ◌++◌, Bool, true, false, not, ◌&&◌, ◌||◌, Option, Some, None, option_map, if◌then◌else◌}
 use Rattle.si_semantics.specs.Value.{Text}
 use Rattle.si_semantics.specs.Text.{same_text}
-use Rattle.si_semantics.specs.Tree.{Expr, Constant, Name, Unary, Binary, Call, Boolean, Compare, Conditional, Exprs, NoExprs, MoreExprs, Comparisons, NoComparisons, MoreComparisons, Stmt, Evaluate, Assign, Augment, Pass, If, While, Break, Continue, Define, Return, Global, Stmts, NoStmts, MoreStmts, Function}
+use Rattle.si_semantics.specs.Tree.{Expr, Constant, Name, Unary, Binary, Call, Boolean, Compare, Conditional, Exprs, NoExprs, MoreExprs, Comparisons, NoComparisons, MoreComparisons, Stmt, Evaluate, Assign, Augment, Pass, If, While, For, Break, Continue, Define, Return, Global, Raise, Try, Finally, Stmts, NoStmts, MoreStmts, Clauses, NoClauses, MoreClauses, Function}
 
 -- ---- lists of names
 
@@ -58,19 +58,31 @@ abbrev pub names_of_value : Option Expr → List Text
 names_of_value None = []
 names_of_value (Some a) = names_of a
 
+-- a name that may be left out
+abbrev pub name_in : Option Text → List Text
+name_in None = []
+name_in (Some y) = y ∷ []
+
 abbrev mutual
-  -- the names that a statement binds (4.2.1)
+  -- the names that a statement binds (4.2.1): a `for` its target, an `except` clause the name behind `as`
   pub bound_by : Stmt → List Text
   bound_by (Assign x a) = x ∷ []
   bound_by (Augment x o a) = x ∷ []
   bound_by (If a b c) = bound_in b ++ bound_in c
   bound_by (While a b c) = bound_in b ++ bound_in c
+  bound_by (For x a b c) = x ∷ (bound_in b ++ bound_in c)
   bound_by (Define f ps b) = f ∷ []
+  bound_by (Try b cs c) = bound_in b ++ (bound_in_clauses cs ++ bound_in c)
+  bound_by (Finally b cs c f) = bound_in b ++ (bound_in_clauses cs ++ (bound_in c ++ bound_in f))
   bound_by _ = []
 
   pub bound_in : Stmts → List Text
   bound_in NoStmts = []
   bound_in (MoreStmts a b) = bound_by a ++ bound_in b
+
+  pub bound_in_clauses : Clauses → List Text
+  bound_in_clauses NoClauses = []
+  bound_in_clauses (MoreClauses a y b cs) = name_in y ++ (bound_in b ++ bound_in_clauses cs)
 
 abbrev mutual
   -- the names that a statement declares global (7.12)
@@ -78,11 +90,18 @@ abbrev mutual
   declared_by (Global xs) = xs
   declared_by (If a b c) = declared_in b ++ declared_in c
   declared_by (While a b c) = declared_in b ++ declared_in c
+  declared_by (For x a b c) = declared_in b ++ declared_in c
+  declared_by (Try b cs c) = declared_in b ++ (declared_in_clauses cs ++ declared_in c)
+  declared_by (Finally b cs c f) = declared_in b ++ (declared_in_clauses cs ++ (declared_in c ++ declared_in f))
   declared_by _ = []
 
   pub declared_in : Stmts → List Text
   declared_in NoStmts = []
   declared_in (MoreStmts a b) = declared_by a ++ declared_in b
+
+  pub declared_in_clauses : Clauses → List Text
+  declared_in_clauses NoClauses = []
+  declared_in_clauses (MoreClauses a y b cs) = declared_in b ++ declared_in_clauses cs
 
 abbrev mutual
   -- the names that a statement uses or binds; a declaration is no use
@@ -93,15 +112,23 @@ abbrev mutual
   used_by Pass = []
   used_by (If a b c) = names_of a ++ used_in b ++ used_in c
   used_by (While a b c) = names_of a ++ used_in b ++ used_in c
+  used_by (For x a b c) = x ∷ (names_of a ++ used_in b ++ used_in c)
   used_by Break = []
   used_by Continue = []
   used_by (Define f ps b) = f ∷ []
   used_by (Return a) = names_of_value a
   used_by (Global xs) = []
+  used_by (Raise a) = names_of_value a
+  used_by (Try b cs c) = used_in b ++ (used_in_clauses cs ++ used_in c)
+  used_by (Finally b cs c f) = used_in b ++ (used_in_clauses cs ++ (used_in c ++ used_in f))
 
   pub used_in : Stmts → List Text
   used_in NoStmts = []
   used_in (MoreStmts a b) = used_by a ++ used_in b
+
+  pub used_in_clauses : Clauses → List Text
+  used_in_clauses NoClauses = []
+  used_in_clauses (MoreClauses a y b cs) = names_of_value a ++ (name_in y ++ (used_in b ++ used_in_clauses cs))
 
 abbrev mutual
   -- no name is used in front of its declaration (7.12)
@@ -110,11 +137,25 @@ abbrev mutual
       are_apart (names_of a) (declared_in b ++ declared_in c) && are_apart (used_in b) (declared_in c) && declare_first b && declare_first c
   declares_first (While a b c) =
       are_apart (names_of a) (declared_in b ++ declared_in c) && are_apart (used_in b) (declared_in c) && declare_first b && declare_first c
+  declares_first (For x a b c) =
+      are_apart (x ∷ names_of a) (declared_in b ++ declared_in c) && are_apart (used_in b) (declared_in c) && declare_first b && declare_first c
+  declares_first (Try b cs c) =
+      are_apart (used_in b) (declared_in_clauses cs ++ declared_in c) && are_apart (used_in_clauses cs) (declared_in c)
+      && declare_first b && clauses_declare_first cs && declare_first c
+  declares_first (Finally b cs c f) =
+      are_apart (used_in b) (declared_in_clauses cs ++ (declared_in c ++ declared_in f)) && are_apart (used_in_clauses cs) (declared_in c ++ declared_in f)
+      && are_apart (used_in c) (declared_in f) && declare_first b && clauses_declare_first cs && declare_first c && declare_first f
   declares_first _ = true
 
   pub declare_first : Stmts → Bool
   declare_first NoStmts = true
   declare_first (MoreStmts a b) = are_apart (used_by a) (declared_in b) && declares_first a && declare_first b
+
+  pub clauses_declare_first : Clauses → Bool
+  clauses_declare_first NoClauses = true
+  clauses_declare_first (MoreClauses a y b cs) =
+      are_apart (names_of_value a ++ name_in y) (declared_in b ++ declared_in_clauses cs) && are_apart (used_in b) (declared_in_clauses cs)
+      && declare_first b && clauses_declare_first cs
 
 -- the names that are local to a function: its parameters, and what it binds and does not declare global (4.2.2); their order is this project's own
 abbrev pub locals_of : Function → List Text
@@ -125,24 +166,34 @@ locals_of f = with_new f.parameters (declared_in f.body) (bound_in f.body)
 -- what a statement stands in
 pub data Within : Type 0 where
   -- a text, and no loop of it or one
-  InText : Bool → Within
-  -- a function, and no loop of it or one
-  InFunction : Bool → Within
+  InText : (loop : Bool) → Within
+  -- a function, no loop of it or one, and whether `return` may stand there: it does not leave a finally suite
+  InFunction : (loop returns : Bool) → Within
 
--- `break` and `continue` stand in a loop of the same function or text (7.9 and 7.10)
+-- `break` and `continue` stand in a loop of the same function or text, and do not leave a finally suite (7.9, 7.10; PEP 765)
 abbrev pub in_loop : Within → Bool
 in_loop (InText loop) = loop
-in_loop (InFunction loop) = loop
+in_loop (InFunction loop returns) = loop
 
--- `return` and `global` stand in a function (7.6; 7.12: at module level this project refuses it), and `def` in none (this project's own)
+-- `global` stands in a function (7.12: at module level this project refuses it), and `def` in none (this project's own)
 abbrev pub in_function : Within → Bool
 in_function (InText loop) = false
-in_function (InFunction loop) = true
+in_function (InFunction loop returns) = true
+
+-- `return` stands in a function (7.6), and does not leave a finally suite (PEP 765, whose warning is a refusal here)
+abbrev pub may_return : Within → Bool
+may_return (InText loop) = false
+may_return (InFunction loop returns) = returns
 
 -- in the body of a loop there
 abbrev pub looping : Within → Within
 looping (InText loop) = InText true
-looping (InFunction loop) = InFunction true
+looping (InFunction loop returns) = InFunction true returns
+
+-- in a finally suite there
+abbrev pub finishing : Within → Within
+finishing (InText loop) = InText false
+finishing (InFunction loop returns) = InFunction false false
 
 abbrev mutual
   -- a statement stands where it may; a loop's else suite is no part of its body
@@ -153,17 +204,26 @@ abbrev mutual
   stmt_scoped w Pass = true
   stmt_scoped w (If a b c) = stmts_scoped w b && stmts_scoped w c
   stmt_scoped w (While a b c) = stmts_scoped (looping w) b && stmts_scoped w c
+  stmt_scoped w (For x a b c) = stmts_scoped (looping w) b && stmts_scoped w c
   stmt_scoped w Break = in_loop w
   stmt_scoped w Continue = in_loop w
   stmt_scoped w (Define f ps b) =
-      not (in_function w) && are_distinct ps && are_apart ps (declared_in b) && declare_first b && stmts_scoped (InFunction false) b
-  stmt_scoped w (Return a) = in_function w
+      not (in_function w) && are_distinct ps && are_apart ps (declared_in b) && declare_first b && stmts_scoped (InFunction false true) b
+  stmt_scoped w (Return a) = may_return w
   stmt_scoped w (Global xs) = in_function w
+  stmt_scoped w (Raise a) = true
+  stmt_scoped w (Try b cs c) = stmts_scoped w b && clauses_scoped w cs && stmts_scoped w c
+  stmt_scoped w (Finally b cs c f) = stmts_scoped w b && clauses_scoped w cs && stmts_scoped w c && stmts_scoped (finishing w) f
 
   -- statements in a row
   pub stmts_scoped : Within → Stmts → Bool
   stmts_scoped w NoStmts = true
   stmts_scoped w (MoreStmts a b) = stmt_scoped w a && stmts_scoped w b
+
+  -- except clauses
+  pub clauses_scoped : Within → Clauses → Bool
+  clauses_scoped w NoClauses = true
+  clauses_scoped w (MoreClauses a y b cs) = stmts_scoped w b && clauses_scoped w cs
 
 -- the statements of a text are well scoped
 abbrev pub is_scoped : Stmts → Bool

@@ -1,6 +1,7 @@
 -- Worked cases of scopes: which texts are well scoped, and which names are local, computed from the definitions.
-use Rattle.std.specs.Prelude.{◌≡◌, codes, List, [], ◌∷◌, Bool, true, false, Some, None}
-use Rattle.si_semantics.specs.Tree.{Add, Name, Stmt, Assign, Augment, Pass, If, While, Break, Continue, Return, Global, NoStmts}
+use Rattle.std.specs.Prelude.{◌≡◌, codes, List, [], ◌∷◌, Bool, true, false, Option, Some, None}
+use Rattle.si_semantics.specs.Value.{Text}
+use Rattle.si_semantics.specs.Tree.{Add, Name, Stmt, Assign, Augment, Pass, If, While, For, Break, Continue, Return, Global, Raise, Try, Finally, Stmts, NoStmts, Clauses, NoClauses, MoreClauses}
 use Rattle.si_semantics.specs.Scope.{is_scoped, locals_of}
 use Rattle.si_semantics.specs.Cases.{int, i_name, suite, left_by_break}
 use Rattle.si_semantics.specs.FunctionCases.{f, g, n, x, define, prints}
@@ -22,6 +23,39 @@ global_x = Global (x ∷ [])
 -- `x = 1`
 abbrev pub set_x : Stmt
 set_x = Assign x (int 1)
+
+-- `pass` for a suite
+abbrev pub nothing : Stmts
+nothing = suite (Pass ∷ [])
+
+-- `while n:` with these statements for its body
+abbrev pub looped : List Stmt → Stmt
+looped body = While (Name n) (suite body) NoStmts
+
+-- `for x in n:` with these statements for its body, and these for its else suite
+abbrev pub each_x : (body last : List Stmt) → Stmt
+each_x body last = For x (Name n) (suite body) (suite last)
+
+-- `except NAME:`, or `except:`, with these statements for its suite, and the clauses behind it
+abbrev pub except : Option Text → List Stmt → Clauses → Clauses
+except None body more = MoreClauses None None (suite body) more
+except (Some y) body more = MoreClauses (Some (Name y)) None (suite body) more
+
+-- `except n as x:` with these statements for its suite, alone
+abbrev pub as_x : List Stmt → Clauses
+as_x body = MoreClauses (Some (Name n)) (Some x) (suite body) NoClauses
+
+-- `try: pass`, `finally:` with these statements for its suite
+abbrev pub finishes : List Stmt → Stmt
+finishes body = Finally nothing NoClauses NoStmts (suite body)
+
+-- `try:` with these statements for its suite, `except: pass`
+abbrev pub tries : List Stmt → Stmt
+tries body = Try (suite body) (except None (Pass ∷ []) NoClauses) NoStmts
+
+-- the names that are local to `f(n)` with these statements for its suite
+abbrev pub locals_in_f : List Stmt → List Text
+locals_in_f body = locals_of (record { name = f; parameters = n ∷ []; body = suite body })
 
 -- ---- the cases
 
@@ -60,4 +94,63 @@ pub record ScopeCases : Type 0 where
   pub two_parameters : scoped (define f (n ∷ x ∷ []) (Pass ∷ []) ∷ []) ≡ true
   pub doubled_parameter : scoped (define f (n ∷ n ∷ []) (Pass ∷ []) ∷ []) ≡ false
   -- `def f(n):` `global x`, `x = 1`, `i = x`, `if i:` `n = 1`, `i += 1`: the parameter first, then what is bound and not global, once
-  pub locals : locals_of (record { name = f; parameters = n ∷ []; body = suite (global_x ∷ set_x ∷ Assign (codes "i") (Name x) ∷ If i_name (suite (Assign n (int 1) ∷ Augment (codes "i") Add (int 1) ∷ [])) NoStmts ∷ []) }) ≡ n ∷ codes "i" ∷ []
+  pub locals :
+      locals_in_f (global_x ∷ set_x ∷ Assign (codes "i") (Name x) ∷ If i_name (suite (Assign n (int 1) ∷ Augment (codes "i") Add (int 1) ∷ [])) NoStmts ∷ [])
+      ≡ n ∷ codes "i" ∷ []
+  -- `while n: pass`, `else: x = 1`; `while n: global x`, `else: x = 1`; `while n: x = 1`, `else: global x`
+  pub binding_in_an_else_suite : locals_in_f (While (Name n) nothing (suite (set_x ∷ [])) ∷ []) ≡ n ∷ x ∷ []
+  pub global_in_front_of_a_loops_else_suite : scoped_in_f (While (Name n) (suite (global_x ∷ [])) (suite (set_x ∷ [])) ∷ []) ≡ true
+  pub global_in_a_loops_else_suite : scoped_in_f (While (Name n) (suite (set_x ∷ [])) (suite (global_x ∷ [])) ∷ []) ≡ false
+  -- `while n:` with `while x: pass`, `else: break` in it: the else suite stands in the outer loop
+  pub break_in_an_inner_else_suite : scoped_in_f (looped (While (Name x) nothing (suite (Break ∷ [])) ∷ []) ∷ []) ≡ true
+  -- `for x in n: break`, in a function and in a text; `for x in n: pass`, `else: break`
+  pub break_in_a_for : scoped_in_f (each_x (Break ∷ []) [] ∷ []) ≡ true
+  pub continue_in_a_for_of_a_text : scoped (each_x (Continue ∷ []) [] ∷ []) ≡ true
+  pub break_in_the_else_suite_of_a_for : scoped_in_f (each_x (Pass ∷ []) (Break ∷ []) ∷ []) ≡ false
+  -- `for x in n: i = 1`, `else: x += 1`: the target is local, and what the suites bind
+  pub target_is_local : locals_in_f (each_x (Assign (codes "i") (int 1) ∷ []) (Augment x Add (int 1) ∷ []) ∷ []) ≡ n ∷ x ∷ codes "i" ∷ []
+  -- `global x`, then `for x in n: pass`; `for x in n: global x`
+  pub global_target : locals_in_f (global_x ∷ each_x (Pass ∷ []) [] ∷ []) ≡ n ∷ []
+  pub global_of_a_target : scoped_in_f (each_x (global_x ∷ []) [] ∷ []) ≡ false
+  -- `for i in x: global x`
+  pub global_of_what_is_gone_over : scoped_in_f (For (codes "i") (Name x) (suite (global_x ∷ [])) NoStmts ∷ []) ≡ false
+  -- `try: pass`, `except n as x: i = 1`, `else: g = 1`; the same with `finally: g = 1` behind an empty else suite: `as` binds, and so do the suites
+  pub name_behind_as_is_local :
+      locals_in_f (Try nothing (as_x (Assign (codes "i") (int 1) ∷ [])) (suite (Assign g (int 1) ∷ [])) ∷ []) ≡ n ∷ x ∷ codes "i" ∷ g ∷ []
+  pub name_bound_in_a_finally_suite :
+      locals_in_f (Finally nothing (as_x (Assign (codes "i") (int 1) ∷ [])) NoStmts (suite (Assign g (int 1) ∷ [])) ∷ []) ≡ n ∷ x ∷ codes "i" ∷ g ∷ []
+  -- `global x`, then `try: pass`, `except n as x: pass`; `try: pass`, `except n as x: global x`
+  pub global_name_behind_as : locals_in_f (global_x ∷ Try nothing (as_x (Pass ∷ [])) NoStmts ∷ []) ≡ n ∷ []
+  pub global_of_a_name_behind_as : scoped_in_f (Try nothing (as_x (global_x ∷ [])) NoStmts ∷ []) ≡ false
+  -- `try: x = 1`, `except: global x`
+  pub global_in_a_clause : scoped_in_f (Try (suite (set_x ∷ [])) (except None (global_x ∷ []) NoClauses) NoStmts ∷ []) ≡ false
+  -- `try: pass`, `except x: pass`, `except: global x`; `try: pass`, `except n: x = 1`, `except: global x`
+  pub global_behind_the_expression_of_a_clause :
+      scoped_in_f (Try nothing (except (Some x) (Pass ∷ []) (except None (global_x ∷ []) NoClauses)) NoStmts ∷ []) ≡ false
+  pub global_behind_a_clause : scoped_in_f (Try nothing (except (Some n) (set_x ∷ []) (except None (global_x ∷ []) NoClauses)) NoStmts ∷ []) ≡ false
+  -- `try: global x`, `except: x = 1`, `else: x = 1`
+  pub global_in_front_of_a_clause : scoped_in_f (Try (suite (global_x ∷ [])) (except None (set_x ∷ []) NoClauses) (suite (set_x ∷ [])) ∷ []) ≡ true
+  -- `try: pass`, `except: x = 1`, `else: global x`; `try: x = 1`, `finally: global x`
+  pub global_in_the_else_suite_of_a_try : scoped_in_f (Try nothing (except None (set_x ∷ []) NoClauses) (suite (global_x ∷ [])) ∷ []) ≡ false
+  pub global_in_a_finally_suite : scoped_in_f (Finally (suite (set_x ∷ [])) NoClauses NoStmts (suite (global_x ∷ [])) ∷ []) ≡ false
+  -- `raise x`, then `global x`
+  pub global_behind_a_raise : scoped_in_f (Raise (Some (Name x)) ∷ global_x ∷ []) ≡ false
+  -- `try: return`, `except: return`, `else: return`, and then `finally: pass`
+  pub return_in_a_try :
+      scoped_in_f (Finally (suite (Return None ∷ [])) (except None (Return None ∷ []) NoClauses) (suite (Return None ∷ [])) nothing ∷ []) ≡ true
+  -- `while n:` with `try: break`, `except: continue`, `else: break` in it, in a text
+  pub break_in_a_try_in_a_loop : scoped (looped (Try (suite (Break ∷ [])) (except None (Continue ∷ []) NoClauses) (suite (Break ∷ [])) ∷ []) ∷ []) ≡ true
+  pub break_in_a_clause_alone : scoped (Try nothing (except None (Break ∷ []) NoClauses) NoStmts ∷ []) ≡ false
+  -- `try: pass`, `finally: return`; `while n:` with `try: pass`, `finally: break` in it, or `continue`, in a function and in a text
+  pub return_in_a_finally_suite : scoped_in_f (finishes (Return None ∷ []) ∷ []) ≡ false
+  pub break_in_a_finally_suite : scoped_in_f (looped (finishes (Break ∷ []) ∷ []) ∷ []) ≡ false
+  pub continue_in_a_finally_suite : scoped (looped (finishes (Continue ∷ []) ∷ []) ∷ []) ≡ false
+  -- the same within `try: ..`, `except: pass` in the finally suite
+  pub return_in_a_try_in_a_finally_suite : scoped_in_f (finishes (tries (Return None ∷ []) ∷ []) ∷ []) ≡ false
+  pub break_in_a_try_in_a_finally_suite : scoped_in_f (looped (finishes (tries (Break ∷ []) ∷ []) ∷ []) ∷ []) ≡ false
+  pub continue_in_a_try_in_a_finally_suite : scoped (looped (finishes (tries (Continue ∷ []) ∷ []) ∷ []) ∷ []) ≡ false
+  -- a loop within the finally suite has its own `break`, and no `return`
+  pub break_in_a_loop_in_a_finally_suite : scoped_in_f (finishes (looped (Break ∷ []) ∷ each_x (Continue ∷ []) [] ∷ []) ∷ []) ≡ true
+  pub return_in_a_loop_in_a_finally_suite : scoped_in_f (finishes (looped (Return None ∷ []) ∷ []) ∷ []) ≡ false
+  -- `def f(n): return` in the finally suite of a text
+  pub function_in_a_finally_suite : scoped (finishes (define f (n ∷ []) (Return None ∷ []) ∷ []) ∷ []) ≡ true

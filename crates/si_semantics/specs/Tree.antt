@@ -73,8 +73,10 @@ mutual
     Pass : Stmt
     -- the test, the suite, and the else suite; an `elif` is an `if` of its own in the else suite (8.1)
     If : Expr → Stmts → Stmts → Stmt
-    -- the test, the suite, and the else suite, which is always empty in this stage (8.2)
+    -- the test, the suite, and the else suite (8.2)
     While : Expr → Stmts → Stmts → Stmt
+    -- the target, what is gone over, the suite, and the else suite (8.3)
+    For : Text → Expr → Stmts → Stmts → Stmt
     Break : Stmt
     Continue : Stmt
     -- `def NAME(parameters)` and its suite (8.7)
@@ -83,10 +85,21 @@ mutual
     Return : Option Expr → Stmt
     -- `global NAME, ..` (7.12)
     Global : List Text → Stmt
+    -- `raise`, and its expression where there is one (7.8)
+    Raise : Option Expr → Stmt
+    -- a `try` without a finally suite: the suite, the except clauses, and the else suite (8.4)
+    Try : Stmts → Clauses → Stmts → Stmt
+    -- a `try` with a finally suite, which stands last (8.4); there may be no clause
+    Finally : Stmts → Clauses → Stmts → Stmts → Stmt
 
   pub data Stmts : Type 0 where
     NoStmts : Stmts
     MoreStmts : Stmt → Stmts → Stmts
+
+  -- except clauses: each with its expression, or none, the name that it binds, or none, and its suite (8.4.1)
+  pub data Clauses : Type 0 where
+    NoClauses : Clauses
+    MoreClauses : Option Expr → Option Text → Stmts → Clauses → Clauses
 
 -- a function as it was read
 pub record Function : Type 0 where
@@ -104,9 +117,17 @@ abbrev mutual
   functions_of (Define f ps b) = record { name = f; parameters = ps; body = b } ∷ []
   functions_of (If a b c) = functions_in b ++ functions_in c
   functions_of (While a b c) = functions_in b ++ functions_in c
+  functions_of (For x a b c) = functions_in b ++ functions_in c
+  functions_of (Try b cs c) = functions_in b ++ (functions_in_clauses cs ++ functions_in c)
+  functions_of (Finally b cs c f) = functions_in b ++ (functions_in_clauses cs ++ (functions_in c ++ functions_in f))
   functions_of _ = []
 
   -- those of statements in a row
   pub functions_in : Stmts → List Function
   functions_in NoStmts = []
   functions_in (MoreStmts a b) = functions_of a ++ functions_in b
+
+  -- those of except clauses
+  pub functions_in_clauses : Clauses → List Function
+  functions_in_clauses NoClauses = []
+  functions_in_clauses (MoreClauses a y b cs) = functions_in b ++ functions_in_clauses cs

@@ -1,4 +1,4 @@
--- Values and exceptions (Python Language Reference 3.14, 3.2).
+-- Values (Python Language Reference 3.14, 3.2).
 use Rattle.std.specs.Prelude.{ℕ, ℤ, List, Bool, Option}
 use Rattle.si_plain.specs.declared.kind.Kind.{Kind}
 
@@ -6,9 +6,12 @@ use Rattle.si_plain.specs.declared.kind.Kind.{Kind}
 abbrev pub Text : Type 0
 Text = List ℕ
 
--- the functions that are there without a definition
+-- the functions that are there without a definition, and the types that are called like functions
 pub data BuiltIn : Type 0 where
   Print : BuiltIn
+  MakeRange : BuiltIn
+  MakeStr : BuiltIn
+  Repr : BuiltIn
 
 pub data Value : Type 0 where
   Nothing : Value
@@ -19,7 +22,14 @@ pub data Value : Type 0 where
   Provided : BuiltIn → Value
   -- a function of a script, by its name and its number among those that its interpreter has read; the number is this project's own
   Function : Text → ℕ → Value
+  -- a range: its start, its stop, and its step, which is not 0 (Standard Library, "Built-in Types": ranges)
+  Range : (start stop step : ℤ) → Value
+  -- a kind of exception (Standard Library, "Built-in Exceptions")
+  Class : Kind → Value
+  -- an object, by its address: its place in the store (3.1)
+  Address : ℕ → Value
 
--- an exception, by its kind and the one argument that it may have
-pub data Exception : Type 0 where
-  Thrown : Kind → Option Value → Exception
+-- an object of the store
+pub data Object : Type 0 where
+  -- an exception, by its kind and the one argument that it may have (Standard Library, "Built-in Exceptions")
+  Exception : Kind → Option Value → Object

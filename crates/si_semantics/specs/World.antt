@@ -1,18 +1,15 @@
 -- What the scripts of one interpreter see and change, and what it asks of others (this project's own).
 use Rattle.std.specs.Prelude.{codes, List, [], ◌∷◌, Option, Some, None, if◌then◌else◌}
 use Rattle.si_plain.specs.declared.kind.Kind.{Kind}
-use Rattle.si_semantics.specs.Value.{Text, Value, Str}
+use Rattle.si_semantics.specs.Value.{Text, Value, Str, Object}
 use Rattle.si_semantics.specs.Tree.{Module}
 use Rattle.si_semantics.specs.Text.{same_text}
-
--- an object of the store; no value refers to one yet
-pub data Object : Type 0 where
 
 -- the names of the module `__main__`, and their values (Language Reference, 4.2)
 abbrev pub Globals : Type 0
 Globals = Text → Option Value
 
--- what a script changes
+-- what a script changes: its globals, and the objects that it made, in order
 pub record World : Type 0 where
   pub globals : Globals
   pub store : List Object
@@ -51,6 +48,10 @@ nothing_bound y = None
 abbrev pub bind : Text → Value → Globals → Globals
 bind x v g = λ y. if same_text x y then Some v else g y
 
+-- a name is not bound any more, the others are as they were
+abbrev pub unbind : Text → Globals → Globals
+unbind x g = λ y. if same_text x y then None else g y
+
 -- names are bound in order
 abbrev pub bind_all : List (Text × Value) → Globals → Globals
 bind_all [] g = g
@@ -59,6 +60,10 @@ bind_all (b ∷ bs) g = bind_all bs (bind b.0 b.1 g)
 -- a name is bound in a world
 abbrev pub set_global : Text → Value → World → World
 set_global x v w = record w { globals = bind x v w.globals }
+
+-- a name is unbound in a world
+abbrev pub unset_global : Text → World → World
+unset_global x w = record w { globals = unbind x w.globals }
 
 -- as an interpreter begins, `__name__` alone is bound (Language Reference, 10.1)
 abbrev pub first_world : World

@@ -2,10 +2,13 @@
 
 ghost use Rattle.si_semantics.specs.Cases.{Cases};
 ghost use Rattle.si_semantics.specs.FunctionCases.{FunctionCases};
+ghost use Rattle.si_semantics.specs.ExceptionCases.{ExceptionCases};
+ghost use Rattle.si_semantics.specs.FinallyCases.{FinallyCases};
+ghost use Rattle.si_semantics.specs.ItemCases.{ItemCases};
 ghost use Rattle.si_semantics.specs.ScopeCases.{ScopeCases};
 ghost use Rattle.si_semantics.specs.LiteralCases.{LiteralCases};
 ghost use Rattle.si_semantics.specs.LayoutCases.{LayoutCases};
-ghost use Rattle.si_semantics.specs.Laws.{Binding, OneLife, LivesGrow, GoneStays, AnswersWait, OnePieceALine, OneMoment, LeftByExceptions};
+ghost use Rattle.si_semantics.specs.Laws.{Binding, OneLife, LivesGrow, GoneStays, AnswersWait, OnePieceALine, OneMoment, LeftByExceptions, KindsAbove};
 
 /// The worked cases: what scripts print and how they end.
 pub fn worked_cases()
@@ -15,6 +18,21 @@ pub fn worked_cases()
 /// The worked cases of functions: what scripts with functions print and how they end.
 pub fn worked_functions()
     ensures { FunctionCases }
+{}
+
+/// The worked cases of `raise` and `try`: what scripts print and how they end.
+pub fn worked_exceptions()
+    ensures { ExceptionCases }
+{}
+
+/// The worked cases of finally suites: what scripts print and how they end.
+pub fn worked_finally()
+    ensures { FinallyCases }
+{}
+
+/// The worked cases of `for`, ranges, kinds and `repr`: what scripts print and how they end.
+pub fn worked_items()
+    ensures { ItemCases }
 {}
 
 /// The worked cases of scopes: which texts are well scoped, and which names are local.
@@ -37,11 +55,6 @@ pub fn binding()
     ensures { Binding }
 {}
 
-/// The run of a well scoped text is left by an exception, if it is left at all.
-pub fn left_by_exceptions()
-    ensures { LeftByExceptions }
-{}
-
 /// The same text and the same answers give one life: one that is not cut is the same where a loop may have more turns.
 pub fn one_life()
     ensures { OneLife }
@@ -57,6 +70,11 @@ pub fn gone_stays()
     ensures { GoneStays }
 {}
 
+/// The run of a well scoped text is left by an exception, if it is left at all.
+pub fn left_by_exceptions()
+    ensures { LeftByExceptions }
+{}
+
 /// One answer more changes nothing in a course before the action that it answers.
 pub fn answers_wait()
     ensures { AnswersWait }
@@ -70,4 +88,9 @@ pub fn one_piece_a_line()
 /// With all answers taken, the lines that were run tell the whole state of a course.
 pub fn one_moment()
     ensures { OneMoment }
+{}
+
+/// A clause with a kind catches that kind, and what stands under it.
+pub fn kinds_above()
+    ensures { KindsAbove }
 {}

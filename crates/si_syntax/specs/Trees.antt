@@ -1,10 +1,10 @@
 -- The trees that values of this crate stand for.
 use Rattle.std.specs.Global.{Global}
-use Rattle.std.specs.Prelude.{Vec, List, map, string_bytes}
+use Rattle.std.specs.Prelude.{Vec, List, Option, String, map, string_bytes}
 use Rattle.std.specs.Option.{option_map}
 use Rattle.si_semantics.specs.Value.{Nothing, Truth, Int, Str}
 use Rattle.si_semantics.specs.Tree as tree
-use Rattle.si_semantics.specs.Grammar.{exprs_of, chain_of, stmts_of, Branch, elifs_of}
+use Rattle.si_semantics.specs.Grammar.{exprs_of, chain_of, stmts_of, Branch, elifs_of, Clause, clauses_of}
 use Rattle.si_syntax.specs.declared.operators.BinaryOperator.{BinaryOperator}
 use Rattle.si_syntax.specs.declared.operators.BinaryOperator.TheVariants as binary
 use Rattle.si_syntax.specs.declared.operators.UnaryOperator.{UnaryOperator}
@@ -72,6 +72,10 @@ expr_of = fold-Expr tree.Expr view_step
 abbrev pub link_of : ComparisonOperator × Expr → tree.ComparisonOperator × tree.Expr
 link_of l = (comparison_of l.0, expr_of l.1)
 
+-- an except clause, with each statement of its suite already seen as its tree
+abbrev pub clause_step : Option Expr × Option (String Global) × Vec tree.Stmt Global → Clause
+clause_step c = (option_map expr_of c.0, option_map string_bytes c.1, stmts_of c.2.items)
+
 -- one level, with each statement of a suite already seen as its tree
 abbrev pub stmt_step : Stmt-F tree.Stmt → tree.Stmt
 stmt_step (Stmt-F.Evaluate e) = tree.Evaluate (expr_of e)
@@ -80,12 +84,18 @@ stmt_step (Stmt-F.Augment x op e) = tree.Augment (string_bytes x) (binary_of op)
 stmt_step Stmt-F.Pass = tree.Pass
 stmt_step (Stmt-F.If test body elifs last) =
     tree.If (expr_of test) (stmts_of body.items) (elifs_of (map (λ b. (expr_of b.0, stmts_of b.1.items)) elifs.items) (stmts_of last.items))
-stmt_step (Stmt-F.While test body) = tree.While (expr_of test) (stmts_of body.items) tree.NoStmts
+stmt_step (Stmt-F.While test body last) = tree.While (expr_of test) (stmts_of body.items) (stmts_of last.items)
+stmt_step (Stmt-F.For x over body last) = tree.For (string_bytes x) (expr_of over) (stmts_of body.items) (stmts_of last.items)
 stmt_step (Stmt-F.Break line) = tree.Break
 stmt_step (Stmt-F.Continue line) = tree.Continue
 stmt_step (Stmt-F.Define line x ps body) = tree.Define (string_bytes x) (map string_bytes ps.items) (stmts_of body.items)
 stmt_step (Stmt-F.Return line value) = tree.Return (option_map expr_of value)
 stmt_step (Stmt-F.Global line names) = tree.Global (map string_bytes names.items)
+stmt_step (Stmt-F.Raise value) = tree.Raise (option_map expr_of value)
+stmt_step (Stmt-F.Try body clauses last) =
+    tree.Try (stmts_of body.items) (clauses_of (map clause_step clauses.items)) (stmts_of last.items)
+stmt_step (Stmt-F.Finally body clauses last final) =
+    tree.Finally (stmts_of body.items) (clauses_of (map clause_step clauses.items)) (stmts_of last.items) (stmts_of final.items)
 
 abbrev pub stmt_of : Stmt → tree.Stmt
 stmt_of = fold-Stmt tree.Stmt stmt_step
@@ -100,3 +110,11 @@ branch_of test body = (expr_of test, body_of body)
 -- the same, of the two as a pair
 abbrev pub elif_of : Expr × Vec Stmt Global → Branch
 elif_of b = branch_of b.0 b.1.items
+
+-- an except clause
+abbrev pub clause_of : Option Expr × Option (String Global) × Vec Stmt Global → Clause
+clause_of c = (option_map expr_of c.0, option_map string_bytes c.1, body_of c.2.items)
+
+-- an except clause, by its parts
+abbrev pub clause_with : Option Expr → Option (String Global) → List Stmt → Clause
+clause_with value name body = (option_map expr_of value, option_map string_bytes name, body_of body)

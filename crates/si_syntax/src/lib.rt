@@ -14,4 +14,4 @@ pub mod stmt;
 pub use expr::Expr;
 pub use modules::Module;
 pub use operators::{BinaryOperator, BooleanOperator, ComparisonOperator, UnaryOperator};
-pub use stmt::{Line, Stmt};
+pub use stmt::{Clause, Line, Stmt};
