@@ -7,7 +7,7 @@ use Rattle.std.proofs.lemmas.List.Sums.{fold-append}
 use Rattle.si_semantics.specs.Value.{Text, Str, Function}
 use Rattle.si_semantics.specs.Machine as machine
 use Rattle.si_code.specs.declared.instr.Instr.{Instr}
-use Rattle.si_code.specs.declared.instr.Instr.TheVariants.{PushInt, PushNone, PushTruth, PushLiteral, LoadGlobal, StoreGlobal, LoadLocal, StoreLocal, PushFunction, Unary, Binary, Compare, KeepRight, EndChain, JumpOrDiscard, JumpIfFalse, Jump, EnterLoop, Break, Continue, Call, CallByName, Return, Discard, Finish}
+use Rattle.si_code.specs.declared.instr.Instr.TheVariants.{PushInt, PushNone, PushTruth, PushLiteral, LoadGlobal, StoreGlobal, LoadLocal, StoreLocal, PushFunction, Unary, Binary, Compare, KeepRight, EndChain, JumpOrDiscard, JumpIfFalse, Jump, EnterLoop, StartFor, NextItem, EnterTry, EnterFinally, LeaveBlock, StartFinally, EndFinally, TestClause, PushException, UnbindGlobal, UnbindLocal, Raise, RaiseAgain, Break, Continue, Call, CallByName, Return, Discard, Finish}
 use Rattle.si_code.specs.Contents.{Contents, IsSound, Resolves}
 use Rattle.si_plain.specs.Begins.{Begins}
 use Rattle.si_code.specs.Views.{text_at, instr_of, code_of, entry_of, entries_of, literal_of, name_of, Gains, GainsRoutines}
@@ -39,6 +39,19 @@ module _ (literals more_literals names more_names : List Text) (h : Begins liter
   instr_of-more (JumpIfFalse n) r = refl
   instr_of-more (Jump n) r = refl
   instr_of-more (EnterLoop back ahead) r = refl
+  instr_of-more StartFor r = refl
+  instr_of-more (NextItem n) r = refl
+  instr_of-more (EnterTry n) r = refl
+  instr_of-more (EnterFinally n) r = refl
+  instr_of-more LeaveBlock r = refl
+  instr_of-more StartFinally r = refl
+  instr_of-more EndFinally r = refl
+  instr_of-more TestClause r = refl
+  instr_of-more PushException r = refl
+  instr_of-more (UnbindGlobal slot) r = ap machine.UnbindGlobal (text_at-more names more_names slot k r)
+  instr_of-more (UnbindLocal place) r = refl
+  instr_of-more Raise r = refl
+  instr_of-more RaiseAgain r = refl
   instr_of-more Break r = refl
   instr_of-more Continue r = refl
   instr_of-more (Call n) r = refl

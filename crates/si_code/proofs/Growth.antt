@@ -5,7 +5,7 @@ use Rattle.std.proofs.lemmas.List.Elements.{All-weaker}
 use Rattle.si_plain.specs.Begins.{Begins}
 use Rattle.si_plain.proofs.Begins.{Begins-same, Begins-trans, length-Begins}
 use Rattle.si_code.specs.declared.instr.Instr.{Instr}
-use Rattle.si_code.specs.declared.instr.Instr.TheVariants.{PushInt, PushNone, PushTruth, PushLiteral, LoadGlobal, StoreGlobal, LoadLocal, StoreLocal, PushFunction, Unary, Binary, Compare, KeepRight, EndChain, JumpOrDiscard, JumpIfFalse, Jump, EnterLoop, Break, Continue, Call, CallByName, Return, Discard, Finish}
+use Rattle.si_code.specs.declared.instr.Instr.TheVariants.{PushInt, PushNone, PushTruth, PushLiteral, LoadGlobal, StoreGlobal, LoadLocal, StoreLocal, PushFunction, Unary, Binary, Compare, KeepRight, EndChain, JumpOrDiscard, JumpIfFalse, Jump, EnterLoop, StartFor, NextItem, EnterTry, EnterFinally, LeaveBlock, StartFinally, EndFinally, TestClause, PushException, UnbindGlobal, UnbindLocal, Raise, RaiseAgain, Break, Continue, Call, CallByName, Return, Discard, Finish}
 use Rattle.si_code.specs.Contents.{Contents, IsSound, Resolves, Extends}
 
 pub Extends-same : (c : Contents) → Extends c c
@@ -38,6 +38,19 @@ resolves_more h k (JumpOrDiscard o n) r = r
 resolves_more h k (JumpIfFalse n) r = r
 resolves_more h k (Jump n) r = r
 resolves_more h k (EnterLoop back ahead) r = r
+resolves_more h k StartFor r = r
+resolves_more h k (NextItem n) r = r
+resolves_more h k (EnterTry n) r = r
+resolves_more h k (EnterFinally n) r = r
+resolves_more h k LeaveBlock r = r
+resolves_more h k StartFinally r = r
+resolves_more h k EndFinally r = r
+resolves_more h k TestClause r = r
+resolves_more h k PushException r = r
+resolves_more h k (UnbindGlobal slot) r = omega arith
+resolves_more h k (UnbindLocal place) r = r
+resolves_more h k Raise r = r
+resolves_more h k RaiseAgain r = r
 resolves_more h k Break r = r
 resolves_more h k Continue r = r
 resolves_more h k (Call n) r = r

@@ -5,7 +5,7 @@ use Rattle.si_semantics.specs.Value.{Text, Nothing, Truth, Int, Str, Function}
 use Rattle.si_semantics.specs.Machine as machine
 use Rattle.si_syntax.specs.Trees.{binary_of, unary_of, comparison_of, boolean_of}
 use Rattle.si_code.specs.declared.instr.Instr.{Instr}
-use Rattle.si_code.specs.declared.instr.Instr.TheVariants.{PushInt, PushNone, PushTruth, PushLiteral, LoadGlobal, StoreGlobal, LoadLocal, StoreLocal, PushFunction, Unary, Binary, Compare, KeepRight, EndChain, JumpOrDiscard, JumpIfFalse, Jump, EnterLoop, Break, Continue, Call, CallByName, Return, Discard, Finish}
+use Rattle.si_code.specs.declared.instr.Instr.TheVariants.{PushInt, PushNone, PushTruth, PushLiteral, LoadGlobal, StoreGlobal, LoadLocal, StoreLocal, PushFunction, Unary, Binary, Compare, KeepRight, EndChain, JumpOrDiscard, JumpIfFalse, Jump, EnterLoop, StartFor, NextItem, EnterTry, EnterFinally, LeaveBlock, StartFinally, EndFinally, TestClause, PushException, UnbindGlobal, UnbindLocal, Raise, RaiseAgain, Break, Continue, Call, CallByName, Return, Discard, Finish}
 use Rattle.si_code.specs.declared.routine.Routine.{Routine}
 use Rattle.si_code.specs.Contents.{Contents}
 use Rattle.si_plain.specs.Names.{with_name}
@@ -34,6 +34,19 @@ instr_of literals names (JumpOrDiscard o n) = machine.JumpOrDiscard (boolean_of 
 instr_of literals names (JumpIfFalse n) = machine.JumpIfFalse n
 instr_of literals names (Jump n) = machine.Jump n
 instr_of literals names (EnterLoop back ahead) = machine.EnterLoop back ahead
+instr_of literals names StartFor = machine.StartFor
+instr_of literals names (NextItem n) = machine.NextItem n
+instr_of literals names (EnterTry n) = machine.EnterTry n
+instr_of literals names (EnterFinally n) = machine.EnterFinally n
+instr_of literals names LeaveBlock = machine.LeaveBlock
+instr_of literals names StartFinally = machine.StartFinally
+instr_of literals names EndFinally = machine.EndFinally
+instr_of literals names TestClause = machine.TestClause
+instr_of literals names PushException = machine.PushException
+instr_of literals names (UnbindGlobal slot) = machine.UnbindGlobal (text_at names slot)
+instr_of literals names (UnbindLocal place) = machine.UnbindLocal place
+instr_of literals names Raise = machine.DoRaise
+instr_of literals names RaiseAgain = machine.DoRaiseAgain
 instr_of literals names Break = machine.DoBreak
 instr_of literals names Continue = machine.DoContinue
 instr_of literals names (Call n) = machine.CallTop n
@@ -69,6 +82,7 @@ abbrev pub name_of : machine.Instr → Option Text
 name_of (machine.LoadGlobal x) = Some x
 name_of (machine.StoreGlobal x) = Some x
 name_of (machine.LoadLocal x k) = Some x
+name_of (machine.UnbindGlobal x) = Some x
 name_of _ = None
 
 -- a table has this code more, with its literals in order and a slot for each name that had none

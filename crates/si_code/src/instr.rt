@@ -51,6 +51,35 @@ pub enum Instr {
     /// `[..] to [..]`: enters the body of a loop that begins the first number of instructions before the one that
     /// follows this, and ends the second number past it.
     EnterLoop(u32, u32),
+    /// `[.., value] to [..]`: enters a block with the items of a value, or raises TypeError.
+    StartFor,
+    /// `[..] to [.., item]`: puts the next item of the innermost block; where there is none, leaves the block and jumps.
+    NextItem(u32),
+    /// `[..] to [..]`: enters the suite of a `try`, whose except clauses begin so many instructions past the one that
+    /// follows this.
+    EnterTry(u32),
+    /// `[..] to [..]`: enters what stands in front of a finally suite, which begins so many instructions past the one
+    /// that follows this.
+    EnterFinally(u32),
+    /// `[..] to [..]`: leaves the innermost block.
+    LeaveBlock,
+    /// `[..] to [..]`: enters a finally suite with nothing to leave after it.
+    StartFinally,
+    /// `[..] to [..]`: the end of a finally suite; what was left on entering it is left now.
+    EndFinally,
+    /// `[.., value] to [.., bool]`: puts whether an except clause with this value matches the exception of the innermost
+    /// block, or raises TypeError.
+    TestClause,
+    /// `[..] to [.., exception]`: puts the exception of the innermost block.
+    PushException,
+    /// `[..] to [..]`: unbinds the global at this slot.
+    UnbindGlobal(u32),
+    /// `[..] to [..]`: unbinds the local at this place.
+    UnbindLocal(u32),
+    /// `[.., value] to []`: raises an exception, or one of a kind, or TypeError.
+    Raise,
+    /// `[..] to []`: raises the active exception again, or RuntimeError.
+    RaiseAgain,
     /// `[..] to []`: leaves the innermost loop that was entered, for its end.
     Break,
     /// `[..] to []`: leaves the innermost loop that was entered, for its start.
@@ -79,6 +108,9 @@ impl Instr {
             Instr::JumpIfFalse(_) => Instr::JumpIfFalse(ahead),
             Instr::Jump(_) => Instr::Jump(ahead),
             Instr::EnterLoop(back, _) => Instr::EnterLoop(back, ahead),
+            Instr::NextItem(_) => Instr::NextItem(ahead),
+            Instr::EnterTry(_) => Instr::EnterTry(ahead),
+            Instr::EnterFinally(_) => Instr::EnterFinally(ahead),
             other => other,
         }
     }

@@ -1,19 +1,20 @@
 -- Compound statements: what is read is in the grammar, and what is in the grammar is read.
 use Rattle.std.proofs.Common.{◌≡◌, ℕ, zero, suc, ◌<◌, List, [], ◌∷◌, ◌++◌, ◌⊎◌, inl, inr, length, Option, Some, None, true, false, refl, sym, ap, ◌∙◌, subst, ⊎_elim, arith, append_assoc, length-append}
-use Rattle.std.specs.Prelude.{flat_map, if◌then◌else◌}
+use Rattle.std.specs.Prelude.{option_map, flat_map, if◌then◌else◌}
 use Rattle.std.proofs.lemmas.List.{append-nil}
 use Rattle.si_semantics.specs.Value.{Text}
-use Rattle.si_semantics.specs.Tree.{Expr, Stmt, Evaluate, Assign, Augment, Pass, If, While, Break, Continue, Define, Return, Global, Stmts, NoStmts}
+use Rattle.si_semantics.specs.Tree.{Expr, Constant, Name, Unary, Binary, Call, Boolean, Compare, Conditional, Stmt, Evaluate, Assign, Augment, Pass, If, While, For, Break, Continue, Define, Return, Global, Raise, Try, Finally, Stmts}
 use Rattle.si_semantics.specs.Tokens as token
-use Rattle.si_semantics.specs.Grammar.{Terminal, NAME, Sign, Word, NEWLINE, INDENT, DEDENT, Many, Behind, max_depth, IsExpression, Simple, stmts_of, Lines, Block, Suite, Branch, Tested, Otherwise, elifs_of, Compound, Nests}
-use Rattle.si_parse.specs.Reading.{then_read, rest_of, after_colon, after_newline, after_indent, after_if, after_elif, after_while, after_def, after_open, name_at, parameters_by, defined_by, define_by, after_else, expression_at, LineParser, is_dedent, many_by, indented_by, suite_from, suite_by, branch_by, with_branch, elif_by, is_none, no_elif, elifs_by, otherwise_from, otherwise_by, joined_if, if_by, while_by, with_compound, block_from, block_at}
-use Rattle.si_parse.proofs.Laws.{then_read_some, some_inj, spells_deeper, after_newline_some, after_colon_some, after_indent_some, after_if_some, after_elif_some, after_while_some, after_def_some, after_open_some, name_at_some, after_else_some}
-use Rattle.si_parse.proofs.Levels.{at_condition}
+use Rattle.si_semantics.specs.Grammar.{Terminal, NAME, Sign, Word, NEWLINE, INDENT, DEDENT, Many, Behind, Spells, max_depth, IsExpression, Simple, stmts_of, Lines, Block, Suite, Branch, Tested, Otherwise, elifs_of, Compound, Nests}
+use Rattle.si_parse.specs.Reading.{then_read, rest_of, after_colon, after_newline, after_indent, after_elif, after_in, after_except, after_finally, after_open, name_at, parameters_by, defined_by, define_by, after_else, expression_at, LineParser, is_dedent, many_by, indented_by, suite_from, suite_by, branch_by, with_branch, elif_by, is_none, no_elif, elifs_by, otherwise_from, otherwise_by, joined_if, if_by, joined_while, while_by, target_from, target_by, joined_for, for_by, Header, if_header, while_header, for_header, try_header, def_header, header_at, compound_by, with_compound, block_from, block_at}
+use Rattle.si_parse.proofs.Laws.{then_read_some, some_inj, spells_looser, spells_deeper, name_tighter, after_newline_some, after_colon_some, after_indent_some, after_elif_some, after_in_some, header_word, header_at_some, after_open_some, name_at_some, after_else_some}
+use Rattle.si_parse.proofs.Levels.{high, at_condition}
 use Rattle.si_parse.proofs.Lists.{chosen, added, many_sound, many_complete}
-use Rattle.si_parse.proofs.Starts.{newline_not, dedent_not, if_not, while_not, def_not, elif_not, else_not}
+use Rattle.si_parse.proofs.Starts.{newline_not, dedent_not, header_not, elif_not, else_not, except_not, finally_not}
 use Rattle.si_parse.proofs.Sound.{expression_sound}
 use Rattle.si_parse.proofs.Names.{parameters_reads, parameters_complete}
 use Rattle.si_parse.proofs.Complete.{expression_complete}
+use Rattle.si_parse.proofs.Handlers.{try_reads, try_complete, finally_complete}
 use Rattle.si_parse.proofs.Statements.{with_line, line_reads, line_complete, line_starts, line_terminals}
 
 abbrev pub all_of : List (List Stmt) → List Stmt
@@ -34,6 +35,39 @@ dedent_only : (ts : List Terminal) → is_dedent ts ≡ true → ts ≡ DEDENT �
 dedent_only [] h = cc
 dedent_only (DEDENT ∷ ts) h = refl
 dedent_only (_ ∷ ts) h = cc
+
+-- ---- the target of a `for`
+
+abbrev TargetRead : List Terminal → Text × List Terminal → Type 0
+TargetRead ts x = (f : List Terminal) × (ts ≡ f ++ Word token.InWord ∷ x.1) × Spells max_depth 18 (Name x.0) f
+
+target_behind : (f ts : List Terminal) (y : Text) (o : Option (List Terminal)) → after_in ts ≡ o → Spells max_depth 18 (Name y) f → (x : Text × List Terminal) → option_map {U = Text × List Terminal} (λ rest. (y, rest)) o ≡ Some x → TargetRead (f ++ ts) x
+target_behind f ts y None is spelled x h = cc
+target_behind f ts y (Some rest) is spelled x h =
+    let P : Text × List Terminal → Type 0 = TargetRead (f ++ ts) in subst P (some_inj (y, rest) x h) (f, ap (λ t. f ++ t) (after_in_some ts rest is), spelled)
+
+target_is : (f ts : List Terminal) (e : Expr) → Spells max_depth 16 e f → (x : Text × List Terminal) → target_from e (after_in ts) ≡ Some x → TargetRead (f ++ ts) x
+target_is f ts (Name y) spelled x h = target_behind f ts y (after_in ts) refl (name_tighter max_depth 16 18 y f spelled) x h
+target_is f ts (Constant v) spelled x h = cc
+target_is f ts (Unary op e) spelled x h = cc
+target_is f ts (Binary op e g) spelled x h = cc
+target_is f ts (Call e args names) spelled x h = cc
+target_is f ts (Boolean op e others) spelled x h = cc
+target_is f ts (Compare e cs) spelled x h = cc
+target_is f ts (Conditional e g i) spelled x h = cc
+
+target_reads : (ts : List Terminal) (x : Text × List Terminal) → target_by ts ≡ Some x → TargetRead ts x
+target_reads ts x h =
+    let s = then_read_some (expression_at max_depth 16 ts) (λ r. target_from r.0 (after_in r.2)) x h in
+    let a = expression_sound max_depth 16 (omega arith) (high 16 (omega arith)) ts s.0 s.1 in
+    let P : List Terminal → Type 0 = λ t. TargetRead t x in
+    subst P (sym a.0.split) (target_is a.0.front s.0.2 s.0.0 (spells_deeper s.0.1 max_depth a.1 16 s.0.0 a.0.front a.0.spelled) x s.2)
+
+target_complete : (x : Text) (f more : List Terminal) → Spells max_depth 18 (Name x) f → target_by (f ++ Word token.InWord ∷ more) ≡ Some (x, more)
+target_complete x f more h =
+    let loose = spells_looser max_depth 16 18 (Name x) f (omega arith) h in
+    let c = expression_complete max_depth max_depth 16 (Name x) f (Word token.InWord ∷ more) (omega arith) (omega arith) loose (omega arith) refl in
+    ap (λ o. then_read o (λ r. target_from r.0 (after_in r.2))) c.3
 
 -- ---- what is read is in the grammar
 
@@ -146,10 +180,32 @@ module _ (L : Lines) (line : LineParser) (sound : LineSound L line) where
 
   while_reads : (ts : List Terminal) (r : Stmt × List Terminal) → while_by line ts ≡ Some r → CompoundRead (Word token.WhileWord ∷ ts) r
   while_reads ts r h =
-      let b = then_read_some (branch_by line ts) (λ b. Some (While b.0.0 b.0.1 NoStmts, b.1)) r h in
+      let b = then_read_some (branch_by line ts) (λ b. then_read (otherwise_by line b.1) (joined_while b.0)) r h in
+      let o = then_read_some (otherwise_by line b.0.1) (joined_while b.0.0) r b.2 in
       let f = branch_reads ts b.0 b.1 in
+      let g = otherwise_reads b.0.1 (after_else b.0.1) refl o.0 o.1 in
       let P : Stmt × List Terminal → Type 0 = CompoundRead (Word token.WhileWord ∷ ts) in
-      subst P (some_inj (While b.0.0.0 b.0.0.1 NoStmts, b.0.1) r b.2) (Word token.WhileWord ∷ f.0, ap (λ t. Word token.WhileWord ∷ t) f.1, (refl, (f.0, refl, f.2)))
+      subst P (some_inj (While b.0.0.0 b.0.0.1 (stmts_of o.0.0), o.0.1) r o.2) (
+        Word token.WhileWord ∷ (f.0 ++ g.0),
+        ap (λ t. Word token.WhileWord ∷ t) (f.1 ∙ ap (λ t. f.0 ++ t) g.1 ∙ sym (append_assoc f.0 g.0 o.0.1)),
+        (f.0, g.0, refl, f.2, g.2),
+      )
+
+  for_reads : (ts : List Terminal) (r : Stmt × List Terminal) → for_by line ts ≡ Some r → CompoundRead (Word token.ForWord ∷ ts) r
+  for_reads ts r h =
+      let x = then_read_some (target_by ts) (λ x. then_read (branch_by line x.1) (λ b. then_read (otherwise_by line b.1) (joined_for x.0 b.0))) r h in
+      let b = then_read_some (branch_by line x.0.1) (λ b. then_read (otherwise_by line b.1) (joined_for x.0.0 b.0)) r x.2 in
+      let o = then_read_some (otherwise_by line b.0.1) (joined_for x.0.0 b.0.0) r b.2 in
+      let e = target_reads ts x.0 x.1 in
+      let f = branch_reads x.0.1 b.0 b.1 in
+      let g = otherwise_reads b.0.1 (after_else b.0.1) refl o.0 o.1 in
+      let behind : x.0.1 ≡ (f.0 ++ g.0) ++ o.0.1 = f.1 ∙ ap (λ t. f.0 ++ t) g.1 ∙ sym (append_assoc f.0 g.0 o.0.1) in
+      let P : Stmt × List Terminal → Type 0 = CompoundRead (Word token.ForWord ∷ ts) in
+      subst P (some_inj (For x.0.0 b.0.0.0 b.0.0.1 (stmts_of o.0.0), o.0.1) r o.2) (
+        Word token.ForWord ∷ (e.0 ++ Word token.InWord ∷ (f.0 ++ g.0)),
+        ap (λ t. Word token.ForWord ∷ t) (e.1 ∙ ap (λ t. e.0 ++ Word token.InWord ∷ t) behind ∙ sym (append_assoc e.0 (Word token.InWord ∷ (f.0 ++ g.0)) o.0.1)),
+        (e.0, f.0, g.0, refl, e.2, f.2, g.2),
+      )
 
   define_reads : (ts : List Terminal) (r : Stmt × List Terminal) → define_by line ts ≡ Some r → CompoundRead (Word token.DefWord ∷ ts) r
   define_reads ts r h =
@@ -176,25 +232,24 @@ module _ (L : Lines) (line : LineParser) (sound : LineSound L line) where
   compound_reads body ts c r f h =
       let P : List Stmt × List Terminal → Type 0 = LineRead body ts in subst P (some_inj (body ++ c.0 ∷ [], c.1) r h) (c.0 ∷ [], f.0, refl, f.1, inr (c.0, refl, f.2))
 
-  block_reads : (body : List Stmt) (ts : List Terminal) (o w d : Option (List Terminal)) → after_if ts ≡ o → after_while ts ≡ w → after_def ts ≡ d → (r : List Stmt × List Terminal) → block_from line body ts o w d ≡ Some r → LineRead body ts r
-  block_reads body ts (Some rest) w d is also too r h =
-      let x = then_read_some (if_by line rest) (with_compound body) r h in
+  header_reads : (header : Header) (ts : List Terminal) (r : Stmt × List Terminal) → compound_by line header ts ≡ Some r → CompoundRead (Word (header_word header) ∷ ts) r
+  header_reads if_header ts r h = if_reads ts r h
+  header_reads while_header ts r h = while_reads ts r h
+  header_reads for_header ts r h = for_reads ts r h
+  header_reads try_header ts r h = try_reads L line suite_reads (λ ts r h. otherwise_reads ts (after_else ts) refl r h) ts r h
+  header_reads def_header ts r h = define_reads ts r h
+
+  block_reads : (body : List Stmt) (ts : List Terminal) (o : Option (Header × List Terminal)) → header_at ts ≡ o → (r : List Stmt × List Terminal) → block_from line body ts o ≡ Some r → LineRead body ts r
+  block_reads body ts (Some header) is r h =
+      let x = then_read_some (compound_by line header.0 header.1) (with_compound body) r h in
       let P : List Terminal → Type 0 = λ t. LineRead body t r in
-      subst P (sym (after_if_some ts rest is)) (compound_reads body (Word token.IfWord ∷ rest) x.0 r (if_reads rest x.0 x.1) x.2)
-  block_reads body ts None (Some rest) d is also too r h =
-      let x = then_read_some (while_by line rest) (with_compound body) r h in
-      let P : List Terminal → Type 0 = λ t. LineRead body t r in
-      subst P (sym (after_while_some ts rest also)) (compound_reads body (Word token.WhileWord ∷ rest) x.0 r (while_reads rest x.0 x.1) x.2)
-  block_reads body ts None None (Some rest) is also too r h =
-      let x = then_read_some (define_by line rest) (with_compound body) r h in
-      let P : List Terminal → Type 0 = λ t. LineRead body t r in
-      subst P (sym (after_def_some ts rest too)) (compound_reads body (Word token.DefWord ∷ rest) x.0 r (define_reads rest x.0 x.1) x.2)
-  block_reads body ts None None None is also too r h = let l = line_reads body ts r h in (l.0, l.1, l.2, l.3, inl l.4)
+      subst P (sym (header_at_some ts header is)) (compound_reads body (Word (header_word header.0) ∷ header.1) x.0 r (header_reads header.0 header.1 x.0 x.1) x.2)
+  block_reads body ts None is r h = let l = line_reads body ts r h in (l.0, l.1, l.2, l.3, inl l.4)
 
 pub block_sound : (n : ℕ) → LineSound (Nests n) (block_at n)
 unfolding block_at
 block_sound zero body ts r h = line_reads body ts r h
-block_sound (suc n) body ts r h = block_reads (Nests n) (block_at n) (block_sound n) body ts (after_if ts) (after_while ts) (after_def ts) refl refl refl r h
+block_sound (suc n) body ts r h = block_reads (Nests n) (block_at n) (block_sound n) body ts (header_at ts) refl r h
 
 -- ---- what is in the grammar is read
 
@@ -202,6 +257,8 @@ block_sound (suc n) body ts r h = block_reads (Nests n) (block_at n) (block_soun
 pub record Ends (ts : List Terminal) : Type 0 where
   pub elifs : after_elif ts ≡ None
   pub elses : after_else ts ≡ None
+  pub excepts : after_except ts ≡ None
+  pub finals : after_finally ts ≡ None
   pub some : 0 < length ts
 
 pub record Begun (f more : List Terminal) : Type 0 where
@@ -214,7 +271,7 @@ line_begun line f more h =
     let start = line_starts line f more h in
     let some = line_terminals line f h in
     record {
-      ends = record { elifs = elif_not (f ++ more) start; elses = else_not (f ++ more) start; some = omega (arith, length-append f more) };
+      ends = record { elifs = elif_not (f ++ more) start; elses = else_not (f ++ more) start; excepts = except_not (f ++ more) start; finals = finally_not (f ++ more) start; some = omega (arith, length-append f more) };
       in_block = dedent_not (f ++ more) start;
       long = some;
     }
@@ -222,14 +279,24 @@ line_begun line f more h =
 compound_begun : (L : Lines) (s : Stmt) (f more : List Terminal) → Compound L s f → Begun f more
 compound_begun L (If test body other) f more h =
     let P : List Terminal → Type 0 = λ f. Begun f more in
-    subst P (sym h.5) (record { ends = record { elifs = refl; elses = refl; some = omega arith }; in_block = refl; long = omega arith })
+    subst P (sym h.5) (record { ends = record { elifs = refl; elses = refl; excepts = refl; finals = refl; some = omega arith }; in_block = refl; long = omega arith })
 compound_begun L (While test body other) f more h =
     let P : List Terminal → Type 0 = λ f. Begun f more in
-    subst P (sym h.1.1) (record { ends = record { elifs = refl; elses = refl; some = omega arith }; in_block = refl; long = omega arith })
+    subst P (sym h.2) (record { ends = record { elifs = refl; elses = refl; excepts = refl; finals = refl; some = omega arith }; in_block = refl; long = omega arith })
+compound_begun L (For x over body other) f more h =
+    let P : List Terminal → Type 0 = λ f. Begun f more in
+    subst P (sym h.3) (record { ends = record { elifs = refl; elses = refl; excepts = refl; finals = refl; some = omega arith }; in_block = refl; long = omega arith })
+compound_begun L (Try body cs other) f more h =
+    let P : List Terminal → Type 0 = λ f. Begun f more in
+    subst P (sym h.2) (record { ends = record { elifs = refl; elses = refl; excepts = refl; finals = refl; some = omega arith }; in_block = refl; long = omega arith })
+compound_begun L (Finally body cs other last) f more h =
+    let P : List Terminal → Type 0 = λ f. Begun f more in
+    subst P (sym h.3) (record { ends = record { elifs = refl; elses = refl; excepts = refl; finals = refl; some = omega arith }; in_block = refl; long = omega arith })
 compound_begun L (Define x ps body) f more h =
     let P : List Terminal → Type 0 = λ f. Begun f more in
-    subst P (sym h.2) (record { ends = record { elifs = refl; elses = refl; some = omega arith }; in_block = refl; long = omega arith })
+    subst P (sym h.2) (record { ends = record { elifs = refl; elses = refl; excepts = refl; finals = refl; some = omega arith }; in_block = refl; long = omega arith })
 compound_begun L (Return a) f more h = absurd h
+compound_begun L (Raise a) f more h = absurd h
 compound_begun L (Global xs) f more h = absurd h
 compound_begun L (Evaluate e) f more h = absurd h
 compound_begun L (Assign x e) f more h = absurd h
@@ -264,7 +331,7 @@ module _ (L : Lines) (line : LineParser) (complete : LineComplete L line) (begin
       let fuel : length f < length ts = omega (arith, length-append f (DEDENT ∷ more)) in
       ap (λ b. if b then None else then_read (many_by line is_dedent (length ts) [] ts) (λ r. Some (r.0, rest_of r.1))) (in_block lines f (DEDENT ∷ more) some h)
       ∙ ap (λ o. then_read o (λ r. Some (r.0, rest_of r.1)))
-      (many_complete with_line line is_dedent L Ends good next_line (length ts) [] lines f (DEDENT ∷ more) fuel h (record { elifs = refl; elses = refl; some = omega arith }) refl)
+      (many_complete with_line line is_dedent L Ends good next_line (length ts) [] lines f (DEDENT ∷ more) fuel h (record { elifs = refl; elses = refl; excepts = refl; finals = refl; some = omega arith }) refl)
       ∙ ap (λ b. Some (b, more)) (added_lines [] lines)
 
   abbrev SuiteFound : Stmts → List Terminal → List Terminal → Type 0
@@ -346,12 +413,30 @@ module _ (L : Lines) (line : LineParser) (complete : LineComplete L line) (begin
             ∙ ap (λ rest. Some (If test body rest, more)) (sym h.6),
       )
 
-  while_complete : (test : Expr) (body other : Stmts) (f more : List Terminal) → Compound L (While test body other) f → (g : List Terminal) × (f ≡ Word token.WhileWord ∷ g) × (while_by line (g ++ more) ≡ Some (While test body other, more))
-  while_complete test body other f more h = (
-    h.1.0,
-    h.1.1,
-    ap (λ o. then_read o (λ b. Some (While b.0.0 b.0.1 NoStmts, b.1))) (branch_complete (test, body) h.1.0 more h.1.2) ∙ ap (λ rest. Some (While test body rest, more)) (sym h.0),
-  )
+  while_complete : (test : Expr) (body other : Stmts) (f more : List Terminal) → Compound L (While test body other) f → Ends more → (g : List Terminal) × (f ≡ Word token.WhileWord ∷ g) × (while_by line (g ++ more) ≡ Some (While test body other, more))
+  while_complete test body other f more h e =
+      let o = otherwise_complete other h.1 more h.4 e in (
+        h.0 ++ h.1,
+        h.2,
+        ap (while_by line) (append_assoc h.0 h.1 more)
+            ∙ ap (λ o. then_read o (λ b. then_read (otherwise_by line b.1) (joined_while b.0))) (branch_complete (test, body) h.0 (h.1 ++ more) h.3)
+            ∙ ap (λ o. then_read o (joined_while (test, body))) o.2
+            ∙ ap (λ last. Some (While test body last, more)) (sym o.1),
+      )
+
+  for_complete : (x : Text) (over : Expr) (body other : Stmts) (f more : List Terminal) → Compound L (For x over body other) f → Ends more → (g : List Terminal) × (f ≡ Word token.ForWord ∷ g) × (for_by line (g ++ more) ≡ Some (For x over body other, more))
+  for_complete x over body other f more h e =
+      let o = otherwise_complete other h.2 more h.6 e in
+      let split : (h.0 ++ Word token.InWord ∷ (h.1 ++ h.2)) ++ more ≡ h.0 ++ Word token.InWord ∷ (h.1 ++ (h.2 ++ more)) =
+      append_assoc h.0 (Word token.InWord ∷ (h.1 ++ h.2)) more ∙ ap (λ t. h.0 ++ Word token.InWord ∷ t) (append_assoc h.1 h.2 more) in (
+        h.0 ++ Word token.InWord ∷ (h.1 ++ h.2),
+        h.3,
+        ap (for_by line) split
+            ∙ ap (λ o. then_read o (λ x. then_read (branch_by line x.1) (λ b. then_read (otherwise_by line b.1) (joined_for x.0 b.0)))) (target_complete x h.0 (h.1 ++ (h.2 ++ more)) h.4)
+            ∙ ap (λ o. then_read o (λ b. then_read (otherwise_by line b.1) (joined_for x b.0))) (branch_complete (over, body) h.1 (h.2 ++ more) h.5)
+            ∙ ap (λ o. then_read o (joined_for x (over, body))) o.2
+            ∙ ap (λ last. Some (For x over body last, more)) (sym o.1),
+      )
 
   define_complete : (x : Text) (ps : List Text) (body : Stmts) (f more : List Terminal) → Compound L (Define x ps body) f → (g : List Terminal) × (f ≡ Word token.DefWord ∷ g) × (define_by line (g ++ more) ≡ Some (Define x ps body, more))
   define_complete x ps body f more h =
@@ -365,15 +450,11 @@ module _ (L : Lines) (line : LineParser) (complete : LineComplete L line) (begin
       )
 
   abbrev Read : List Stmt → List Stmt → List Terminal → List Terminal → Type 0
-  Read body ss f more = block_from line body (f ++ more) (after_if (f ++ more)) (after_while (f ++ more)) (after_def (f ++ more)) ≡ Some (with_line body ss, more)
+  Read body ss f more = block_from line body (f ++ more) (header_at (f ++ more)) ≡ Some (with_line body ss, more)
 
   simple_read : (body ss : List Stmt) (f more : List Terminal) → Simple ss f → Read body ss f more
   simple_read body ss f more h =
-      let start = line_starts ss f more h in
-      ap (λ o. block_from line body (f ++ more) o (after_while (f ++ more)) (after_def (f ++ more))) (if_not (f ++ more) start)
-      ∙ ap (λ o. block_from line body (f ++ more) None o (after_def (f ++ more))) (while_not (f ++ more) start)
-      ∙ ap (λ o. block_from line body (f ++ more) None None o) (def_not (f ++ more) start)
-      ∙ line_complete body ss f more h
+      ap (block_from line body (f ++ more)) (header_not (f ++ more) (line_starts ss f more h)) ∙ line_complete body ss f more h
 
   compound_read : (body : List Stmt) (s : Stmt) (f more : List Terminal) → Compound L s f → Ends more → Read body (s ∷ []) f more
   compound_read body (If test rest other) f more h e =
@@ -381,14 +462,27 @@ module _ (L : Lines) (line : LineParser) (complete : LineComplete L line) (begin
       let P : List Terminal → Type 0 = λ f. Read body (If test rest other ∷ []) f more in
       subst P (sym c.1) (ap (λ o. then_read o (with_compound body)) c.2)
   compound_read body (While test rest other) f more h e =
-      let c = while_complete test rest other f more h in
+      let c = while_complete test rest other f more h e in
       let P : List Terminal → Type 0 = λ f. Read body (While test rest other ∷ []) f more in
+      subst P (sym c.1) (ap (λ o. then_read o (with_compound body)) c.2)
+  compound_read body (For x over rest other) f more h e =
+      let c = for_complete x over rest other f more h e in
+      let P : List Terminal → Type 0 = λ f. Read body (For x over rest other ∷ []) f more in
+      subst P (sym c.1) (ap (λ o. then_read o (with_compound body)) c.2)
+  compound_read body (Try rest cs other) f more h e =
+      let c = try_complete L line suite_complete rest cs other f more h (record { no_except = e.excepts; no_else = e.elses; some = e.some }) e.finals in
+      let P : List Terminal → Type 0 = λ f. Read body (Try rest cs other ∷ []) f more in
+      subst P (sym c.1) (ap (λ o. then_read o (with_compound body)) c.2)
+  compound_read body (Finally rest cs other last) f more h e =
+      let c = finally_complete L line suite_complete rest cs other last f more h in
+      let P : List Terminal → Type 0 = λ f. Read body (Finally rest cs other last ∷ []) f more in
       subst P (sym c.1) (ap (λ o. then_read o (with_compound body)) c.2)
   compound_read body (Define x ps rest) f more h e =
       let c = define_complete x ps rest f more h in
       let P : List Terminal → Type 0 = λ f. Read body (Define x ps rest ∷ []) f more in
       subst P (sym c.1) (ap (λ o. then_read o (with_compound body)) c.2)
   compound_read body (Return x) f more h e = absurd h
+  compound_read body (Raise x) f more h e = absurd h
   compound_read body (Global xs) f more h e = absurd h
   compound_read body (Evaluate x) f more h e = absurd h
   compound_read body (Assign x v) f more h e = absurd h

@@ -3,9 +3,9 @@ use Rattle.std.proofs.Common.{◌≡◌, ℕ, zero, suc, ◌≤◌, List, [], �
 use Rattle.std.specs.Prelude.{flat_map}
 use Rattle.std.specs.List.{AllByRecursion}
 use Rattle.si_semantics.specs.Value.{Text}
-use Rattle.si_semantics.specs.Tree.{BooleanOperator, Expr, Constant, Name, Unary, Binary, Call, Boolean, Compare, Conditional, Exprs, NoExprs, MoreExprs, Comparisons, NoComparisons, MoreComparisons, Stmt, Evaluate, Assign, Augment, Pass, If, While, Break, Continue, Define, Return, Global, Stmts}
+use Rattle.si_semantics.specs.Tree.{BooleanOperator, Expr, Constant, Name, Unary, Binary, Call, Boolean, Compare, Conditional, Exprs, NoExprs, MoreExprs, Comparisons, NoComparisons, MoreComparisons, Stmt, Evaluate, Assign, Augment, Pass, If, While, For, Break, Continue, Define, Return, Global, Raise, Try, Finally, Stmts, Clauses, NoClauses, MoreClauses}
 use Rattle.si_semantics.specs.Tokens as token
-use Rattle.si_semantics.specs.Grammar.{Terminal, Word, left_level, right_level, prefix_level, item_level, word_of, Many, Behind, Following, Separated, Argument, Positional, ByName, Passes, IsPassed, items_of, exprs_of, links_of, Compares, Spells, max_depth, Small, Simple, stmts_of, Lines, Suite, Branch, Tested, Otherwise, elifs_of, Compound, Nests, depth_of, depth_of_all, depth_of_chain, IsShallow, AreShallow}
+use Rattle.si_semantics.specs.Grammar.{Terminal, Word, left_level, right_level, prefix_level, item_level, word_of, Many, Behind, Following, Separated, Argument, Positional, ByName, Passes, IsPassed, items_of, exprs_of, links_of, Compares, Spells, max_depth, Small, Simple, stmts_of, Lines, Suite, Branch, Tested, Otherwise, elifs_of, clause_list, Excepts, Handlers, Compound, Nests, depth_of, depth_of_all, depth_of_chain, IsShallow, AreShallow, ClausesAreShallow}
 use Rattle.si_parse.proofs.Laws.{exprs_of_items}
 
 -- ---- expressions
@@ -79,6 +79,11 @@ small_shallow (Global xs) f h = tt
 small_shallow (Define x ps body) f h = absurd h
 small_shallow (If test body other) f h = absurd h
 small_shallow (While test body other) f h = absurd h
+small_shallow (For x over body other) f h = absurd h
+small_shallow (Raise None) f h = omega arith
+small_shallow (Raise (Some e)) f h = bounded max_depth 1 e h.0 h.2
+small_shallow (Try body cs other) f h = absurd h
+small_shallow (Finally body cs other last) f h = absurd h
 
 following_shallow : (ss : List Stmt) (g : List Terminal) → Following Small token.Semicolon ss g → AllByRecursion IsShallow ss
 following_shallow [] g h = tt
@@ -119,10 +124,28 @@ module _ (L : Lines) (shallow : Shallow L) where
   elifs_shallow (b ∷ elifs) last f h low =
       ((bounded max_depth 1 b.0 h.3.2.0 h.3.2.3, suite_shallow b.1 h.3.2.1 h.3.2.4, elifs_shallow elifs last h.1 h.4 low), tt)
 
+  excepts_shallow : (cs : Clauses) (f : List Terminal) → Many (Excepts L) (clause_list cs) f → ClausesAreShallow cs
+  excepts_shallow NoClauses f h = tt
+  excepts_shallow (MoreClauses None None b cs) f h = (omega arith, suite_shallow b h.3.0 h.3.2, excepts_shallow cs h.1 h.4)
+  excepts_shallow (MoreClauses None (Some y) b cs) f h = absurd h.3
+  excepts_shallow (MoreClauses (Some e) None b cs) f h =
+      (bounded max_depth 1 e h.3.2.0 h.3.2.3, suite_shallow b h.3.2.1 h.3.2.4, excepts_shallow cs h.1 h.4)
+  excepts_shallow (MoreClauses (Some e) (Some y) b cs) f h = (bounded max_depth 1 e h.3.0 h.3.3, suite_shallow b h.3.1 h.3.4, excepts_shallow cs h.1 h.4)
+
+  handlers_shallow : (cs : Clauses) (other : Stmts) (f : List Terminal) → Handlers L (clause_list cs) other f → ClausesAreShallow cs × AreShallow other
+  handlers_shallow NoClauses other f h = (tt, subst AreShallow (sym h.0) tt)
+  handlers_shallow (MoreClauses a y b cs) other f h = (excepts_shallow (MoreClauses a y b cs) h.0 h.3, last_shallow other h.1 h.5)
+
   compound_shallow : (s : Stmt) (f : List Terminal) → Compound L s f → IsShallow s
   compound_shallow (If test body other) f h =
       (bounded max_depth 1 test h.7.0 h.7.3, suite_shallow body h.7.1 h.7.4, subst AreShallow (sym h.6) (elifs_shallow h.0 h.1 h.3 h.8 (last_shallow h.1 h.4 h.9)))
-  compound_shallow (While test body other) f h = (bounded max_depth 1 test h.1.2.0 h.1.2.3, suite_shallow body h.1.2.1 h.1.2.4, subst AreShallow (sym h.0) tt)
+  compound_shallow (While test body other) f h = (bounded max_depth 1 test h.3.0 h.3.3, suite_shallow body h.3.1 h.3.4, last_shallow other h.1 h.4)
+  compound_shallow (For x over body other) f h = (bounded max_depth 1 over h.5.0 h.5.3, suite_shallow body h.5.1 h.5.4, last_shallow other h.2 h.6)
+  compound_shallow (Try body cs other) f h =
+      let t = handlers_shallow cs other h.1 h.5 in (suite_shallow body h.0 h.3, t.0, t.1)
+  compound_shallow (Finally body cs other last) f h =
+      let t = handlers_shallow cs other h.1 h.5 in (suite_shallow body h.0 h.4, t.0, t.1, suite_shallow last h.2 h.6)
+  compound_shallow (Raise a) f h = absurd h
   compound_shallow (Define x ps body) f h = (h.4, suite_shallow body h.1 h.5)
   compound_shallow (Return a) f h = absurd h
   compound_shallow (Global xs) f h = absurd h

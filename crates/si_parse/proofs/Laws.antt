@@ -1,13 +1,13 @@
 -- Laws of the grammar: a limit may be raised, and a looser level asked.
 use Rattle.std.proofs.Common.{◌≡◌, ℕ, zero, suc, ◌+◌, ◌≤◌, List, [], ◌∷◌, ◌++◌, inl, inr, Option, Some, None, refl, sym, ap, ◌∙◌, subst, arith, add-one}
 use Rattle.std.specs.Prelude.{option_map}
-use Rattle.si_semantics.specs.Value.{Nothing, Truth, Int, Str, Provided, Function}
+use Rattle.si_semantics.specs.Value.{Nothing, Truth, Int, Str, Provided, Function, Range, Class, Address}
 use Rattle.si_semantics.specs.Tree.{UnaryOperator, ComparisonOperator, BooleanOperator, Expr, Constant, Name, Unary, Binary, Call, Boolean, Compare, Conditional, Exprs, NoExprs, MoreExprs, Comparisons, NoComparisons, MoreComparisons}
 use Rattle.si_semantics.specs.Tree as tree
-use Rattle.si_semantics.specs.Tokens.{Symbol}
+use Rattle.si_semantics.specs.Tokens.{Symbol, Keyword}
 use Rattle.si_semantics.specs.Tokens as token
 use Rattle.si_semantics.specs.Grammar.{Terminal, NAME, Sign, Word, NEWLINE, INDENT, Language, prefix_level, prefix_of, item_level, word_of, comparison_of, Many, Behind, Following, Separated, Argument, Positional, ByName, Passes, items_of, exprs_of, Link, links_of, chain_of, Compares, Produces, Spells}
-use Rattle.si_parse.specs.Reading.{then_read, rest_of, after_close, after_equal, after_open, named_at, name_at, after_comma, after_semicolon, after_newline, after_colon, after_indent, after_if, after_elif, after_while, after_def, after_return, after_global, after_not, after_else, after_and, after_or, after_boolean, with_word, prefix_at, comparison_symbol, identity_from, comparison_at}
+use Rattle.si_parse.specs.Reading.{then_read, rest_of, after_close, after_equal, after_open, named_at, name_at, after_comma, after_semicolon, after_newline, after_colon, after_indent, after_elif, after_in, after_except, after_finally, after_as, after_return, after_global, after_raise, Header, if_header, while_header, for_header, try_header, def_header, header_at, after_not, after_else, after_and, after_or, after_boolean, with_word, prefix_at, comparison_symbol, identity_from, comparison_at}
 
 -- ---- lists of items
 
@@ -53,6 +53,9 @@ produces_mono E F w l (Constant (Provided b)) ts h = h
 produces_mono E F w l (Unary op a) ts h = (h.0, h.1, h.2, w (prefix_level op) a h.0 h.3)
 produces_mono E F w l (Binary op a b) ts h = (h.0, h.1, h.2, h.3, w _ a h.0 h.4, w _ b h.1 h.5)
 produces_mono E F w l (Constant (Function x k)) ts h = h
+produces_mono E F w l (Constant (Range a b c)) ts h = h
+produces_mono E F w l (Constant (Class k)) ts h = h
+produces_mono E F w l (Constant (Address x)) ts h = h
 produces_mono E F w l (Call a args names) ts h = (h.0, h.1, h.2, h.3, h.4, w _ a h.0 h.5, h.6, separated_mono (Passes E) (Passes F) token.Comma (passes_mono E F w) h.2 h.1 h.7)
 produces_mono E F w l (Compare a cs) ts h = (h.0, h.1, h.2, h.3, w 10 a h.0 h.4, h.5, many_mono (Compares E) (Compares F) (compares_mono E F w) (links_of cs) h.1 h.6)
 produces_mono E F w l (Boolean op a others) ts h = (
@@ -76,6 +79,9 @@ produces_looser E k l (Constant (Provided b)) ts le h = h
 produces_looser E k l (Unary op a) ts le h = (h.0, h.1, omega (arith, h.2), h.3)
 produces_looser E k l (Binary op a b) ts le h = (h.0, h.1, h.2, omega (arith, h.3), h.4, h.5)
 produces_looser E k l (Constant (Function x i)) ts le h = h
+produces_looser E k l (Constant (Range a b c)) ts le h = h
+produces_looser E k l (Constant (Class i)) ts le h = h
+produces_looser E k l (Constant (Address x)) ts le h = h
 produces_looser E k l (Call a args names) ts le h = (h.0, h.1, h.2, h.3, omega (arith, h.4), h.5, h.6, h.7)
 produces_looser E k l (Compare a cs) ts le h = (h.0, h.1, h.2, omega (arith, h.3), h.4, h.5, h.6)
 produces_looser E k l (Boolean op a others) ts le h = (h.0, h.1, h.2, omega (arith, h.3), h.4, h.5, h.6)
@@ -91,6 +97,12 @@ spells_deeper zero n le l e ts h = absurd h
 spells_deeper (suc m) zero le l e ts h = absurd (omega arith)
 spells_deeper (suc m) (suc n) le l e ts (inl h) = inl (produces_mono (Spells m) (Spells n) (spells_deeper m n (omega arith)) l e ts h)
 spells_deeper (suc m) (suc n) le l e ts (inr h) = inr (h.0, h.1, spells_deeper m n (omega arith) 1 e h.0 h.2)
+
+-- a name is of every level
+pub name_tighter : (n k l : ℕ) (x : List ℕ) (ts : List Terminal) → Spells n k (Name x) ts → Spells n l (Name x) ts
+name_tighter zero k l x ts h = absurd h
+name_tighter (suc n) k l x ts (inl h) = inl h
+name_tighter (suc n) k l x ts (inr h) = inr h
 
 -- one production over parts of at most depth d
 pub node : (d l : ℕ) (e : Expr) (ts : List Terminal) → Produces (Spells d) l e ts → Spells (d + 1) l e ts
@@ -153,30 +165,35 @@ after_indent_some [] rest h = cc
 after_indent_some (INDENT ∷ ts) rest h = let e : ts ≡ rest = cc in ap (λ l. INDENT ∷ l) e
 after_indent_some (_ ∷ ts) rest h = cc
 
-pub after_if_some : (ts rest : List Terminal) → after_if ts ≡ Some rest → ts ≡ Word token.IfWord ∷ rest
-after_if_some [] rest h = cc
-after_if_some (Word token.IfWord ∷ ts) rest h = let e : ts ≡ rest = cc in ap (λ l. Word token.IfWord ∷ l) e
-after_if_some (_ ∷ ts) rest h = cc
-
 pub after_elif_some : (ts rest : List Terminal) → after_elif ts ≡ Some rest → ts ≡ Word token.ElifWord ∷ rest
 after_elif_some [] rest h = cc
 after_elif_some (Word token.ElifWord ∷ ts) rest h = let e : ts ≡ rest = cc in ap (λ l. Word token.ElifWord ∷ l) e
 after_elif_some (_ ∷ ts) rest h = cc
 
-pub after_while_some : (ts rest : List Terminal) → after_while ts ≡ Some rest → ts ≡ Word token.WhileWord ∷ rest
-after_while_some [] rest h = cc
-after_while_some (Word token.WhileWord ∷ ts) rest h = let e : ts ≡ rest = cc in ap (λ l. Word token.WhileWord ∷ l) e
-after_while_some (_ ∷ ts) rest h = cc
+pub after_in_some : (ts rest : List Terminal) → after_in ts ≡ Some rest → ts ≡ Word token.InWord ∷ rest
+after_in_some [] rest h = cc
+after_in_some (Word token.InWord ∷ ts) rest h = let e : ts ≡ rest = cc in ap (λ l. Word token.InWord ∷ l) e
+after_in_some (_ ∷ ts) rest h = cc
+
+pub after_except_some : (ts rest : List Terminal) → after_except ts ≡ Some rest → ts ≡ Word token.ExceptWord ∷ rest
+after_except_some [] rest h = cc
+after_except_some (Word token.ExceptWord ∷ ts) rest h = let e : ts ≡ rest = cc in ap (λ l. Word token.ExceptWord ∷ l) e
+after_except_some (_ ∷ ts) rest h = cc
+
+pub after_finally_some : (ts rest : List Terminal) → after_finally ts ≡ Some rest → ts ≡ Word token.FinallyWord ∷ rest
+after_finally_some [] rest h = cc
+after_finally_some (Word token.FinallyWord ∷ ts) rest h = let e : ts ≡ rest = cc in ap (λ l. Word token.FinallyWord ∷ l) e
+after_finally_some (_ ∷ ts) rest h = cc
+
+pub after_as_some : (ts rest : List Terminal) → after_as ts ≡ Some rest → ts ≡ Word token.AsWord ∷ rest
+after_as_some [] rest h = cc
+after_as_some (Word token.AsWord ∷ ts) rest h = let e : ts ≡ rest = cc in ap (λ l. Word token.AsWord ∷ l) e
+after_as_some (_ ∷ ts) rest h = cc
 
 pub after_open_some : (ts rest : List Terminal) → after_open ts ≡ Some rest → ts ≡ Sign token.LeftParenthesis ∷ rest
 after_open_some [] rest h = cc
 after_open_some (Sign token.LeftParenthesis ∷ ts) rest h = let e : ts ≡ rest = cc in ap (λ l. Sign token.LeftParenthesis ∷ l) e
 after_open_some (_ ∷ ts) rest h = cc
-
-pub after_def_some : (ts rest : List Terminal) → after_def ts ≡ Some rest → ts ≡ Word token.DefWord ∷ rest
-after_def_some [] rest h = cc
-after_def_some (Word token.DefWord ∷ ts) rest h = let e : ts ≡ rest = cc in ap (λ l. Word token.DefWord ∷ l) e
-after_def_some (_ ∷ ts) rest h = cc
 
 pub after_return_some : (ts rest : List Terminal) → after_return ts ≡ Some rest → ts ≡ Word token.ReturnWord ∷ rest
 after_return_some [] rest h = cc
@@ -192,6 +209,11 @@ pub name_at_some : (ts : List Terminal) (n : List ℕ × List Terminal) → name
 name_at_some [] n h = cc
 name_at_some (NAME x ∷ ts) n h = ap (λ p. NAME p.0 ∷ p.1) (some_inj (x, ts) n h)
 name_at_some (_ ∷ ts) n h = cc
+
+pub after_raise_some : (ts rest : List Terminal) → after_raise ts ≡ Some rest → ts ≡ Word token.RaiseWord ∷ rest
+after_raise_some [] rest h = cc
+after_raise_some (Word token.RaiseWord ∷ ts) rest h = let e : ts ≡ rest = cc in ap (λ l. Word token.RaiseWord ∷ l) e
+after_raise_some (_ ∷ ts) rest h = cc
 
 pub after_not_some : (ts rest : List Terminal) → after_not ts ≡ Some rest → ts ≡ Word token.NotWord ∷ rest
 after_not_some [] rest h = cc
@@ -228,6 +250,26 @@ with_word_some op o ts rest h = with_word_from op ts (after_boolean op ts) refl 
 pub with_word_none : (op : BooleanOperator) (r : Option (List Terminal)) → with_word op r ≡ None → r ≡ None
 with_word_none op None h = refl
 with_word_none op (Some ts) h = cc
+
+-- the word that stands for a compound statement
+abbrev pub header_word : Header → Keyword
+header_word if_header = token.IfWord
+header_word while_header = token.WhileWord
+header_word for_header = token.ForWord
+header_word try_header = token.TryWord
+header_word def_header = token.DefWord
+
+header_is : (header : Header) (ts : List Terminal) (h : Header × List Terminal) → Some (header, ts) ≡ Some h → Word (header_word header) ∷ ts ≡ Word (header_word h.0) ∷ h.1
+header_is header ts h is = ap (λ p. Word (header_word p.0) ∷ p.1) (some_inj (header, ts) h is)
+
+pub header_at_some : (ts : List Terminal) (h : Header × List Terminal) → header_at ts ≡ Some h → ts ≡ Word (header_word h.0) ∷ h.1
+header_at_some [] h is = cc
+header_at_some (Word token.IfWord ∷ ts) h is = header_is if_header ts h is
+header_at_some (Word token.WhileWord ∷ ts) h is = header_is while_header ts h is
+header_at_some (Word token.ForWord ∷ ts) h is = header_is for_header ts h is
+header_at_some (Word token.TryWord ∷ ts) h is = header_is try_header ts h is
+header_at_some (Word token.DefWord ∷ ts) h is = header_is def_header ts h is
+header_at_some (_ ∷ ts) h is = cc
 
 pub prefix_at_some : (ts : List Terminal) (op : UnaryOperator) → prefix_at ts ≡ Some op → ts ≡ prefix_of op ∷ rest_of ts
 prefix_at_some [] op h = cc

@@ -13,6 +13,7 @@ pub mod Starts
 pub mod Sound
 pub mod Complete
 pub mod Statements
+pub mod Handlers
 pub mod Blocks
 pub mod Depths
 pub mod Modules

@@ -53,7 +53,7 @@ module_complete body ts h =
       all_of h.2.0,
       h.2.1,
       ap (λ t. many_by (block_at max_nesting) is_end (length ts) [] t) h.1
-          ∙ many_complete with_line (block_at max_nesting) is_end (Nests max_nesting) Ends good next_line (length ts) [] h.2.0 h.0 (ENDMARKER ∷ []) fuel h.2.2 (record { elifs = refl; elses = refl; some = omega arith }) refl
+          ∙ many_complete with_line (block_at max_nesting) is_end (Nests max_nesting) Ends good next_line (length ts) [] h.2.0 h.0 (ENDMARKER ∷ []) fuel h.2.2 (record { elifs = refl; elses = refl; excepts = refl; finals = refl; some = omega arith }) refl
           ∙ ap (λ b. Some (b, ENDMARKER ∷ [])) (added_lines [] h.2.0),
     )
 

@@ -1,12 +1,12 @@
 -- How an expression begins: with a terminal of its own kind, and at least one.
 use Rattle.std.proofs.Common.{◌≡◌, ℕ, zero, suc, ◌<◌, ◌≤◌, List, [], ◌∷◌, ◌++◌, inl, inr, length, Bool, None, true, false, refl, sym, ap, ◌∙◌, subst, arith, append_assoc, length-append}
-use Rattle.si_semantics.specs.Value.{Nothing, Truth, Int, Str, Provided, Function}
+use Rattle.si_semantics.specs.Value.{Nothing, Truth, Int, Str, Provided, Function, Range, Class, Address}
 use Rattle.si_semantics.specs.Tree.{UnaryOperator, Expr, Constant, Name, Unary, Binary, Call, Boolean, Compare, Conditional}
 use Rattle.si_semantics.specs.Tree as tree
 use Rattle.si_semantics.specs.Tokens.{Keyword}
 use Rattle.si_semantics.specs.Tokens as token
 use Rattle.si_semantics.specs.Grammar.{Terminal, NAME, NUMBER, STRING, Sign, Word, NEWLINE, DEDENT, symbol_of, left_level, prefix_of, prefix_level, item_level, truth_word, Strings, Spells}
-use Rattle.si_parse.specs.Reading.{after_close, after_newline, after_not, after_if, after_while, after_def, after_return, after_global, ends_small, after_elif, after_else, is_dedent, word_statement, is_singleton}
+use Rattle.si_parse.specs.Reading.{after_close, after_colon, after_newline, after_not, header_at, after_return, after_global, after_raise, ends_small, after_elif, after_else, after_except, after_finally, is_dedent, word_statement, is_singleton}
 
 -- whether an operand may begin so
 abbrev pub is_operand : Terminal → Bool
@@ -55,6 +55,9 @@ expression_begins (suc m) l (Unary op a) f (inl h) x = ap (λ t. begins (t ++ x)
 expression_begins (suc m) l (Binary op a b) f (inl h) x =
     ap (λ t. begins (t ++ x)) h.2 ∙ ap begins (append_assoc h.0 (Sign (symbol_of op) ∷ h.1) x) ∙ expression_begins m (left_level op) a h.0 h.4 (Sign (symbol_of op) ∷ (h.1 ++ x))
 expression_begins (suc m) l (Constant (Function i k)) f (inl h) x = absurd h
+expression_begins (suc m) l (Constant (Range a b c)) f (inl h) x = absurd h
+expression_begins (suc m) l (Constant (Class k)) f (inl h) x = absurd h
+expression_begins (suc m) l (Constant (Address i)) f (inl h) x = absurd h
 expression_begins (suc m) l (Call a args names) f (inl h) x =
     ap (λ t. begins (t ++ x)) h.3
     ∙ ap begins (append_assoc h.0 (Sign token.LeftParenthesis ∷ (h.1 ++ Sign token.RightParenthesis ∷ [])) x)
@@ -77,6 +80,11 @@ close_not [] h = cc
 close_not (Sign token.RightParenthesis ∷ ts) h = cc
 close_not (_ ∷ ts) h = refl
 
+pub colon_not : (ts : List Terminal) → begins ts ≡ true → after_colon ts ≡ None
+colon_not [] h = cc
+colon_not (Sign token.Colon ∷ ts) h = cc
+colon_not (_ ∷ ts) h = refl
+
 pub word_not : (ts : List Terminal) → begins ts ≡ true → word_statement ts ≡ None
 word_not [] h = cc
 word_not (Word token.PassWord ∷ ts) h = cc
@@ -94,6 +102,11 @@ global_not [] h = cc
 global_not (Word token.GlobalWord ∷ ts) h = cc
 global_not (_ ∷ ts) h = refl
 
+pub raise_not : (ts : List Terminal) → begins ts ≡ true → after_raise ts ≡ None
+raise_not [] h = cc
+raise_not (Word token.RaiseWord ∷ ts) h = cc
+raise_not (_ ∷ ts) h = refl
+
 pub ends_not : (ts : List Terminal) → begins ts ≡ true → ends_small ts ≡ false
 ends_not [] h = cc
 ends_not (NEWLINE ∷ ts) h = cc
@@ -108,6 +121,7 @@ is_start (Word token.BreakWord) = true
 is_start (Word token.ContinueWord) = true
 is_start (Word token.ReturnWord) = true
 is_start (Word token.GlobalWord) = true
+is_start (Word token.RaiseWord) = true
 is_start t = is_operand t
 
 abbrev pub starts : List Terminal → Bool
@@ -121,6 +135,7 @@ starts_operand (Word token.BreakWord ∷ ts) h = refl
 starts_operand (Word token.ContinueWord ∷ ts) h = refl
 starts_operand (Word token.ReturnWord ∷ ts) h = refl
 starts_operand (Word token.GlobalWord ∷ ts) h = refl
+starts_operand (Word token.RaiseWord ∷ ts) h = refl
 starts_operand (_ ∷ ts) h = h
 
 pub newline_not : (ts : List Terminal) → starts ts ≡ true → after_newline ts ≡ None
@@ -133,20 +148,14 @@ dedent_not [] h = cc
 dedent_not (DEDENT ∷ ts) h = cc
 dedent_not (_ ∷ ts) h = refl
 
-pub if_not : (ts : List Terminal) → starts ts ≡ true → after_if ts ≡ None
-if_not [] h = cc
-if_not (Word token.IfWord ∷ ts) h = cc
-if_not (_ ∷ ts) h = refl
-
-pub while_not : (ts : List Terminal) → starts ts ≡ true → after_while ts ≡ None
-while_not [] h = cc
-while_not (Word token.WhileWord ∷ ts) h = cc
-while_not (_ ∷ ts) h = refl
-
-pub def_not : (ts : List Terminal) → starts ts ≡ true → after_def ts ≡ None
-def_not [] h = cc
-def_not (Word token.DefWord ∷ ts) h = cc
-def_not (_ ∷ ts) h = refl
+pub header_not : (ts : List Terminal) → starts ts ≡ true → header_at ts ≡ None
+header_not [] h = cc
+header_not (Word token.IfWord ∷ ts) h = cc
+header_not (Word token.WhileWord ∷ ts) h = cc
+header_not (Word token.ForWord ∷ ts) h = cc
+header_not (Word token.TryWord ∷ ts) h = cc
+header_not (Word token.DefWord ∷ ts) h = cc
+header_not (_ ∷ ts) h = refl
 
 pub elif_not : (ts : List Terminal) → starts ts ≡ true → after_elif ts ≡ None
 elif_not [] h = cc
@@ -157,6 +166,16 @@ pub else_not : (ts : List Terminal) → starts ts ≡ true → after_else ts ≡
 else_not [] h = cc
 else_not (Word token.ElseWord ∷ ts) h = cc
 else_not (_ ∷ ts) h = refl
+
+pub except_not : (ts : List Terminal) → starts ts ≡ true → after_except ts ≡ None
+except_not [] h = cc
+except_not (Word token.ExceptWord ∷ ts) h = cc
+except_not (_ ∷ ts) h = refl
+
+pub finally_not : (ts : List Terminal) → starts ts ≡ true → after_finally ts ≡ None
+finally_not [] h = cc
+finally_not (Word token.FinallyWord ∷ ts) h = cc
+finally_not (_ ∷ ts) h = refl
 
 -- ---- an operand of one word
 
@@ -198,6 +217,9 @@ singleton (suc m) (Unary op a) w (inl h) = absurd (no_prefix op w h.0 h.2 h.1)
 singleton (suc m) (Binary op a b) w (inl h) =
     absurd (omega (arith, ap length h.2, length-append h.0 (Sign (symbol_of op) ∷ h.1), some_terminals m (left_level op) a h.0 h.4))
 singleton (suc m) (Constant (Function x k)) w (inl h) = absurd h
+singleton (suc m) (Constant (Range a b c)) w (inl h) = absurd h
+singleton (suc m) (Constant (Class k)) w (inl h) = absurd h
+singleton (suc m) (Constant (Address x)) w (inl h) = absurd h
 singleton (suc m) (Call a args names) w (inl h) =
     absurd (omega (arith, ap length h.3, length-append h.0 (Sign token.LeftParenthesis ∷ (h.1 ++ Sign token.RightParenthesis ∷ [])), some_terminals m 18 a h.0 h.5))
 singleton (suc m) (Compare a cs) w (inl h) = absurd (omega (arith, h.3))

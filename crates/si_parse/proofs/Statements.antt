@@ -3,15 +3,15 @@ use Rattle.std.proofs.Common.{◌≡◌, ℕ, ◌+◌, ◌<◌, List, [], ◌∷
 use Rattle.std.specs.Prelude.{option_map, if◌then◌else◌}
 use Rattle.std.proofs.lemmas.List.{append-nil, length-map}
 use Rattle.si_semantics.specs.Value.{Text}
-use Rattle.si_semantics.specs.Tree.{BinaryOperator, Add, Subtract, Multiply, FloorDivide, Modulo, Power, BitOr, BitXor, BitAnd, ShiftLeft, ShiftRight, Expr, Constant, Name, Unary, Binary, Call, Boolean, Compare, Conditional, Stmt, Evaluate, Assign, Augment, Pass, If, While, Break, Continue, Define, Return, Global}
+use Rattle.si_semantics.specs.Tree.{BinaryOperator, Add, Subtract, Multiply, FloorDivide, Modulo, Power, BitOr, BitXor, BitAnd, ShiftLeft, ShiftRight, Expr, Constant, Name, Unary, Binary, Call, Boolean, Compare, Conditional, Stmt, Evaluate, Assign, Augment, Pass, If, While, For, Break, Continue, Define, Return, Global, Raise, Try, Finally}
 use Rattle.si_semantics.specs.Tokens.{Symbol}
 use Rattle.si_semantics.specs.Tokens as token
 use Rattle.si_semantics.specs.Grammar.{Terminal, Sign, Word, NEWLINE, Following, Separated, max_depth, IsExpression, augmented_of, Small, Simple}
-use Rattle.si_parse.specs.Reading.{then_read, rest_of, strength_at, begins_str, after_semicolon, after_newline, after_return, after_global, no_comma, names_by, ends_small, returned_by, global_by, expression_at, assignment_symbol, assignment_at, assigned, statement_from, spelled_by, word_statement, small_from, statement_by, with_statement, line_by}
-use Rattle.si_parse.proofs.Laws.{then_read_some, some_inj, spells_deeper, after_semicolon_some, after_newline_some, after_return_some, after_global_some}
+use Rattle.si_parse.specs.Reading.{then_read, rest_of, strength_at, begins_str, after_semicolon, after_newline, after_return, after_global, after_raise, no_comma, names_by, ends_small, value_by, returned_by, raised_by, global_by, expression_at, assignment_symbol, assignment_at, assigned, statement_from, spelled_by, word_statement, small_from, statement_by, with_statement, line_by}
+use Rattle.si_parse.proofs.Laws.{then_read_some, some_inj, spells_deeper, after_semicolon_some, after_newline_some, after_return_some, after_global_some, after_raise_some}
 use Rattle.si_parse.proofs.Levels.{at_condition}
 use Rattle.si_parse.proofs.Lists.{chosen, added, Pairwise, separated_sound, separated_complete}
-use Rattle.si_parse.proofs.Starts.{expression_begins, word_not, return_not, global_not, ends_not, starts, starts_operand, newline_not}
+use Rattle.si_parse.proofs.Starts.{expression_begins, word_not, return_not, global_not, raise_not, ends_not, starts, starts_operand, newline_not}
 use Rattle.si_parse.proofs.Sound.{expression_sound}
 use Rattle.si_parse.proofs.Names.{names_reads, names_complete}
 use Rattle.si_parse.proofs.Complete.{expression_complete}
@@ -118,17 +118,46 @@ word_reads (Word token.BreakWord ∷ ts) s h = let P : Stmt → Type 0 = λ s. S
 word_reads (Word token.ContinueWord ∷ ts) s h = let P : Stmt → Type 0 = λ s. SmallRead (Word token.ContinueWord ∷ ts) (s, ts) in subst P (some_inj Continue s h) (Word token.ContinueWord ∷ [], refl, refl)
 word_reads (_ ∷ ts) s h = cc
 
+-- the tokens of an expression that may be left out
+abbrev Value : Option Expr → List Terminal → Type 0
+Value None ts = ts ≡ []
+Value (Some e) ts = IsExpression e ts
+
+abbrev ValueRead : List Terminal → Option Expr × List Terminal → Type 0
+ValueRead ts r = (f : List Terminal) × (ts ≡ f ++ r.1) × Value r.0 f
+
+value_reads : (ts : List Terminal) (r : Option Expr × List Terminal) → value_by (expression_at max_depth) ts ≡ Some r → ValueRead ts r
+value_reads ts r h =
+    let P : Option Expr × List Terminal → Type 0 = ValueRead ts in
+    ⊎_elim
+    (λ y. subst P (some_inj (None, ts) r y.1) ([], refl, refl))
+    (λ n.
+    let s = then_read_some (expression_at max_depth 1 ts) (λ r. Some (Some r.0, r.2)) r n.1 in
+    let a = expression_sound max_depth 1 (omega arith) at_condition ts s.0 s.1 in
+    subst P (some_inj (Some s.0.0, s.0.2) r s.2) (a.0.front, a.0.split, spells_deeper s.0.1 max_depth a.1 1 s.0.0 a.0.front a.0.spelled))
+    (chosen (ends_small ts) (Some (None, ts)) (then_read (expression_at max_depth 1 ts) (λ r. Some (Some r.0, r.2))) (Some r) h)
+
+returned_small : (a : Option Expr) (f : List Terminal) → Value a f → Small (Return a) (Word token.ReturnWord ∷ f)
+returned_small None f h = ap (λ t. Word token.ReturnWord ∷ t) h
+returned_small (Some e) f h = (f, refl, h)
+
+raised_small : (a : Option Expr) (f : List Terminal) → Value a f → Small (Raise a) (Word token.RaiseWord ∷ f)
+raised_small None f h = ap (λ t. Word token.RaiseWord ∷ t) h
+raised_small (Some e) f h = (f, refl, h)
+
 returned_reads : (ts : List Terminal) (r : Stmt × List Terminal) → returned_by (expression_at max_depth) ts ≡ Some r → SmallRead (Word token.ReturnWord ∷ ts) r
 returned_reads ts r h =
+    let s = then_read_some (value_by (expression_at max_depth) ts) (λ r. Some (Return r.0, r.1)) r h in
+    let v = value_reads ts s.0 s.1 in
     let P : Stmt × List Terminal → Type 0 = SmallRead (Word token.ReturnWord ∷ ts) in
-    ⊎_elim
-    (λ y. subst P (some_inj (Return None, ts) r y.1) (Word token.ReturnWord ∷ [], refl, refl))
-    (λ n.
-    let s = then_read_some (expression_at max_depth 1 ts) (λ r. Some (Return (Some r.0), r.2)) r n.1 in
-    let a = expression_sound max_depth 1 (omega arith) at_condition ts s.0 s.1 in
-    subst P (some_inj (Return (Some s.0.0), s.0.2) r s.2)
-    (Word token.ReturnWord ∷ a.0.front, ap (λ t. Word token.ReturnWord ∷ t) a.0.split, (a.0.front, refl, spells_deeper s.0.1 max_depth a.1 1 s.0.0 a.0.front a.0.spelled)))
-    (chosen (ends_small ts) (Some (Return None, ts)) (then_read (expression_at max_depth 1 ts) (λ r. Some (Return (Some r.0), r.2))) (Some r) h)
+    subst P (some_inj (Return s.0.0, s.0.1) r s.2) (Word token.ReturnWord ∷ v.0, ap (λ t. Word token.ReturnWord ∷ t) v.1, returned_small s.0.0 v.0 v.2)
+
+raised_reads : (ts : List Terminal) (r : Stmt × List Terminal) → raised_by (expression_at max_depth) ts ≡ Some r → SmallRead (Word token.RaiseWord ∷ ts) r
+raised_reads ts r h =
+    let s = then_read_some (value_by (expression_at max_depth) ts) (λ r. Some (Raise r.0, r.1)) r h in
+    let v = value_reads ts s.0 s.1 in
+    let P : Stmt × List Terminal → Type 0 = SmallRead (Word token.RaiseWord ∷ ts) in
+    subst P (some_inj (Raise s.0.0, s.0.1) r s.2) (Word token.RaiseWord ∷ v.0, ap (λ t. Word token.RaiseWord ∷ t) v.1, raised_small s.0.0 v.0 v.2)
 
 global_reads : (ts : List Terminal) (r : Stmt × List Terminal) → global_by ts ≡ Some r → SmallRead (Word token.GlobalWord ∷ ts) r
 global_reads ts r h =
@@ -137,16 +166,19 @@ global_reads ts r h =
     let P : Stmt × List Terminal → Type 0 = SmallRead (Word token.GlobalWord ∷ ts) in
     subst P (some_inj (Global s.0.0, s.0.1) r s.2) (Word token.GlobalWord ∷ n.0, ap (λ t. Word token.GlobalWord ∷ t) n.1, (n.0, refl, n.2))
 
-small_reads : (ts : List Terminal) (o : Option Stmt) (p q : Option (List Terminal)) → word_statement ts ≡ o → after_return ts ≡ p → after_global ts ≡ q → (r : Stmt × List Terminal) → small_from (expression_at max_depth) ts o p q ≡ Some r → SmallRead ts r
-small_reads ts (Some s) p q is also too r h = let P : Stmt × List Terminal → Type 0 = SmallRead ts in subst P (some_inj (s, rest_of ts) r h) (word_reads ts s is)
-small_reads ts None (Some rest) q is also too r h =
+small_reads : (ts : List Terminal) (o : Option Stmt) (p q x : Option (List Terminal)) → word_statement ts ≡ o → after_return ts ≡ p → after_global ts ≡ q → after_raise ts ≡ x → (r : Stmt × List Terminal)
+    → small_from (expression_at max_depth) ts o p q x ≡ Some r → SmallRead ts r
+small_reads ts (Some s) p q x is also too last r h = let P : Stmt × List Terminal → Type 0 = SmallRead ts in subst P (some_inj (s, rest_of ts) r h) (word_reads ts s is)
+small_reads ts None (Some rest) q x is also too last r h =
     let P : List Terminal → Type 0 = λ t. SmallRead t r in subst P (sym (after_return_some ts rest also)) (returned_reads rest r h)
-small_reads ts None None (Some rest) is also too r h =
+small_reads ts None None (Some rest) x is also too last r h =
     let P : List Terminal → Type 0 = λ t. SmallRead t r in subst P (sym (after_global_some ts rest too)) (global_reads rest r h)
-small_reads ts None None None is also too r h = spelled_reads ts r h
+small_reads ts None None None (Some rest) is also too last r h =
+    let P : List Terminal → Type 0 = λ t. SmallRead t r in subst P (sym (after_raise_some ts rest last)) (raised_reads rest r h)
+small_reads ts None None None None is also too last r h = spelled_reads ts r h
 
 statement_reads : (ts : List Terminal) (r : Stmt × List Terminal) → statement_by (expression_at max_depth) ts ≡ Some r → SmallRead ts r
-statement_reads ts r h = small_reads ts (word_statement ts) (after_return ts) (after_global ts) refl refl refl r h
+statement_reads ts r h = small_reads ts (word_statement ts) (after_return ts) (after_global ts) (after_raise ts) refl refl refl refl r h
 
 -- what may stand behind a statement
 abbrev Follows : List Terminal → Type 0
@@ -156,9 +188,10 @@ by_expression : (m : ℕ) (e : Expr) (f more : List Terminal) → IsExpression e
 by_expression m e f more h =
     let ts = f ++ more in
     let start = expression_begins max_depth 1 e f h more in
-    ap (λ o. small_from (expression_at max_depth) ts o (after_return ts) (after_global ts)) (word_not ts start)
-    ∙ ap (λ o. small_from (expression_at max_depth) ts None o (after_global ts)) (return_not ts start)
-    ∙ ap (λ o. small_from (expression_at max_depth) ts None None o) (global_not ts start)
+    ap (λ o. small_from (expression_at max_depth) ts o (after_return ts) (after_global ts) (after_raise ts)) (word_not ts start)
+    ∙ ap (λ o. small_from (expression_at max_depth) ts None o (after_global ts) (after_raise ts)) (return_not ts start)
+    ∙ ap (λ o. small_from (expression_at max_depth) ts None None o (after_raise ts)) (global_not ts start)
+    ∙ ap (λ o. small_from (expression_at max_depth) ts None None None o) (raise_not ts start)
 
 assigned_complete : (x : Text) (a : Option BinaryOperator) (e : Expr) (f g whole more : List Terminal) → whole ≡ f ++ Sign (sign_of a) ∷ g → IsExpression (Name x) f → IsExpression e g → Follows more → statement_by (expression_at max_depth) (whole ++ more) ≡ Some (assigned x a e, more)
 assigned_complete x a e f g whole more is hx he ends =
@@ -179,9 +212,18 @@ small_over (NEWLINE ∷ ts) h = (omega arith, refl)
 small_over (Sign token.Semicolon ∷ ts) h = (omega arith, refl)
 small_over (_ ∷ ts) h = cc
 
-returned_if : (b c : Bool) (ts : List Terminal) → b ≡ c → returned_by (expression_at max_depth) ts ≡ (if b then Some (Return None, ts) else then_read (expression_at max_depth 1 ts) (λ r. Some (Return (Some r.0), r.2)))
-    → returned_by (expression_at max_depth) ts ≡ (if c then Some (Return None, ts) else then_read (expression_at max_depth 1 ts) (λ r. Some (Return (Some r.0), r.2)))
-returned_if b c ts h same = same ∙ ap (λ b. if b then Some (Return None, ts) else then_read (expression_at max_depth 1 ts) (λ r. Some (Return (Some r.0), r.2))) h
+value_if : (b c : Bool) (ts : List Terminal) → b ≡ c → value_by (expression_at max_depth) ts ≡ (if b then Some (None, ts) else then_read (expression_at max_depth 1 ts) (λ r. Some (Some r.0, r.2)))
+    → value_by (expression_at max_depth) ts ≡ (if c then Some (None, ts) else then_read (expression_at max_depth 1 ts) (λ r. Some (Some r.0, r.2)))
+value_if b c ts h same = same ∙ ap (λ b. if b then Some (None, ts) else then_read (expression_at max_depth 1 ts) (λ r. Some (Some r.0, r.2))) h
+
+value_none : (more : List Terminal) → Follows more → value_by (expression_at max_depth) more ≡ Some (None, more)
+value_none more ends = value_if (ends_small more) true more ends.3 refl
+
+value_some : (e : Expr) (f more : List Terminal) → IsExpression e f → Follows more → value_by (expression_at max_depth) (f ++ more) ≡ Some (Some e, more)
+value_some e f more h ends =
+    let c = expression_complete max_depth max_depth 1 e f more (omega arith) (omega arith) h ends.0 ends.1 in
+    let on = ends_not (f ++ more) (expression_begins max_depth 1 e f h more) in
+    value_if (ends_small (f ++ more)) false (f ++ more) on refl ∙ ap (λ o. then_read o (λ r. Some (Some r.0, r.2))) c.3
 
 statement_complete : (s : Stmt) (f more : List Terminal) → Small s f → Follows more → statement_by (expression_at max_depth) (f ++ more) ≡ Some (s, more)
 statement_complete (Evaluate e) f more h ends =
@@ -193,13 +235,13 @@ statement_complete Pass f more h ends = ap (λ t. statement_by (expression_at ma
 statement_complete Break f more h ends = ap (λ t. statement_by (expression_at max_depth) (t ++ more)) h
 statement_complete Continue f more h ends = ap (λ t. statement_by (expression_at max_depth) (t ++ more)) h
 statement_complete (Return None) f more h ends =
-    ap (λ t. statement_by (expression_at max_depth) (t ++ more)) h ∙ returned_if (ends_small more) true more ends.3 refl
+    ap (λ t. statement_by (expression_at max_depth) (t ++ more)) h ∙ ap (λ o. then_read o (λ r. Some (Return r.0, r.1))) (value_none more ends)
 statement_complete (Return (Some e)) f more h ends =
-    let c = expression_complete max_depth max_depth 1 e h.0 more (omega arith) (omega arith) h.2 ends.0 ends.1 in
-    let on = ends_not (h.0 ++ more) (expression_begins max_depth 1 e h.0 h.2 more) in
-    ap (λ t. statement_by (expression_at max_depth) (t ++ more)) h.1
-    ∙ returned_if (ends_small (h.0 ++ more)) false (h.0 ++ more) on refl
-    ∙ ap (λ o. then_read o (λ r. Some (Return (Some r.0), r.2))) c.3
+    ap (λ t. statement_by (expression_at max_depth) (t ++ more)) h.1 ∙ ap (λ o. then_read o (λ r. Some (Return r.0, r.1))) (value_some e h.0 more h.2 ends)
+statement_complete (Raise None) f more h ends =
+    ap (λ t. statement_by (expression_at max_depth) (t ++ more)) h ∙ ap (λ o. then_read o (λ r. Some (Raise r.0, r.1))) (value_none more ends)
+statement_complete (Raise (Some e)) f more h ends =
+    ap (λ t. statement_by (expression_at max_depth) (t ++ more)) h.1 ∙ ap (λ o. then_read o (λ r. Some (Raise r.0, r.1))) (value_some e h.0 more h.2 ends)
 statement_complete (Global xs) f more h ends =
     let over = small_over more ends.3 in
     ap (λ t. statement_by (expression_at max_depth) (t ++ more)) h.1
@@ -207,6 +249,9 @@ statement_complete (Global xs) f more h ends =
 statement_complete (Define x ps body) f more h ends = absurd h
 statement_complete (If test body other) f more h ends = absurd h
 statement_complete (While test body other) f more h ends = absurd h
+statement_complete (For x over body other) f more h ends = absurd h
+statement_complete (Try body cs other) f more h ends = absurd h
+statement_complete (Finally body cs other last) f more h ends = absurd h
 
 expression_starts : (e : Expr) (f more : List Terminal) → IsExpression e f → starts (f ++ more) ≡ true
 expression_starts e f more h = starts_operand (f ++ more) (expression_begins max_depth 1 e f h more)
@@ -226,7 +271,12 @@ small_starts (Return (Some e)) f more h = ap (λ t. starts (t ++ more)) h.1
 small_starts (Global xs) f more h = ap (λ t. starts (t ++ more)) h.1
 small_starts (Define x ps body) f more h = absurd h
 small_starts (If test body other) f more h = absurd h
+small_starts (Raise None) f more h = ap (λ t. starts (t ++ more)) h
+small_starts (Raise (Some e)) f more h = ap (λ t. starts (t ++ more)) h.1
 small_starts (While test body other) f more h = absurd h
+small_starts (For x over body other) f more h = absurd h
+small_starts (Try body cs other) f more h = absurd h
+small_starts (Finally body cs other last) f more h = absurd h
 
 separated_starts : (line : List Stmt) (f more : List Terminal) → 0 < length line → Separated Small token.Semicolon line f → starts (f ++ more) ≡ true
 separated_starts [] f more some h = absurd (omega arith)

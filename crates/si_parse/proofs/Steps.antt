@@ -3,7 +3,7 @@ use Rattle.std.proofs.Common.{◌≡◌, ℕ, zero, suc, ◌-◌, ◌<◌, List,
 use Rattle.std.specs.Prelude.{nat_lt, if◌then◌else◌}
 use Rattle.si_semantics.specs.Tree.{Expr, Stmt}
 use Rattle.si_semantics.specs.Grammar.{Terminal}
-use Rattle.si_parse.specs.Reading.{Parser, Step, then_read, strength_at, continuation_at, closing, behind_item, separated_by, chain_from, chain_by, Parsed, many_by, extended_by, continued_by, expression_by, expression_at, after_if, after_while, after_def, simple_line, block_from, block_at}
+use Rattle.si_parse.specs.Reading.{Parser, Step, then_read, strength_at, continuation_at, closing, behind_item, separated_by, chain_from, chain_by, Parsed, many_by, extended_by, continued_by, expression_by, expression_at, header_at, simple_line, block_from, block_at}
 
 pub expression_at_zero : (b l : ℕ) (ts : List Terminal) → b ≡ 0 → expression_at b l ts ≡ None
 unfolding expression_at
@@ -71,7 +71,7 @@ unfolding block_at
 block_at_zero zero body ts h = refl
 block_at_zero (suc n) body ts h = absurd (omega arith)
 
-pub block_at_step : (n : ℕ) (body : List Stmt) (ts : List Terminal) → 0 < n → block_at n body ts ≡ block_from (block_at (n - 1)) body ts (after_if ts) (after_while ts) (after_def ts)
+pub block_at_step : (n : ℕ) (body : List Stmt) (ts : List Terminal) → 0 < n → block_at n body ts ≡ block_from (block_at (n - 1)) body ts (header_at ts)
 unfolding block_at
 block_at_step zero body ts h = absurd (omega arith)
-block_at_step (suc n) body ts h = let same : n ≡ suc n - 1 = omega arith in ap (λ k. block_from (block_at k) body ts (after_if ts) (after_while ts) (after_def ts)) same
+block_at_step (suc n) body ts h = let same : n ≡ suc n - 1 = omega arith in ap (λ k. block_from (block_at k) body ts (header_at ts)) same

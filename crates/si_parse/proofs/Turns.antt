@@ -1,13 +1,13 @@
 -- What one turn of a loop does.
-use Rattle.std.proofs.Common.{◌≡◌, ℕ, ◌+◌, ◌-◌, ◌<◌, ◌≤◌, List, [], ◌∷◌, ◌++◌, max, length, Option, Some, None, sym, ap, ◌∙◌, subst, arith}
+use Rattle.std.proofs.Common.{◌≡◌, ℕ, ◌+◌, ◌-◌, ◌<◌, ◌≤◌, List, [], ◌∷◌, ◌++◌, max, length, Option, Some, None, refl, sym, ap, ◌∙◌, subst, arith}
 use Rattle.std.specs.Prelude.{not, nat_lt, Bool, true, false, if◌then◌else◌}
 use Rattle.std.proofs.lemmas.Bool.Decides.{nat_tests}
 use Rattle.si_semantics.specs.Value.{Text}
-use Rattle.si_semantics.specs.Tree.{Expr, Stmt}
-use Rattle.si_semantics.specs.Grammar.{Terminal, DEDENT, Branch}
+use Rattle.si_semantics.specs.Tree.{Expr, Stmt, Stmts, Try}
+use Rattle.si_semantics.specs.Grammar.{Terminal, DEDENT, Branch, stmts_of, Clause, clauses_of}
 use Rattle.si_parse.specs.declared.fault.ParseFault.{ParseFault}
 use Rattle.si_parse.specs.declared.fault.ParseFault.TheVariants.{Syntax, NoMemory}
-use Rattle.si_parse.specs.Reading.{Parser, Step, Continuation, strength_of, then_read, strength_at, continuation_at, closing, behind_item, separated_by, chain_from, chain_by, Parsed, many_by, extended_by, continued_by, rest_of, is_none, is_dedent, after_comma, name_at, and_name, next_name_by, after_if, after_while, after_def, after_elif, after_dedent, LineParser, with_branch, branch_by, elif_by, indented_by, if_by, while_by, define_by, with_compound, block_from, block_at}
+use Rattle.si_parse.specs.Reading.{Parser, Step, Continuation, strength_of, then_read, strength_at, continuation_at, closing, behind_item, separated_by, chain_from, chain_by, Parsed, many_by, extended_by, continued_by, rest_of, is_none, is_dedent, after_comma, name_at, and_name, next_name_by, Header, header_at, after_elif, after_dedent, LineParser, with_branch, branch_by, elif_by, otherwise_by, suite_by, after_finally, handlers_by, finally_from, try_by, after_catch, with_clause, clause_by, catch_by, handled_from, tried, indented_by, compound_by, with_compound, block_from, block_at}
 use Rattle.si_parse.specs.Gives.{Fails}
 use Rattle.si_parse.proofs.Steps.{continued_by_step, separated_by_step, chain_by_step, many_by_step, block_at_step}
 
@@ -102,31 +102,44 @@ module _ {B : Type 0} (item : B → List Terminal → Option (B × List Terminal
   many_ends positive h = many_by_step item ends k b ts positive ∙ ap (λ t. if t then Some (b, ts) else then_read (item b ts) (λ r. many_by item ends (k - 1) r.0 r.1)) h
 
 -- a compound statement behind its word
-pub block_if : (n : ℕ) (body : List Stmt) (ts rest : List Terminal) (s : Stmt) (more : List Terminal) → 0 < n → after_if ts ≡ Some rest → if_by (block_at (n - 1)) rest ≡ Some (s, more) → block_at n body ts ≡ Some (body ++ s ∷ [], more)
-block_if n body ts rest s more positive is h =
-    block_at_step n body ts positive ∙ ap (λ o. block_from (block_at (n - 1)) body ts o (after_while ts) (after_def ts)) is ∙ ap (λ o. then_read o (with_compound body)) h
-
-pub block_while : (n : ℕ) (body : List Stmt) (ts rest : List Terminal) (s : Stmt) (more : List Terminal) → 0 < n → after_if ts ≡ None → after_while ts ≡ Some rest → while_by (block_at (n - 1)) rest ≡ Some (s, more) → block_at n body ts ≡ Some (body ++ s ∷ [], more)
-block_while n body ts rest s more positive not_if is h =
-    block_at_step n body ts positive
-    ∙ ap (λ o. block_from (block_at (n - 1)) body ts o (after_while ts) (after_def ts)) not_if
-    ∙ ap (λ o. block_from (block_at (n - 1)) body ts None o (after_def ts)) is
-    ∙ ap (λ o. then_read o (with_compound body)) h
-
-pub block_def : (n : ℕ) (body : List Stmt) (ts rest : List Terminal) (s : Stmt) (more : List Terminal) → 0 < n → after_if ts ≡ None → after_while ts ≡ None → after_def ts ≡ Some rest → define_by (block_at (n - 1)) rest ≡ Some (s, more)
+pub block_compound : (n : ℕ) (body : List Stmt) (ts rest : List Terminal) (word : Header) (s : Stmt) (more : List Terminal) → 0 < n → header_at ts ≡ Some (word, rest) → compound_by (block_at (n - 1)) word rest ≡ Some (s, more)
     → block_at n body ts ≡ Some (body ++ s ∷ [], more)
-block_def n body ts rest s more positive not_if not_while is h =
-    block_at_step n body ts positive
-    ∙ ap (λ o. block_from (block_at (n - 1)) body ts o (after_while ts) (after_def ts)) not_if
-    ∙ ap (λ o. block_from (block_at (n - 1)) body ts None o (after_def ts)) not_while
-    ∙ ap (λ o. block_from (block_at (n - 1)) body ts None None o) is
-    ∙ ap (λ o. then_read o (with_compound body)) h
+block_compound n body ts rest word s more positive is h =
+    block_at_step n body ts positive ∙ ap (block_from (block_at (n - 1)) body ts) is ∙ ap (λ o. then_read o (with_compound body)) h
 
 pub next_name_read : (xs : List Text) (ts rest : List Terminal) (x : Text) (more : List Terminal) → after_comma ts ≡ Some rest → name_at rest ≡ Some (x, more) → next_name_by xs ts ≡ Some (xs ++ x ∷ [], more)
 next_name_read xs ts rest x more is h = ap (λ o. then_read o (λ rest. then_read (name_at rest) (and_name xs))) is ∙ ap (λ o. then_read o (and_name xs)) h
 
 pub elif_read : (line : LineParser) (bs : List Branch) (ts rest : List Terminal) (b : Branch) (more : List Terminal) → after_elif ts ≡ Some rest → branch_by line rest ≡ Some (b, more) → elif_by line bs ts ≡ Some (bs ++ b ∷ [], more)
 elif_read line bs ts rest b more is h = ap (λ o. then_read o (λ rest. then_read (branch_by line rest) (with_branch bs))) is ∙ ap (λ o. then_read o (with_branch bs)) h
+
+pub catch_read : (line : LineParser) (cs : List Clause) (ts rest : List Terminal) (c : Clause) (more : List Terminal) → after_catch ts ≡ Some rest → clause_by line rest ≡ Some (c, more) → catch_by line cs ts ≡ Some (cs ++ c ∷ [], more)
+catch_read line cs ts rest c more is h = ap (λ o. then_read o (λ rest. then_read (clause_by line rest) (with_clause cs))) is ∙ ap (λ o. then_read o (with_clause cs)) h
+
+-- with a clause at least an `else` may follow, and no `finally` need
+pub handled_some : (line : LineParser) (cs : List Clause) (ts : List Terminal) → 0 < length cs → handled_from line cs ts ≡ then_read (otherwise_by line ts) (λ o. Some ((cs, o.0), o.1))
+handled_some line [] ts some = absurd (omega arith)
+handled_some line (c ∷ cs) ts some = refl
+
+pub handled_none : (line : LineParser) (cs : List Clause) (ts : List Terminal) → length cs ≡ 0 → handled_from line cs ts ≡ Some ((cs, []), ts)
+handled_none line [] ts none = refl
+handled_none line (c ∷ cs) ts none = absurd (omega arith)
+
+pub tried_some : (body : Stmts) (cs : List Clause) (last : List Stmt) (ts : List Terminal) → 0 < length cs → tried body cs last ts ≡ Some (Try body (clauses_of cs) (stmts_of last), ts)
+tried_some body [] last ts some = absurd (omega arith)
+tried_some body (c ∷ cs) last ts some = refl
+
+pub tried_none : (body : Stmts) (cs : List Clause) (last : List Stmt) (ts : List Terminal) → length cs ≡ 0 → tried body cs last ts ≡ None
+tried_none body [] last ts none = refl
+tried_none body (c ∷ cs) last ts none = absurd (omega arith)
+
+pub try_read : (line : LineParser) (ts : List Terminal) (body : List Stmt) (behind : List Terminal) (cs : List Clause) (last : List Stmt) (more : List Terminal) → suite_by line ts ≡ Some (body, behind)
+    → handlers_by line behind ≡ Some ((cs, last), more) → after_finally more ≡ None → 0 < length cs → try_by line ts ≡ Some (Try (stmts_of body) (clauses_of cs) (stmts_of last), more)
+try_read line ts body behind cs last more h i not_finally some =
+    ap (λ o. then_read o (λ b. then_read (handlers_by line b.1) (λ h. finally_from line (stmts_of b.0) h (after_finally h.1)))) h
+    ∙ ap (λ o. then_read o (λ h. finally_from line (stmts_of body) h (after_finally h.1))) i
+    ∙ ap (finally_from line (stmts_of body) ((cs, last), more)) not_finally
+    ∙ tried_some (stmts_of body) cs last more some
 
 dedent_rest : (ts rest : List Terminal) → after_dedent ts ≡ Some rest → rest_of ts ≡ rest
 dedent_rest [] rest h = cc

@@ -11,9 +11,11 @@ use Rattle.si_parse.specs.declared.precedence.Continuation.{Continuation as Rust
 use Rattle.si_parse.specs.declared.precedence.Continuation.TheVariants as variant
 use Rattle.si_token.specs.Views.{token_of}
 use Rattle.si_syntax.specs.Trees.{binary_of, boolean_of, expr_of}
+use Rattle.si_parse.specs.declared.lookahead.Header.{Header as Word}
+use Rattle.si_parse.specs.declared.lookahead.Header.TheVariants as header
 use Rattle.si_parse.specs.declared.argument.Argument.{Argument}
 use Rattle.si_parse.specs.declared.argument.Argument.TheVariants as passed
-use Rattle.si_parse.specs.Reading.{Continuation, operator, arguments, comparison, boolean, condition, nothing}
+use Rattle.si_parse.specs.Reading.{Continuation, operator, arguments, comparison, boolean, condition, nothing, Header, if_header, while_header, for_header, try_header, def_header}
 
 -- the terminals of tokens, from a place on
 abbrev pub from : List Token → ℕ → List Terminal
@@ -36,6 +38,13 @@ continuation_view variant.Comparison = comparison
 continuation_view (variant.Boolean op) = boolean (boolean_of op)
 continuation_view variant.Condition = condition
 continuation_view variant.Nothing = nothing
+
+abbrev pub header_view : Word → Header
+header_view header.If = if_header
+header_view header.While = while_header
+header_view header.For = for_header
+header_view header.Try = try_header
+header_view header.Def = def_header
 
 -- the argument that a value stands for
 abbrev pub argument_of : Argument → grammar.Argument

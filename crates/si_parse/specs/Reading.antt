@@ -1,12 +1,12 @@
 -- Reading as a function on lists of terminals, which the parser computes: what stands between grammar and code.
 use Rattle.std.specs.Prelude.{ℕ, zero, suc, ◌+◌, max, List, [], ◌∷◌, ◌++◌, length, Option, Some, None, option_map, nat_lt, nat_le, nat_eq, Bool, true, false, not, ◌&&◌, if◌then◌else◌}
 use Rattle.si_semantics.specs.Value.{Text, Nothing, Truth, Int, Str}
-use Rattle.si_semantics.specs.Tree.{BinaryOperator, Add, Subtract, Multiply, FloorDivide, Modulo, Power, BitOr, BitXor, BitAnd, ShiftLeft, ShiftRight, UnaryOperator, ComparisonOperator, BooleanOperator, Expr, Constant, Name, Unary, Binary, Call, Boolean, Compare, Conditional, Stmt, Evaluate, Assign, Augment, Pass, If, While, Break, Continue, Define, Return, Global, Stmts, NoStmts}
+use Rattle.si_semantics.specs.Tree.{BinaryOperator, Add, Subtract, Multiply, FloorDivide, Modulo, Power, BitOr, BitXor, BitAnd, ShiftLeft, ShiftRight, UnaryOperator, ComparisonOperator, BooleanOperator, Expr, Constant, Name, Unary, Binary, Call, Boolean, Compare, Conditional, Stmt, Evaluate, Assign, Augment, Pass, If, While, For, Break, Continue, Define, Return, Global, Raise, Try, Finally, Stmts}
 use Rattle.si_semantics.specs.Tree as tree
 use Rattle.si_semantics.specs.Scope.{is_in}
 use Rattle.si_semantics.specs.Tokens.{Symbol, Keyword}
 use Rattle.si_semantics.specs.Tokens as token
-use Rattle.si_semantics.specs.Grammar.{Terminal, NAME, NUMBER, STRING, Sign, Word, NEWLINE, INDENT, DEDENT, ENDMARKER, Argument, Positional, ByName, value_of_int, value_of_str, left_level, right_level, prefix_level, item_level, is_identity, Link, chain_of, exprs_of, max_depth, Branch, stmts_of, elifs_of, max_nesting, max_parameters}
+use Rattle.si_semantics.specs.Grammar.{Terminal, NAME, NUMBER, STRING, Sign, Word, NEWLINE, INDENT, DEDENT, ENDMARKER, Argument, Positional, ByName, value_of_int, value_of_str, left_level, right_level, prefix_level, item_level, is_identity, Link, chain_of, exprs_of, max_depth, Branch, stmts_of, elifs_of, Clause, clauses_of, max_nesting, max_parameters}
 
 -- ---- one terminal of look-ahead
 
@@ -130,25 +130,30 @@ after_dedent [] = None
 after_dedent (DEDENT ∷ ts) = Some ts
 after_dedent (_ ∷ ts) = None
 
-abbrev pub after_if : Step
-after_if [] = None
-after_if (Word token.IfWord ∷ ts) = Some ts
-after_if (_ ∷ ts) = None
-
 abbrev pub after_elif : Step
 after_elif [] = None
 after_elif (Word token.ElifWord ∷ ts) = Some ts
 after_elif (_ ∷ ts) = None
 
-abbrev pub after_while : Step
-after_while [] = None
-after_while (Word token.WhileWord ∷ ts) = Some ts
-after_while (_ ∷ ts) = None
+abbrev pub after_in : Step
+after_in [] = None
+after_in (Word token.InWord ∷ ts) = Some ts
+after_in (_ ∷ ts) = None
 
-abbrev pub after_def : Step
-after_def [] = None
-after_def (Word token.DefWord ∷ ts) = Some ts
-after_def (_ ∷ ts) = None
+abbrev pub after_except : Step
+after_except [] = None
+after_except (Word token.ExceptWord ∷ ts) = Some ts
+after_except (_ ∷ ts) = None
+
+abbrev pub after_finally : Step
+after_finally [] = None
+after_finally (Word token.FinallyWord ∷ ts) = Some ts
+after_finally (_ ∷ ts) = None
+
+abbrev pub after_as : Step
+after_as [] = None
+after_as (Word token.AsWord ∷ ts) = Some ts
+after_as (_ ∷ ts) = None
 
 abbrev pub after_return : Step
 after_return [] = None
@@ -159,6 +164,11 @@ abbrev pub after_global : Step
 after_global [] = None
 after_global (Word token.GlobalWord ∷ ts) = Some ts
 after_global (_ ∷ ts) = None
+
+abbrev pub after_raise : Step
+after_raise [] = None
+after_raise (Word token.RaiseWord ∷ ts) = Some ts
+after_raise (_ ∷ ts) = None
 
 abbrev pub after_not : Step
 after_not [] = None
@@ -184,6 +194,24 @@ after_or (_ ∷ ts) = None
 abbrev pub after_boolean : BooleanOperator → Step
 after_boolean tree.And = after_and
 after_boolean tree.Or = after_or
+
+-- the word with which a compound statement begins
+pub data Header : Type 0 where
+  if_header : Header
+  while_header : Header
+  for_header : Header
+  try_header : Header
+  def_header : Header
+
+-- the word of a compound statement, where one stands first, and the terminals behind it
+abbrev pub header_at : List Terminal → Option (Header × List Terminal)
+header_at [] = None
+header_at (Word token.IfWord ∷ ts) = Some (if_header, ts)
+header_at (Word token.WhileWord ∷ ts) = Some (while_header, ts)
+header_at (Word token.ForWord ∷ ts) = Some (for_header, ts)
+header_at (Word token.TryWord ∷ ts) = Some (try_header, ts)
+header_at (Word token.DefWord ∷ ts) = Some (def_header, ts)
+header_at (_ ∷ ts) = None
 
 -- ---- lists of items
 
@@ -533,23 +561,32 @@ ends_small (NEWLINE ∷ ts) = true
 ends_small (Sign token.Semicolon ∷ ts) = true
 ends_small (_ ∷ ts) = false
 
+-- the expression in front of the end of a small statement, where there is one
+abbrev pub value_by : Parser → List Terminal → Option (Option Expr × List Terminal)
+value_by sub ts = if ends_small ts then Some (None, ts) else then_read (sub 1 ts) (λ r. Some (Some r.0, r.2))
+
 -- from behind the `return`
 abbrev pub returned_by : Parser → List Terminal → Option (Stmt × List Terminal)
-returned_by sub ts = if ends_small ts then Some (Return None, ts) else then_read (sub 1 ts) (λ r. Some (Return (Some r.0), r.2))
+returned_by sub ts = then_read (value_by sub ts) (λ r. Some (Return r.0, r.1))
+
+-- from behind the `raise`
+abbrev pub raised_by : Parser → List Terminal → Option (Stmt × List Terminal)
+raised_by sub ts = then_read (value_by sub ts) (λ r. Some (Raise r.0, r.1))
 
 -- from behind the `global`
 abbrev pub global_by : List Terminal → Option (Stmt × List Terminal)
 global_by ts = then_read (names_by ts) (λ r. Some (Global r.0, r.1))
 
 -- a small statement, by the word that stands first
-abbrev pub small_from : Parser → List Terminal → Option Stmt → Option (List Terminal) → Option (List Terminal) → Option (Stmt × List Terminal)
-small_from sub ts (Some s) r g = Some (s, rest_of ts)
-small_from sub ts None (Some rest) g = returned_by sub rest
-small_from sub ts None None (Some rest) = global_by rest
-small_from sub ts None None None = spelled_by sub ts
+abbrev pub small_from : Parser → List Terminal → Option Stmt → (return global raise : Option (List Terminal)) → Option (Stmt × List Terminal)
+small_from sub ts (Some s) r g x = Some (s, rest_of ts)
+small_from sub ts None (Some rest) g x = returned_by sub rest
+small_from sub ts None None (Some rest) x = global_by rest
+small_from sub ts None None None (Some rest) = raised_by sub rest
+small_from sub ts None None None None = spelled_by sub ts
 
 abbrev pub statement_by : Parser → List Terminal → Option (Stmt × List Terminal)
-statement_by sub ts = small_from sub ts (word_statement ts) (after_return ts) (after_global ts)
+statement_by sub ts = small_from sub ts (word_statement ts) (after_return ts) (after_global ts) (after_raise ts)
 
 abbrev pub with_statement : List Stmt → Stmt × List Terminal → List Stmt
 with_statement body r = body ++ r.0 ∷ []
@@ -610,9 +647,28 @@ joined_if b elifs o = Some (If b.0 b.1 (elifs_of elifs (stmts_of o.0)), o.1)
 abbrev pub if_by : LineParser → List Terminal → Option (Stmt × List Terminal)
 if_by line ts = then_read (branch_by line ts) (λ b. then_read (elifs_by line b.1) (λ es. then_read (otherwise_by line es.1) (joined_if b.0 es.0)))
 
+abbrev pub joined_while : Branch → List Stmt × List Terminal → Option (Stmt × List Terminal)
+joined_while b o = Some (While b.0 b.1 (stmts_of o.0), o.1)
+
 -- from behind the `while`
 abbrev pub while_by : LineParser → List Terminal → Option (Stmt × List Terminal)
-while_by line ts = then_read (branch_by line ts) (λ b. Some (While b.0.0 b.0.1 NoStmts, b.1))
+while_by line ts = then_read (branch_by line ts) (λ b. then_read (otherwise_by line b.1) (joined_while b.0))
+
+-- the target that an expression is, where it is a name and the word `in` stands behind it
+abbrev pub target_from : Expr → Option (List Terminal) → Option (Text × List Terminal)
+target_from (Name x) behind = option_map (λ rest. (x, rest)) behind
+target_from _ behind = None
+
+-- The target of a `for`, and the terminals behind the `in`. A name is of every level: one is asked at which no operator but `**` is read.
+abbrev pub target_by : List Terminal → Option (Text × List Terminal)
+target_by ts = then_read (expression_at max_depth 16 ts) (λ r. target_from r.0 (after_in r.2))
+
+abbrev pub joined_for : Text → Branch → List Stmt × List Terminal → Option (Stmt × List Terminal)
+joined_for x b o = Some (For x b.0 b.1 (stmts_of o.0), o.1)
+
+-- from behind the `for`
+abbrev pub for_by : LineParser → List Terminal → Option (Stmt × List Terminal)
+for_by line ts = then_read (target_by ts) (λ x. then_read (branch_by line x.1) (λ b. then_read (otherwise_by line b.1) (joined_for x.0 b.0)))
 
 -- a function of this name and these parameters, from its suite on
 abbrev pub defined_by : LineParser → Text → List Text × List Terminal → Option (Stmt × List Terminal)
@@ -622,20 +678,101 @@ defined_by line x ps = then_read (suite_by line ps.1) (λ b. Some (Define x ps.0
 abbrev pub define_by : LineParser → List Terminal → Option (Stmt × List Terminal)
 define_by line ts = then_read (name_at ts) (λ n. then_read (after_open n.1) (λ rest. then_read (parameters_by rest) (defined_by line n.0)))
 
+-- ---- try
+
+-- the terminals behind an `except`, where no colon follows it
+abbrev pub after_catch : Step
+after_catch ts = then_read (after_except ts) (λ rest. if is_none (after_colon rest) then Some rest else None)
+
+abbrev pub no_catch : List Terminal → Bool
+no_catch ts = is_none (after_catch ts)
+
+-- what an except clause catches, and the name that it binds
+abbrev pub Catch : Type 0
+Catch = Expr × Option Text
+
+-- the same, once it is known whether an `as` follows
+abbrev pub caught_from : Expr → List Terminal → Option (List Terminal) → Option (Catch × List Terminal)
+caught_from e ts None = Some ((e, None), ts)
+caught_from e ts (Some rest) = then_read (name_at rest) (λ n. Some ((e, Some n.0), n.1))
+
+-- from behind the `except`
+abbrev pub caught_by : List Terminal → Option (Catch × List Terminal)
+caught_by ts = then_read (expression_at max_depth 1 ts) (λ t. caught_from t.0 t.2 (after_as t.2))
+
+-- the same, with its suite
+abbrev pub clause_by : LineParser → List Terminal → Option (Clause × List Terminal)
+clause_by line ts = then_read (caught_by ts) (λ c. then_read (suite_by line c.1) (λ b. Some ((Some c.0.0, c.0.1, stmts_of b.0), b.1)))
+
+abbrev pub with_clause : List Clause → Clause × List Terminal → Option (List Clause × List Terminal)
+with_clause cs r = Some (cs ++ r.0 ∷ [], r.1)
+
+-- one more except clause that has an expression
+abbrev pub catch_by : LineParser → List Clause → List Terminal → Option (List Clause × List Terminal)
+catch_by line cs ts = then_read (after_catch ts) (λ rest. then_read (clause_by line rest) (with_clause cs))
+
+abbrev pub catches_by : LineParser → List Terminal → Option (List Clause × List Terminal)
+catches_by line ts = many_by (catch_by line) no_catch (length ts) [] ts
+
+-- the clauses with a bare one behind them, once it is known whether an `except` follows
+abbrev pub bare_from : LineParser → List Clause → List Terminal → Option (List Terminal) → Option (List Clause × List Terminal)
+bare_from line cs ts None = Some (cs, ts)
+bare_from line cs ts (Some rest) = then_read (suite_by line rest) (λ b. Some (cs ++ (None, None, stmts_of b.0) ∷ [], b.1))
+
+abbrev pub bare_by : LineParser → List Clause → List Terminal → Option (List Clause × List Terminal)
+bare_by line cs ts = bare_from line cs ts (after_except ts)
+
+-- all except clauses, the bare one last
+abbrev pub clauses_by : LineParser → List Terminal → Option (List Clause × List Terminal)
+clauses_by line ts = then_read (catches_by line ts) (λ cs. bare_by line cs.0 cs.1)
+
+-- the clauses and the else suite, which stands behind a clause alone
+abbrev pub Handled : Type 0
+Handled = List Clause × List Stmt
+
+abbrev pub handled_from : LineParser → List Clause → List Terminal → Option (Handled × List Terminal)
+handled_from line [] ts = Some (([], []), ts)
+handled_from line (c ∷ cs) ts = then_read (otherwise_by line ts) (λ o. Some ((c ∷ cs, o.0), o.1))
+
+abbrev pub handlers_by : LineParser → List Terminal → Option (Handled × List Terminal)
+handlers_by line ts = then_read (clauses_by line ts) (λ cs. handled_from line cs.0 cs.1)
+
+-- a `try` without `finally`, which has a clause at least
+abbrev pub tried : Stmts → List Clause → List Stmt → List Terminal → Option (Stmt × List Terminal)
+tried body [] last ts = None
+tried body (c ∷ cs) last ts = Some (Try body (clauses_of (c ∷ cs)) (stmts_of last), ts)
+
+-- a `try` whose clauses were read, once it is known whether a `finally` follows
+abbrev pub finally_from : LineParser → Stmts → Handled × List Terminal → Option (List Terminal) → Option (Stmt × List Terminal)
+finally_from line body h None = tried body h.0.0 h.0.1 h.1
+finally_from line body h (Some rest) = then_read (suite_by line rest) (λ b. Some (Finally body (clauses_of h.0.0) (stmts_of h.0.1) (stmts_of b.0), b.1))
+
+-- from behind the `try`
+abbrev pub try_by : LineParser → List Terminal → Option (Stmt × List Terminal)
+try_by line ts = then_read (suite_by line ts) (λ b. then_read (handlers_by line b.1) (λ h. finally_from line (stmts_of b.0) h (after_finally h.1)))
+
+-- ---- lines
+
+-- a compound statement, from behind its word
+abbrev pub compound_by : LineParser → Header → List Terminal → Option (Stmt × List Terminal)
+compound_by line if_header ts = if_by line ts
+compound_by line while_header ts = while_by line ts
+compound_by line for_header ts = for_by line ts
+compound_by line try_header ts = try_by line ts
+compound_by line def_header ts = define_by line ts
+
 abbrev pub with_compound : List Stmt → Stmt × List Terminal → Option (List Stmt × List Terminal)
 with_compound body r = Some (body ++ r.0 ∷ [], r.1)
 
 -- a line, or a compound statement, by the word that stands first
-abbrev pub block_from : LineParser → List Stmt → List Terminal → Option (List Terminal) → Option (List Terminal) → Option (List Terminal) → Option (List Stmt × List Terminal)
-block_from line body ts (Some rest) w d = then_read (if_by line rest) (with_compound body)
-block_from line body ts None (Some rest) d = then_read (while_by line rest) (with_compound body)
-block_from line body ts None None (Some rest) = then_read (define_by line rest) (with_compound body)
-block_from line body ts None None None = simple_line body ts
+abbrev pub block_from : LineParser → List Stmt → List Terminal → Option (Header × List Terminal) → Option (List Stmt × List Terminal)
+block_from line body ts (Some header) = then_read (compound_by line header.0 header.1) (with_compound body)
+block_from line body ts None = simple_line body ts
 
 -- A line, or a compound statement, in which compound statements are nested this deep at most.
 unfoldable pub block_at : ℕ → LineParser
 block_at zero body ts = simple_line body ts
-block_at (suc n) body ts = block_from (block_at n) body ts (after_if ts) (after_while ts) (after_def ts)
+block_at (suc n) body ts = block_from (block_at n) body ts (header_at ts)
 
 -- whether the terminals are the last one
 abbrev pub is_end : List Terminal → Bool

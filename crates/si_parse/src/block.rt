@@ -1,18 +1,19 @@
 // Compound statements and their suites.
 
-ghost use Rattle.std.specs.Prelude.{◌≡◌, ℕ, ◌+◌, ◌-◌, ◌*◌, ◌<◌, [], length, map, option_map};
+ghost use Rattle.std.specs.Prelude.{◌≡◌, ℕ, ◌+◌, ◌-◌, ◌*◌, ◌<◌, [], length, map, option_map, string_bytes};
 ghost use Rattle.si_syntax.specs.Trees.{expr_of, stmt_of, branch_of};
-ghost use Rattle.si_parse.specs.Reading.{indented_by, suite_by, branch_by, elifs_by, otherwise_by, if_by, while_by, define_by, block_at};
-ghost use Rattle.si_parse.specs.Gives.{Gives, from};
+ghost use Rattle.si_parse.specs.Reading.{indented_by, suite_by, branch_by, elifs_by, otherwise_by, if_by, while_by, target_by, for_by, define_by, compound_by, block_at};
+ghost use Rattle.si_parse.specs.Gives.{Gives, from, header_view};
 
 use crate::expression::expression;
 use crate::fault::ParseFault;
+use crate::handler::try_statement;
 use crate::lookahead::{
-    after_colon, after_dedent, after_def, after_elif, after_else, after_if, after_indent,
-    after_newline, after_open, after_while, line_at,
+    Header, after_colon, after_dedent, after_elif, after_else, after_in, after_indent,
+    after_newline, after_open, header_at, line_at,
 };
 use crate::name::{name, parameters};
-use crate::precedence::ANY;
+use crate::precedence::{ANY, FACTOR};
 use crate::statement::line;
 use si_plain::limits::MAX_EXPRESSION_DEPTH;
 use si_syntax::{Expr, Stmt};
@@ -41,24 +42,36 @@ pub(crate) fn block(
     if nesting == 0 {
         return line(alloc, before, tokens, at);
     }
+    let Some((header, behind)) = header_at(tokens, at) else {
+        return line(alloc, before, tokens, at);
+    };
+    let begin = line_at(tokens, at);
+    let (statement, end) = compound(alloc, nesting - 1, header, begin, tokens, behind)?;
     let mut body = before;
-    if let Some(behind) = after_if(tokens, at) {
-        let (statement, end) = if_statement(alloc, nesting - 1, tokens, behind)?;
-        body.push(statement)?;
-        return Ok((body, end));
+    body.push(statement)?;
+    Ok((body, end))
+}
+
+// The statement from behind its word, which stands in the line.
+#[cycle(blocks)]
+fn compound(
+    alloc: Global,
+    parts: u32,
+    header: Header,
+    line: usize,
+    tokens: &[Token],
+    start: usize,
+) -> Result<(Stmt, usize), ParseFault>
+    requires { parts < 999 }
+    ensures { Gives (λ x. (stmt_of x.0, from tokens.now x.1)) result (compound_by (block_at parts) (header_view header) (from tokens.now start)) }
+{
+    match header {
+        Header::If => if_statement(alloc, parts, tokens, start),
+        Header::While => while_statement(alloc, parts, tokens, start),
+        Header::For => for_statement(alloc, parts, tokens, start),
+        Header::Try => try_statement(alloc, parts, tokens, start),
+        Header::Def => definition(alloc, parts, line, tokens, start),
     }
-    if let Some(behind) = after_while(tokens, at) {
-        let (statement, end) = while_statement(alloc, nesting - 1, tokens, behind)?;
-        body.push(statement)?;
-        return Ok((body, end));
-    }
-    if let Some(behind) = after_def(tokens, at) {
-        let begin = line_at(tokens, at);
-        let (statement, end) = definition(alloc, nesting - 1, begin, tokens, behind)?;
-        body.push(statement)?;
-        return Ok((body, end));
-    }
-    line(alloc, body, tokens, at)
 }
 
 // The statement from behind its `if`.
@@ -90,8 +103,41 @@ fn while_statement(
     requires { parts < 999 }
     ensures { Gives (λ x. (stmt_of x.0, from tokens.now x.1)) result (while_by (block_at parts) (from tokens.now start)) }
 {
-    let ((test, body), end) = branch(alloc, parts, tokens, start)?;
-    Ok((Stmt::While(test, body), end))
+    let ((test, body), at) = branch(alloc, parts, tokens, start)?;
+    let (last, end) = otherwise(alloc, parts, tokens, at)?;
+    Ok((Stmt::While(test, body, last), end))
+}
+
+// The name that is the target of a `for`, and the place behind the `in`. A name is of every level: it is asked for at one
+// at which no operator but `**` is read.
+fn target(alloc: Global, tokens: &[Token], start: usize) -> Result<(String, usize), ParseFault>
+    ensures { Gives (λ x. (string_bytes x.0, from tokens.now x.1)) result (target_by (from tokens.now start)) }
+{
+    let (first, _, at) = expression(alloc, MAX_EXPRESSION_DEPTH, FACTOR, tokens, start)?;
+    let Expr::Name(name) = first else {
+        return Err(ParseFault::Syntax(line_at(tokens, start)));
+    };
+    match after_in(tokens, at) {
+        Some(behind) => Ok((name, behind)),
+        None => Err(ParseFault::Syntax(line_at(tokens, at))),
+    }
+}
+
+// The statement from behind its `for`.
+#[cycle(blocks)]
+fn for_statement(
+    alloc: Global,
+    parts: u32,
+    tokens: &[Token],
+    start: usize,
+) -> Result<(Stmt, usize), ParseFault>
+    requires { parts < 999 }
+    ensures { Gives (λ x. (stmt_of x.0, from tokens.now x.1)) result (for_by (block_at parts) (from tokens.now start)) }
+{
+    let (name, behind) = target(alloc, tokens, start)?;
+    let ((over, body), at) = branch(alloc, parts, tokens, behind)?;
+    let (last, end) = otherwise(alloc, parts, tokens, at)?;
+    Ok((Stmt::For(name, over, body, last), end))
 }
 
 // The statement from behind its `def`, which stands in the line.
@@ -158,7 +204,7 @@ fn elifs(
 
 // The suite of an `else`, where one stands at the place.
 #[cycle(blocks)]
-fn otherwise(alloc: Global, parts: u32, tokens: &[Token], at: usize) -> Suite
+pub(crate) fn otherwise(alloc: Global, parts: u32, tokens: &[Token], at: usize) -> Suite
     requires { parts < 999 }
     ensures { Gives (λ x. (map stmt_of x.0.items, from tokens.now x.1)) result (otherwise_by (block_at parts) (from tokens.now at)) }
 {
@@ -170,7 +216,7 @@ fn otherwise(alloc: Global, parts: u32, tokens: &[Token], at: usize) -> Suite
 
 // A colon with a line behind it, or with indented lines.
 #[cycle(blocks)]
-fn suite(alloc: Global, parts: u32, tokens: &[Token], at: usize) -> Suite
+pub(crate) fn suite(alloc: Global, parts: u32, tokens: &[Token], at: usize) -> Suite
     requires { parts < 999 }
     ensures { Gives (λ x. (map stmt_of x.0.items, from tokens.now x.1)) result (suite_by (block_at parts) (from tokens.now at)) }
 {

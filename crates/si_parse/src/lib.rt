@@ -6,13 +6,14 @@
 // In reading order: `fault` says why a text is refused, `literal` has the values of literals, `lookahead` the token at
 // a place, `name` names in a row, `precedence` what continues an expression and how tightly, `argument` what a call is
 // passed, `expression` reads an expression by precedence climbing, `statement` small statements and lines, `block`
-// compound statements and their suites, and `parser` a whole text.
+// compound statements and their suites, `handler` those of `try`, and `parser` a whole text.
 #![tactic(auto)]
 
 pub mod argument;
 pub mod block;
 pub mod expression;
 pub mod fault;
+pub mod handler;
 pub mod literal;
 pub mod lookahead;
 pub mod name;

@@ -4,11 +4,21 @@ ghost use Rattle.std.specs.Prelude.{◌≡◌, ℕ, ◌+◌, ◌<◌, ◌≤◌,
 ghost use Rattle.si_semantics.specs.Grammar.{terminal_of};
 ghost use Rattle.si_token.specs.Views.{token_of};
 ghost use Rattle.si_syntax.specs.Trees.{boolean_of};
-ghost use Rattle.si_parse.specs.Reading.{after_close, after_equal, after_open, after_comma, after_newline, after_colon, after_indent, after_dedent, after_if, after_elif, after_while, after_def, after_return, after_global, after_semicolon, after_not, after_else, after_and, after_or, after_boolean, closing, ends_small};
-ghost use Rattle.si_parse.specs.Gives.{from};
+ghost use Rattle.si_parse.specs.Reading.{after_close, after_equal, after_open, after_comma, after_newline, after_colon, after_indent, after_dedent, after_elif, after_in, after_except, after_finally, after_as, after_catch, after_return, after_global, after_raise, after_semicolon, after_not, after_else, after_and, after_or, after_boolean, closing, ends_small, header_at};
+ghost use Rattle.si_parse.specs.Gives.{from, header_view};
 
 use si_syntax::BooleanOperator;
 use si_token::{Keyword, Symbol, Token, TokenKind};
+
+// The word with which a compound statement begins.
+#[derive(Clone, Copy)]
+pub(crate) enum Header {
+    If,
+    While,
+    For,
+    Try,
+    Def,
+}
 
 // The token at the place.
 pub(crate) fn token_at<'a>(tokens: &[Token<'a>], at: usize) -> Option<Token<'a>>
@@ -129,17 +139,6 @@ pub(crate) fn after_dedent(tokens: &[Token], at: usize) -> Option<usize>
     }
 }
 
-// The place behind an `if`, where one stands at the place.
-pub(crate) fn after_if(tokens: &[Token], at: usize) -> Option<usize>
-    ensures { option_map (from tokens.now) result ≡ after_if (from tokens.now at) }
-{
-    let token = token_at(tokens, at)?;
-    match token.kind {
-        TokenKind::Keyword(Keyword::If) => Some(at + 1),
-        _ => None,
-    }
-}
-
 // The place behind an `elif`, where one stands at the place.
 pub(crate) fn after_elif(tokens: &[Token], at: usize) -> Option<usize>
     ensures { option_map (from tokens.now) result ≡ after_elif (from tokens.now at) }
@@ -151,24 +150,46 @@ pub(crate) fn after_elif(tokens: &[Token], at: usize) -> Option<usize>
     }
 }
 
-// The place behind a `while`, where one stands at the place.
-pub(crate) fn after_while(tokens: &[Token], at: usize) -> Option<usize>
-    ensures { option_map (from tokens.now) result ≡ after_while (from tokens.now at) }
+// The place behind an `in`, where one stands at the place.
+pub(crate) fn after_in(tokens: &[Token], at: usize) -> Option<usize>
+    ensures { option_map (from tokens.now) result ≡ after_in (from tokens.now at) }
 {
     let token = token_at(tokens, at)?;
     match token.kind {
-        TokenKind::Keyword(Keyword::While) => Some(at + 1),
+        TokenKind::Keyword(Keyword::In) => Some(at + 1),
         _ => None,
     }
 }
 
-// The place behind a `def`, where one stands at the place.
-pub(crate) fn after_def(tokens: &[Token], at: usize) -> Option<usize>
-    ensures { option_map (from tokens.now) result ≡ after_def (from tokens.now at) }
+// The place behind an `except`, where one stands at the place.
+pub(crate) fn after_except(tokens: &[Token], at: usize) -> Option<usize>
+    ensures { option_map (from tokens.now) result ≡ after_except (from tokens.now at) }
 {
     let token = token_at(tokens, at)?;
     match token.kind {
-        TokenKind::Keyword(Keyword::Def) => Some(at + 1),
+        TokenKind::Keyword(Keyword::Except) => Some(at + 1),
+        _ => None,
+    }
+}
+
+// The place behind a `finally`, where one stands at the place.
+pub(crate) fn after_finally(tokens: &[Token], at: usize) -> Option<usize>
+    ensures { option_map (from tokens.now) result ≡ after_finally (from tokens.now at) }
+{
+    let token = token_at(tokens, at)?;
+    match token.kind {
+        TokenKind::Keyword(Keyword::Finally) => Some(at + 1),
+        _ => None,
+    }
+}
+
+// The place behind an `as`, where one stands at the place.
+pub(crate) fn after_as(tokens: &[Token], at: usize) -> Option<usize>
+    ensures { option_map (from tokens.now) result ≡ after_as (from tokens.now at) }
+{
+    let token = token_at(tokens, at)?;
+    match token.kind {
+        TokenKind::Keyword(Keyword::As) => Some(at + 1),
         _ => None,
     }
 }
@@ -191,6 +212,17 @@ pub(crate) fn after_global(tokens: &[Token], at: usize) -> Option<usize>
     let token = token_at(tokens, at)?;
     match token.kind {
         TokenKind::Keyword(Keyword::Global) => Some(at + 1),
+        _ => None,
+    }
+}
+
+// The place behind a `raise`, where one stands at the place.
+pub(crate) fn after_raise(tokens: &[Token], at: usize) -> Option<usize>
+    ensures { option_map (from tokens.now) result ≡ after_raise (from tokens.now at) }
+{
+    let token = token_at(tokens, at)?;
+    match token.kind {
+        TokenKind::Keyword(Keyword::Raise) => Some(at + 1),
         _ => None,
     }
 }
@@ -269,6 +301,17 @@ pub(crate) fn after_line(tokens: &[Token], at: usize) -> Option<usize>
     }
 }
 
+// The place behind an `except` that no colon follows, where one stands at the place.
+pub(crate) fn after_catch(tokens: &[Token], at: usize) -> Option<usize>
+    ensures { option_map (from tokens.now) result ≡ after_catch (from tokens.now at) }
+{
+    let behind = after_except(tokens, at)?;
+    match after_colon(tokens, behind) {
+        Some(_) => None,
+        None => Some(behind),
+    }
+}
+
 // Whether a small statement ends at the place.
 pub(crate) fn ends_small(tokens: &[Token], at: usize) -> bool
     ensures { result ≡ ends_small (from tokens.now at) }
@@ -279,5 +322,20 @@ pub(crate) fn ends_small(tokens: &[Token], at: usize) -> bool
     match token.kind {
         TokenKind::Newline | TokenKind::Symbol(Symbol::Semicolon) => true,
         _ => false,
+    }
+}
+
+// The word of a compound statement, where one stands at the place, and the place behind it.
+pub(crate) fn header_at(tokens: &[Token], at: usize) -> Option<(Header, usize)>
+    ensures { option_map (λ x. (header_view x.0, from tokens.now x.1)) result ≡ header_at (from tokens.now at) }
+{
+    let token = token_at(tokens, at)?;
+    match token.kind {
+        TokenKind::Keyword(Keyword::If) => Some((Header::If, at + 1)),
+        TokenKind::Keyword(Keyword::While) => Some((Header::While, at + 1)),
+        TokenKind::Keyword(Keyword::For) => Some((Header::For, at + 1)),
+        TokenKind::Keyword(Keyword::Try) => Some((Header::Try, at + 1)),
+        TokenKind::Keyword(Keyword::Def) => Some((Header::Def, at + 1)),
+        _ => None,
     }
 }

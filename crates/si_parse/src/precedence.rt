@@ -23,7 +23,7 @@ const INVERSION: u32 = 7;
 
 pub(crate) const COMPARED: u32 = 10;
 
-const FACTOR: u32 = 16;
+pub(crate) const FACTOR: u32 = 16;
 
 const PRIMARY: u32 = 18;
 

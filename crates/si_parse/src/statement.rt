@@ -4,14 +4,15 @@ ghost use Rattle.std.specs.Prelude.{◌≡◌, ℕ, ◌+◌, ◌-◌, length, ma
 ghost use Rattle.si_token.specs.Views.{symbol_of};
 ghost use Rattle.si_semantics.specs.Grammar.{max_depth};
 ghost use Rattle.si_syntax.specs.Trees.{binary_of, expr_of, stmt_of};
-ghost use Rattle.si_parse.specs.Reading.{assignment_symbol, assignment_at, word_statement, rest_of, expression_at, spelled_by, returned_by, global_by, statement_by, line_by, is_end, module_by};
+ghost use Rattle.si_parse.specs.Reading.{assignment_symbol, assignment_at, word_statement, rest_of, expression_at, spelled_by, value_by, returned_by, raised_by, global_by, statement_by, line_by, is_end, module_by};
 ghost use Rattle.si_parse.specs.Gives.{Gives, from};
 
 use crate::block::{MAX_NESTING, block};
 use crate::expression::expression;
 use crate::fault::ParseFault;
 use crate::lookahead::{
-    after_global, after_line, after_return, after_semicolon, ends_small, line_at, token_at,
+    after_global, after_line, after_raise, after_return, after_semicolon, ends_small, line_at,
+    token_at,
 };
 use crate::name::names;
 use crate::precedence::ANY;
@@ -87,6 +88,17 @@ fn spelled(alloc: Global, tokens: &[Token], start: usize) -> Result<(Stmt, usize
     }
 }
 
+// The expression in front of the end of a small statement, where there is one, and the place behind it.
+fn value(alloc: Global, tokens: &[Token], at: usize) -> Result<(Option<Expr>, usize), ParseFault>
+    ensures { Gives (λ x. (option_map expr_of x.0, from tokens.now x.1)) result (value_by (expression_at max_depth) (from tokens.now at)) }
+{
+    if ends_small(tokens, at) {
+        return Ok((None, at));
+    }
+    let (value, _, end) = expression(alloc, MAX_EXPRESSION_DEPTH, ANY, tokens, at)?;
+    Ok((Some(value), end))
+}
+
 // The statement from behind its `return`, which stands in the line.
 fn returned(
     alloc: Global,
@@ -96,11 +108,16 @@ fn returned(
 ) -> Result<(Stmt, usize), ParseFault>
     ensures { Gives (λ x. (stmt_of x.0, from tokens.now x.1)) result (returned_by (expression_at max_depth) (from tokens.now at)) }
 {
-    if ends_small(tokens, at) {
-        return Ok((Stmt::Return(line, None), at));
-    }
-    let (value, _, end) = expression(alloc, MAX_EXPRESSION_DEPTH, ANY, tokens, at)?;
-    Ok((Stmt::Return(line, Some(value)), end))
+    let (value, end) = value(alloc, tokens, at)?;
+    Ok((Stmt::Return(line, value), end))
+}
+
+// The statement from behind its `raise`.
+fn raised(alloc: Global, tokens: &[Token], at: usize) -> Result<(Stmt, usize), ParseFault>
+    ensures { Gives (λ x. (stmt_of x.0, from tokens.now x.1)) result (raised_by (expression_at max_depth) (from tokens.now at)) }
+{
+    let (value, end) = value(alloc, tokens, at)?;
+    Ok((Stmt::Raise(value), end))
 }
 
 // The statement from behind its `global`, which stands in the line.
@@ -128,6 +145,9 @@ fn statement(alloc: Global, tokens: &[Token], start: usize) -> Result<(Stmt, usi
     }
     if let Some(behind) = after_global(tokens, start) {
         return global(alloc, line_at(tokens, start), tokens, behind);
+    }
+    if let Some(behind) = after_raise(tokens, start) {
+        return raised(alloc, tokens, behind);
     }
     spelled(alloc, tokens, start)
 }

@@ -12,11 +12,16 @@ fn shown(alloc: Global, text: &str) -> Result<String, Fail> {
     Ok(format!(in alloc; "{body:?}")?)
 }
 
-fn is_refused(alloc: Global, text: &str) -> bool {
+// The line in which a text is refused.
+fn refused_in(alloc: Global, text: &str) -> Option<usize> {
     match parse(alloc, text) {
-        Err(ParseFault::Syntax(_)) => true,
-        _ => false,
+        Err(ParseFault::Syntax(line)) => Some(line),
+        _ => None,
     }
+}
+
+fn is_refused(alloc: Global, text: &str) -> bool {
+    refused_in(alloc, text).is_some()
 }
 
 fn push_often(text: &mut String, part: &str, count: usize) -> Result<(), AllocError> {
@@ -332,7 +337,7 @@ fn statements_of_branches_and_loops(rt: HostRuntime) -> Result<(), Fail> {
         ),
         (
             "while a:\n  if b:\n    break\n\n    # c\n  else: continue\nd",
-            "While(Name(\"a\"), [If(Name(\"b\"), [Break(3)], [], [Continue(6)])]), Evaluate(Name(\"d\"))",
+            "While(Name(\"a\"), [If(Name(\"b\"), [Break(3)], [], [Continue(6)])], []), Evaluate(Name(\"d\"))",
         ),
         (
             "if a:\n if b: c\nelse:\n d",
@@ -365,7 +370,6 @@ fn other_statements_are_refused(rt: HostRuntime) -> Result<(), Fail> {
         "else: x",
         "elif a: b",
         "if a: b\nelse: c\nelif d: e",
-        "while a: b\nelse: c",
         "while: a",
         "while a\n b",
         " x",
@@ -375,6 +379,204 @@ fn other_statements_are_refused(rt: HostRuntime) -> Result<(), Fail> {
         "if a: b; while c: d",
     ] {
         assert!(rt; is_refused(alloc, text), "{text:?}");
+    }
+    Ok(())
+}
+
+#[test]
+fn loops_may_have_an_else(rt: HostRuntime) -> Result<(), Fail> {
+    let alloc = rt.alloc();
+    for (text, trees) in [
+        (
+            "while a: b\nelse: c",
+            "While(Name(\"a\"), [Evaluate(Name(\"b\"))], [Evaluate(Name(\"c\"))])",
+        ),
+        (
+            "for x in y: z",
+            "For(\"x\", Name(\"y\"), [Evaluate(Name(\"z\"))], [])",
+        ),
+        (
+            "for ((x)) in f(1) + 2:\n break\nelse:\n pass\n",
+            "For(\"x\", Binary(Add, Call(Name(\"f\"), [Int(1)], []), Int(2)), [Break(2)], [Pass])",
+        ),
+        (
+            "for(x)in a if b else c: pass",
+            "For(\"x\", Conditional(Name(\"b\"), Name(\"a\"), Name(\"c\")), [Pass], [])",
+        ),
+        (
+            "if a:\n while b:\n  for c in d: e\n else: f\nelse: g",
+            "If(Name(\"a\"), [While(Name(\"b\"), [For(\"c\", Name(\"d\"), [Evaluate(Name(\"e\"))], [])], [Evaluate(Name(\"f\"))])], [], [Evaluate(Name(\"g\"))])",
+        ),
+    ] {
+        let wanted = format!(in alloc; "[{trees}]")?;
+        assert_eq!(rt; shown(alloc, text)?.as_str(), wanted.as_str(), "{text:?}");
+    }
+    Ok(())
+}
+
+#[test]
+fn other_loops_are_refused(rt: HostRuntime) -> Result<(), Fail> {
+    let alloc = rt.alloc();
+    for (text, line) in [
+        ("for", 1),
+        ("for x: y", 1),
+        ("for in y: z", 1),
+        ("for x in: z", 1),
+        ("for x in y", 1),
+        ("\nfor 1 in y: z", 2),
+        ("\n\nfor None in y: z", 3),
+        ("for f() in y: z", 1),
+        ("for -x in y: z", 1),
+        ("for x + 1 in y: z", 1),
+        ("for x ** 2 in y: z", 1),
+        ("for (x in y): z", 1),
+        ("for x, y in z: pass", 1),
+        ("for (x, y) in z: pass", 1),
+        ("for x in y, z: pass", 1),
+        ("for x in y in z: pass", 1),
+        ("for x in y: if a: b", 1),
+        ("a; for x in y: z", 1),
+        ("for x in y:\nz", 2),
+        ("for x in y: z\nelse: a\nelse: b", 3),
+        ("for x in y: z\nelif a: b", 2),
+        ("while a: b\nelse: c\nelse: d", 3),
+        ("while a: b\nelse c", 2),
+        ("while a: b\nc\nelse: d", 3),
+    ] {
+        assert_eq!(rt; refused_in(alloc, text), Some(line), "{text:?}");
+    }
+    Ok(())
+}
+
+#[test]
+fn raise_takes_one_value_or_none(rt: HostRuntime) -> Result<(), Fail> {
+    let alloc = rt.alloc();
+    for (text, trees) in [
+        ("raise", "Raise(None)"),
+        ("raise;", "Raise(None)"),
+        ("raise x; raise", "Raise(Some(Name(\"x\"))), Raise(None)"),
+        (
+            "if a: raise E(1)",
+            "If(Name(\"a\"), [Raise(Some(Call(Name(\"E\"), [Int(1)], [])))], [], [])",
+        ),
+    ] {
+        let wanted = format!(in alloc; "[{trees}]")?;
+        assert_eq!(rt; shown(alloc, text)?.as_str(), wanted.as_str(), "{text:?}");
+    }
+    for (text, line) in [
+        ("raise raise", 1),
+        ("raise 1 2", 1),
+        ("x\nraise a, b", 2),
+        ("raise x from y", 1),
+        ("raise = 1", 1),
+        ("x = raise", 1),
+        ("raise:", 1),
+    ] {
+        assert_eq!(rt; refused_in(alloc, text), Some(line), "{text:?}");
+    }
+    Ok(())
+}
+
+#[test]
+fn clauses_are_read_in_their_order(rt: HostRuntime) -> Result<(), Fail> {
+    let alloc = rt.alloc();
+    for (text, trees) in [
+        (
+            "try: a\nexcept: b",
+            "Try([Evaluate(Name(\"a\"))], [(None, None, [Evaluate(Name(\"b\"))])], [])",
+        ),
+        (
+            "try: pass\nexcept E: a\nexcept F as e:\n b\n c\nexcept:\n pass\nelse: d",
+            "Try([Pass], [(Some(Name(\"E\")), None, [Evaluate(Name(\"a\"))]), (Some(Name(\"F\")), Some(\"e\"), [Evaluate(Name(\"b\")), Evaluate(Name(\"c\"))]), (None, None, [Pass])], [Evaluate(Name(\"d\"))])",
+        ),
+        (
+            "try: pass\nexcept E or f(1) as e: pass",
+            "Try([Pass], [(Some(Boolean(Or, Name(\"E\"), [Call(Name(\"f\"), [Int(1)], [])])), Some(\"e\"), [Pass])], [])",
+        ),
+        (
+            "try: pass\nexcept (E): pass\na",
+            "Try([Pass], [(Some(Name(\"E\")), None, [Pass])], []), Evaluate(Name(\"a\"))",
+        ),
+        (
+            "try:\n try: a\n except: b\nexcept: c",
+            "Try([Try([Evaluate(Name(\"a\"))], [(None, None, [Evaluate(Name(\"b\"))])], [])], [(None, None, [Evaluate(Name(\"c\"))])], [])",
+        ),
+    ] {
+        let wanted = format!(in alloc; "[{trees}]")?;
+        assert_eq!(rt; shown(alloc, text)?.as_str(), wanted.as_str(), "{text:?}");
+    }
+    Ok(())
+}
+
+#[test]
+fn finally_stands_last(rt: HostRuntime) -> Result<(), Fail> {
+    let alloc = rt.alloc();
+    for (text, trees) in [
+        (
+            "try: a\nfinally: b",
+            "Finally([Evaluate(Name(\"a\"))], [], [], [Evaluate(Name(\"b\"))])",
+        ),
+        (
+            "try: a\nexcept E: b\nelse: c\nfinally: d",
+            "Finally([Evaluate(Name(\"a\"))], [(Some(Name(\"E\")), None, [Evaluate(Name(\"b\"))])], [Evaluate(Name(\"c\"))], [Evaluate(Name(\"d\"))])",
+        ),
+        (
+            "try:\n try: pass\n except: pass\nfinally:\n try: a\n finally: b\nc",
+            "Finally([Try([Pass], [(None, None, [Pass])], [])], [], [], [Finally([Evaluate(Name(\"a\"))], [], [], [Evaluate(Name(\"b\"))])]), Evaluate(Name(\"c\"))",
+        ),
+    ] {
+        let wanted = format!(in alloc; "[{trees}]")?;
+        assert_eq!(rt; shown(alloc, text)?.as_str(), wanted.as_str(), "{text:?}");
+    }
+    Ok(())
+}
+
+#[test]
+fn clauses_in_another_order_are_refused(rt: HostRuntime) -> Result<(), Fail> {
+    let alloc = rt.alloc();
+    for (text, line) in [
+        ("try: a\nb", 2),
+        ("try: a\nelse: b", 2),
+        ("try: a\nelse: b\nfinally: c", 2),
+        ("try: a\nexcept: b\nexcept E: c", 3),
+        ("try: a\nexcept: b\nexcept: c", 3),
+        ("try: a\nexcept E: b\nelse: c\nexcept F: d", 4),
+        ("try: a\nexcept E: b\nelse: c\nelse: d", 4),
+        ("try: a\nfinally: b\nexcept E: c", 3),
+        ("try: a\nfinally: b\nelse: c", 3),
+        ("try: a\nfinally: b\nfinally: c", 3),
+        ("except E: a", 1),
+        ("finally: a", 1),
+        ("a; try: b", 1),
+        ("if a: b\nexcept: c", 2),
+    ] {
+        assert_eq!(rt; refused_in(alloc, text), Some(line), "{text:?}");
+    }
+    Ok(())
+}
+
+#[test]
+fn other_clauses_are_refused(rt: HostRuntime) -> Result<(), Fail> {
+    let alloc = rt.alloc();
+    for (text, line) in [
+        ("try a\nexcept: b", 1),
+        ("try: try: a", 1),
+        ("try:\na", 2),
+        ("try: a\nexcept as e: b", 2),
+        ("try: a\nexcept E as 1: b", 2),
+        ("try: a\nexcept E as (e): b", 2),
+        ("try: a\nexcept E as: b", 2),
+        ("try: a\nexcept E as e as f: b", 2),
+        ("try: a\nexcept E e: b", 2),
+        ("try: a\nexcept E, F: b", 2),
+        ("try: a\nexcept (E, F): b", 2),
+        ("try: a\nexcept *E: b", 2),
+        ("try: a\nexcept E:\nb", 3),
+        ("try: a\nexcept b\nc", 2),
+        ("try: a\nfinally b", 2),
+        ("try: a\nfinally E: b", 2),
+    ] {
+        assert_eq!(rt; refused_in(alloc, text), Some(line), "{text:?}");
     }
     Ok(())
 }
@@ -506,12 +708,34 @@ fn nested(alloc: Global, head: &str, count: usize) -> Result<String, AllocError>
 #[test]
 fn twenty_are_nested_and_no_more(rt: HostRuntime) -> Result<(), Fail> {
     let alloc = rt.alloc();
-    for head in ["if 1:\n", "def f():\n"] {
+    for head in ["if 1:\n", "while 1:\n", "for x in y:\n", "def f():\n"] {
         assert!(rt; parse(alloc, nested(alloc, head, 20)?.as_str()).is_ok());
         assert!(rt; is_refused(alloc, nested(alloc, head, 21)?.as_str()));
     }
     let mut branches = String::from_str(alloc, "if a: b\n")?;
     push_often(&mut branches, "elif a: b\n", 100)?;
     assert!(rt; parse(alloc, branches.as_str()).is_ok());
+    Ok(())
+}
+
+// So many `try` statements in one another, each with a `finally`.
+fn nested_tries(alloc: Global, count: usize) -> Result<String, AllocError> {
+    let mut text = nested(alloc, "try:\n", count)?;
+    for inner in 0..count {
+        text.push_str("\n")?;
+        push_often(&mut text, " ", count - 1 - inner)?;
+        text.push_str("finally: pass")?;
+    }
+    Ok(text)
+}
+
+#[test]
+fn twenty_tries_are_nested_and_no_more(rt: HostRuntime) -> Result<(), Fail> {
+    let alloc = rt.alloc();
+    assert!(rt; parse(alloc, nested_tries(alloc, 20)?.as_str()).is_ok());
+    assert!(rt; is_refused(alloc, nested_tries(alloc, 21)?.as_str()));
+    let mut clauses = String::from_str(alloc, "try: a\n")?;
+    push_often(&mut clauses, "except E: b\n", 100)?;
+    assert!(rt; parse(alloc, clauses.as_str()).is_ok());
     Ok(())
 }

@@ -4,15 +4,16 @@ use Rattle.std.specs.Prelude.{Result, Ok, Err, IfErr}
 use Rattle.std.specs.Option.{option_and_then, option_map}
 use Rattle.std.specs.Result.{IsErrAnd}
 use Rattle.std.proofs.lemmas.List.{append-nil, map-append}
+use Rattle.std.proofs.Math.Bool.{and_assoc}
 use Rattle.si_semantics.specs.Value.{Text}
-use Rattle.si_semantics.specs.Tree.{Stmt, Evaluate, Assign, Augment, Pass, If, While, Break, Continue, Define, Return, Global, Stmts, NoStmts, MoreStmts, Function, functions_of, functions_in}
-use Rattle.si_semantics.specs.Scope.{locals_of, with_new, bound_in, declared_in, InText, stmt_scoped, stmts_scoped, is_scoped}
+use Rattle.si_semantics.specs.Tree.{Stmt, Evaluate, Assign, Augment, Pass, If, While, For, Break, Continue, Define, Return, Global, Raise, Try, Finally, Stmts, NoStmts, MoreStmts, Clauses, NoClauses, MoreClauses, Function, functions_of, functions_in, functions_in_clauses}
+use Rattle.si_semantics.specs.Scope.{locals_of, with_new, bound_in, declared_in, InText, stmt_scoped, stmts_scoped, clauses_scoped, is_scoped}
 use Rattle.si_scope.specs.declared.fault.ScopeFault.{ScopeFault}
 use Rattle.si_scope.specs.declared.fault.ScopeFault.TheVariants.{Scope, NoMemory}
 use Rattle.si_scope.specs.Faults.{IsScope, Fails}
 use Rattle.si_scope.specs.Locals.{IsResolved}
-use Rattle.si_scope.specs.Walk.{resolved, resolved_all}
-use Rattle.si_scope.proofs.Walked.{then_same, local_is}
+use Rattle.si_scope.specs.Walk.{resolved, resolved_all, resolved_clauses}
+use Rattle.si_scope.proofs.Walked.{then_same, then_then, local_is}
 
 -- the locals of these functions behind those before, if this holds
 abbrev behind : List (List Text) → List Function → Bool → Option (List (List Text))
@@ -39,6 +40,8 @@ mutual
       two_texts (resolved_all c loop) (resolved_all b loop names) names (functions_in b) (functions_in c) (stmts_scoped (InText loop) b) (stmts_scoped (InText loop) c) (stmts_are b loop names) (stmts_are c loop)
   stmt_is (While a b c) loop names =
       two_texts (resolved_all c loop) (resolved_all b true names) names (functions_in b) (functions_in c) (stmts_scoped (InText true) b) (stmts_scoped (InText loop) c) (stmts_are b true names) (stmts_are c loop)
+  stmt_is (For x a b c) loop names =
+      two_texts (resolved_all c loop) (resolved_all b true names) names (functions_in b) (functions_in c) (stmts_scoped (InText true) b) (stmts_scoped (InText loop) c) (stmts_are b true names) (stmts_are c loop)
   stmt_is Break loop names = ap (λ l. if loop then Some l else None) (sym (append-nil names))
   stmt_is Continue loop names = ap (λ l. if loop then Some l else None) (sym (append-nil names))
   stmt_is (Define f ps b) loop names =
@@ -49,11 +52,34 @@ mutual
       by false = refl
   stmt_is (Return a) loop names = refl
   stmt_is (Global xs) loop names = refl
+  stmt_is (Raise a) loop names = none_behind names
+  stmt_is (Try b cs c) loop names =
+      let w = InText loop in
+      two_texts (λ more. option_and_then (resolved_all c loop) (resolved_clauses cs loop more)) (resolved_all b loop names) names (functions_in b) (functions_in_clauses cs ++ functions_in c)
+      (stmts_scoped w b) (clauses_scoped w cs && stmts_scoped w c) (stmts_are b loop names)
+      (λ more. two_texts (resolved_all c loop) (resolved_clauses cs loop more) more (functions_in_clauses cs) (functions_in c) (clauses_scoped w cs) (stmts_scoped w c) (clauses_are cs loop more) (stmts_are c loop))
+      ∙ ap (behind names (functions_in b ++ (functions_in_clauses cs ++ functions_in c))) (sym (and_assoc (stmts_scoped w b) (clauses_scoped w cs) (stmts_scoped w c)))
+  stmt_is (Finally b cs c f) loop names =
+      let w = InText loop in
+      let end = stmts_scoped (InText false) f in
+      two_texts (λ more. option_and_then (resolved_all f false) (option_and_then (resolved_all c loop) (resolved_clauses cs loop more))) (resolved_all b loop names) names
+      (functions_in b) (functions_in_clauses cs ++ (functions_in c ++ functions_in f)) (stmts_scoped w b) (clauses_scoped w cs && (stmts_scoped w c && end)) (stmts_are b loop names)
+      (λ more. then_then (resolved_all f false) (resolved_all c loop) (resolved_clauses cs loop more)
+      ∙ two_texts (λ others. option_and_then (resolved_all f false) (resolved_all c loop others)) (resolved_clauses cs loop more) more (functions_in_clauses cs) (functions_in c ++ functions_in f)
+      (clauses_scoped w cs) (stmts_scoped w c && end) (clauses_are cs loop more)
+      (λ others. two_texts (resolved_all f false) (resolved_all c loop others) others (functions_in c) (functions_in f) (stmts_scoped w c) end (stmts_are c loop others) (stmts_are f false)))
+      ∙ ap (behind names (functions_in b ++ (functions_in_clauses cs ++ (functions_in c ++ functions_in f))))
+      (sym (and_assoc (stmts_scoped w b) (clauses_scoped w cs) (stmts_scoped w c && end)) ∙ sym (and_assoc (stmts_scoped w b && clauses_scoped w cs) (stmts_scoped w c) end))
 
   stmts_are : (b : Stmts) (loop : Bool) (names : List (List Text)) → resolved_all b loop names ≡ behind names (functions_in b) (stmts_scoped (InText loop) b)
   stmts_are NoStmts loop names = none_behind names
   stmts_are (MoreStmts a b) loop names =
       two_texts (resolved_all b loop) (resolved a loop names) names (functions_of a) (functions_in b) (stmt_scoped (InText loop) a) (stmts_scoped (InText loop) b) (stmt_is a loop names) (stmts_are b loop)
+
+  clauses_are : (cs : Clauses) (loop : Bool) (names : List (List Text)) → resolved_clauses cs loop names ≡ behind names (functions_in_clauses cs) (clauses_scoped (InText loop) cs)
+  clauses_are NoClauses loop names = none_behind names
+  clauses_are (MoreClauses a y b cs) loop names =
+      two_texts (resolved_clauses cs loop) (resolved_all b loop names) names (functions_in b) (functions_in_clauses cs) (stmts_scoped (InText loop) b) (clauses_scoped (InText loop) cs) (stmts_are b loop names) (clauses_are cs loop)
 
 -- a script that the walk gets through is resolved
 pub script_resolved : (body : Stmts) (names : List (List Text)) → resolved_all body false [] ≡ Some names → IsResolved body names

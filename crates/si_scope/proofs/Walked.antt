@@ -3,11 +3,12 @@ use Rattle.std.proofs.Common.{◌≡◌, Bool, true, false, ◌&&◌, ◌||◌, 
 use Rattle.std.specs.Prelude.{not}
 use Rattle.std.specs.Option.{option_and_then, option_map}
 use Rattle.std.proofs.Math.Bool.{and_assoc, or-false}
+use Rattle.std.proofs.lemmas.List.{append-nil}
 use Rattle.si_semantics.specs.Value.{Text}
-use Rattle.si_semantics.specs.Tree.{Stmt, Evaluate, Assign, Augment, Pass, If, While, Break, Continue, Define, Return, Global, Stmts, NoStmts, MoreStmts}
-use Rattle.si_semantics.specs.Scope.{is_in, are_apart, are_distinct, with_new, names_of, names_of_value, bound_by, bound_in, declared_by, declared_in, used_by, used_in, declares_first, declare_first, InText, InFunction, stmt_scoped, stmts_scoped}
+use Rattle.si_semantics.specs.Tree.{Expr, Stmt, Evaluate, Assign, Augment, Pass, If, While, For, Break, Continue, Define, Return, Global, Raise, Try, Finally, Stmts, NoStmts, MoreStmts, Clauses, NoClauses, MoreClauses}
+use Rattle.si_semantics.specs.Scope.{is_in, are_apart, are_distinct, with_new, names_of, names_of_value, name_in, bound_by, bound_in, bound_in_clauses, declared_by, declared_in, declared_in_clauses, used_by, used_in, used_in_clauses, declares_first, declare_first, clauses_declare_first, InText, InFunction, stmt_scoped, stmts_scoped, clauses_scoped}
 use Rattle.si_scope.specs.declared.seen.Seen.{Seen}
-use Rattle.si_scope.specs.Walk.{with_names, using, declaring, after, after_all, local_to}
+use Rattle.si_scope.specs.Walk.{with_names, using, binding_any, declaring, after, after_all, after_clauses, local_to}
 use Rattle.si_scope.proofs.Sets.{with_names-append}
 use Rattle.si_scope.proofs.Apart.{and_both, first_of, second_of, apart_nil, apart_cons, apart_front, apart_back, in_names, apart_names}
 use Rattle.si_scope.proofs.Declared.{seen_of}
@@ -64,6 +65,11 @@ pub then_same : {X Y : Type 0} (f g : X → Option Y) (o : Option X) → ((x : X
 then_same f g None same = refl
 then_same f g (Some x) same = same x
 
+-- two steps are one
+pub then_then : {X Y Z : Type 0} (f : Y → Option Z) (g : X → Option Y) (o : Option X) → option_and_then f (option_and_then g o) ≡ option_and_then (λ x. option_and_then f (g x)) o
+then_then f g None = refl
+then_then f g (Some x) = refl
+
 both_hold : (x y : Seen) (a1 h1 a2 c h2 : Bool) → (c ≡ true → x ≡ y) → (if a1 && h1 then (if (a2 && c) && h2 then Some x else None) else None) ≡ (if (a1 && a2) && (c && (h1 && h2)) then Some y else None)
 both_hold x y false h1 a2 c h2 same = refl
 both_hold x y true false false c h2 same = refl
@@ -86,12 +92,12 @@ two_rows f o s u1 d1 b1 h1 u2 d2 b2 h2 now later within =
     ∙ both_hold (seen_in t u2 d2 b2) (seen_in s (u1 ++ u2) (d1 ++ d2) (b1 ++ b2)) (are_apart s.used d1) h1 (are_apart s.used d2) (are_apart u1 d2) h2 (λ h. seen_both s u1 d1 b1 u2 d2 b2 (within h))
     ∙ ap (λ a. if a && (are_apart u1 d2 && (h1 && h2)) then Some (seen_in s (u1 ++ u2) (d1 ++ d2) (b1 ++ b2)) else None) (sym (apart_back s.used d1 d2))
 
--- names that are used in front of a row
-used_first : (s : Seen) (n u d b : List Text) (h : Bool) → given (using n s) u d b h ≡ given s (n ++ u) d b (are_apart n d && h)
-used_first s n u d b h =
-    ap (λ a. if a && h then Some (seen_in (using n s) u d b) else None) (apart_names s.used n d)
-    ∙ ap (λ a. if a then Some (seen_in (using n s) u d b) else None) (and_assoc (are_apart s.used d) (are_apart n d) h)
-    ∙ ap (λ v. if are_apart s.used d && (are_apart n d && h) then Some (seen_of v (with_names s.declared d) (with_new s.locals (with_names s.declared d) b)) else None) (sym (with_names-append s.used n u))
+one_row : (s : Seen) (u b : List Text) → Some (seen_in s u [] b) ≡ given s u [] b true
+one_row s u b = ap (λ a. if a && true then Some (seen_in s u [] b) else None) (sym (apart_nil s.used))
+
+-- names that are used in front of a row, some of them bound
+used_first : (s : Seen) (n m u d b : List Text) (h : Bool) → (are_apart n d ≡ true → are_apart m d ≡ true) → given (seen_in s n [] m) u d b h ≡ given s (n ++ u) d (m ++ b) (are_apart n d && h)
+used_first s n m u d b h within = two_rows (λ t. given t u d b h) (Some (seen_in s n [] m)) s n [] m true u d b h (one_row s n m) (λ t. refl) within
 
 regrouped : (p q f g r t : Bool) → (p && (q && ((f && r) && (g && t)))) ≡ ((((p && q) && f) && g) && (r && t))
 regrouped false q f g r t = refl
@@ -102,8 +108,33 @@ regrouped true true true false true t = refl
 regrouped true true true true false t = refl
 regrouped true true true false false t = refl
 
-one_row : (s : Seen) (u b : List Text) → Some (seen_in s u [] b) ≡ given s u [] b true
-one_row s u b = ap (λ a. if a && true then Some (seen_in s u [] b) else None) (sym (apart_nil s.used))
+-- the parts of a `try`, and of one with a finally suite
+regrouped_try : (p q b c d r t u : Bool) → (p && ((b && r) && (q && ((c && t) && (d && u))))) ≡ ((((p && q) && b) && c) && d) && ((r && t) && u)
+regrouped_try p q b c d r t u =
+    ap (λ x. p && ((b && r) && x)) (regrouped true q c d t u) ∙ regrouped true p b ((q && c) && d) r (t && u)
+    ∙ ap (λ x. x && (r && (t && u))) (by p q b c d) ∙ ap (λ x. ((((p && q) && b) && c) && d) && x) (sym (and_assoc r t u))
+  where
+    by : (p q b c d : Bool) → ((p && b) && ((q && c) && d)) ≡ ((((p && q) && b) && c) && d)
+    by false q b c d = refl
+    by true true true c d = refl
+    by true true false c d = refl
+    by true false true c d = refl
+    by true false false c d = refl
+
+regrouped_finally : (p q g b c d e r t u v : Bool) → (p && ((b && r) && (q && ((c && t) && (g && ((d && u) && (e && v))))))) ≡ ((((((p && q) && g) && b) && c) && d) && e) && (((r && t) && u) && v)
+regrouped_finally p q g b c d e r t u v =
+    ap (λ x. p && ((b && r) && x)) (regrouped_try q g c d e t u v) ∙ regrouped true p b ((((q && g) && c) && d) && e) r ((t && u) && v)
+    ∙ ap (λ x. x && (r && ((t && u) && v))) (by p q g b c d e)
+    ∙ ap (λ x. ((((((p && q) && g) && b) && c) && d) && e) && x) (sym (and_assoc r (t && u) v) ∙ ap (λ x. x && v) (sym (and_assoc r t u)))
+  where
+    by : (p q g b c d e : Bool) → ((p && b) && ((((q && g) && c) && d) && e)) ≡ ((((((p && q) && g) && b) && c) && d) && e)
+    by false q g b c d e = refl
+    by true false g true c d e = refl
+    by true false g false c d e = refl
+    by true true false true c d e = refl
+    by true true false false c d e = refl
+    by true true true true c d e = refl
+    by true true true false c d e = refl
 
 declaring_is : (xs : List Text) (s : Seen) → declaring xs s ≡ given s [] xs [] true
 declaring_is [] s = one_row s [] []
@@ -118,81 +149,168 @@ declaring_is (x ∷ xs) s =
 
 -- ---- names that are bound are used
 
-in_suites : (n ub uc bb bc ys : List Text) → (are_apart ub ys ≡ true → are_apart bb ys ≡ true) → (are_apart uc ys ≡ true → are_apart bc ys ≡ true) → are_apart ((n ++ ub) ++ uc) ys ≡ true → are_apart (bb ++ bc) ys ≡ true
-in_suites n ub uc bb bc ys in_b in_c h =
-    let parts = sym (apart_front (n ++ ub) uc ys) ∙ h in
-    let front = sym (apart_front n ub ys) ∙ first_of (are_apart (n ++ ub) ys) (are_apart uc ys) parts in
-    apart_front bb bc ys
-    ∙ and_both (are_apart bb ys) (are_apart bc ys) (in_b (second_of (are_apart n ys) (are_apart ub ys) front)) (in_c (second_of (are_apart (n ++ ub) ys) (are_apart uc ys) parts))
+-- the names that a row binds are of those that it uses
+abbrev Within : List Text → List Text → Type 0
+Within bound used = (ys : List Text) → are_apart used ys ≡ true → are_apart bound ys ≡ true
+
+no_names : (used : List Text) → Within [] used
+no_names used ys h = refl
+
+-- of two rows
+in_both : (us vs bs cs : List Text) → Within bs us → Within cs vs → Within (bs ++ cs) (us ++ vs)
+in_both us vs bs cs in_b in_c ys h =
+    let parts = sym (apart_front us vs ys) ∙ h in
+    apart_front bs cs ys
+    ∙ and_both (are_apart bs ys) (are_apart cs ys) (in_b ys (first_of (are_apart us ys) (are_apart vs ys) parts)) (in_c ys (second_of (are_apart us ys) (are_apart vs ys) parts))
+
+-- behind names that are used
+behind_names : (ns us bs : List Text) → Within bs us → Within bs (ns ++ us)
+behind_names ns us bs in_b ys h = in_b ys (second_of (are_apart ns ys) (are_apart us ys) (sym (apart_front ns us ys) ∙ h))
+
+-- a name that is bound in front of those
+name_first : (x : Text) (us bs : List Text) → Within bs us → Within (x ∷ bs) (x ∷ us)
+name_first x us bs in_b = in_both (x ∷ []) us (x ∷ []) bs (λ ys h. h) in_b
+
+two_suites : (n ub uc bb bc : List Text) → Within bb ub → Within bc uc → Within (bb ++ bc) ((n ++ ub) ++ uc)
+two_suites n ub uc bb bc in_b in_c = in_both (n ++ ub) uc bb bc (behind_names n ub bb in_b) in_c
 
 mutual
-  bound_apart : (a : Stmt) (ys : List Text) → are_apart (used_by a) ys ≡ true → are_apart (bound_by a) ys ≡ true
-  bound_apart (Evaluate e) ys h = refl
-  bound_apart (Assign x e) ys h = and_both (not (is_in x ys)) true (first_of (not (is_in x ys)) (are_apart (names_of e) ys) h) refl
-  bound_apart (Augment x o e) ys h = and_both (not (is_in x ys)) true (first_of (not (is_in x ys)) (are_apart (names_of e) ys) h) refl
-  bound_apart Pass ys h = refl
-  bound_apart (If a b c) ys h = in_suites (names_of a) (used_in b) (used_in c) (bound_in b) (bound_in c) ys (all_bound_apart b ys) (all_bound_apart c ys) h
-  bound_apart (While a b c) ys h = in_suites (names_of a) (used_in b) (used_in c) (bound_in b) (bound_in c) ys (all_bound_apart b ys) (all_bound_apart c ys) h
-  bound_apart Break ys h = refl
-  bound_apart Continue ys h = refl
-  bound_apart (Define f ps b) ys h = h
-  bound_apart (Return a) ys h = refl
-  bound_apart (Global xs) ys h = refl
+  bound_apart : (a : Stmt) → Within (bound_by a) (used_by a)
+  bound_apart (Evaluate e) = no_names (names_of e)
+  bound_apart (Assign x e) = name_first x (names_of e) [] (no_names (names_of e))
+  bound_apart (Augment x o e) = name_first x (names_of e) [] (no_names (names_of e))
+  bound_apart Pass = no_names []
+  bound_apart (If a b c) = two_suites (names_of a) (used_in b) (used_in c) (bound_in b) (bound_in c) (all_bound_apart b) (all_bound_apart c)
+  bound_apart (While a b c) = two_suites (names_of a) (used_in b) (used_in c) (bound_in b) (bound_in c) (all_bound_apart b) (all_bound_apart c)
+  bound_apart (For x a b c) =
+      name_first x ((names_of a ++ used_in b) ++ used_in c) (bound_in b ++ bound_in c)
+      (two_suites (names_of a) (used_in b) (used_in c) (bound_in b) (bound_in c) (all_bound_apart b) (all_bound_apart c))
+  bound_apart Break = no_names []
+  bound_apart Continue = no_names []
+  bound_apart (Define f ps b) = λ ys h. h
+  bound_apart (Return a) = no_names (names_of_value a)
+  bound_apart (Global xs) = no_names []
+  bound_apart (Raise a) = no_names (names_of_value a)
+  bound_apart (Try b cs c) =
+      in_both (used_in b) (used_in_clauses cs ++ used_in c) (bound_in b) (bound_in_clauses cs ++ bound_in c) (all_bound_apart b)
+      (in_both (used_in_clauses cs) (used_in c) (bound_in_clauses cs) (bound_in c) (clauses_bound_apart cs) (all_bound_apart c))
+  bound_apart (Finally b cs c f) =
+      in_both (used_in b) (used_in_clauses cs ++ (used_in c ++ used_in f)) (bound_in b) (bound_in_clauses cs ++ (bound_in c ++ bound_in f)) (all_bound_apart b)
+      (in_both (used_in_clauses cs) (used_in c ++ used_in f) (bound_in_clauses cs) (bound_in c ++ bound_in f) (clauses_bound_apart cs)
+      (in_both (used_in c) (used_in f) (bound_in c) (bound_in f) (all_bound_apart c) (all_bound_apart f)))
 
-  all_bound_apart : (b : Stmts) (ys : List Text) → are_apart (used_in b) ys ≡ true → are_apart (bound_in b) ys ≡ true
-  all_bound_apart NoStmts ys h = refl
-  all_bound_apart (MoreStmts a b) ys h =
-      let parts = sym (apart_front (used_by a) (used_in b) ys) ∙ h in
-      apart_front (bound_by a) (bound_in b) ys
-      ∙ and_both (are_apart (bound_by a) ys) (are_apart (bound_in b) ys)
-      (bound_apart a ys (first_of (are_apart (used_by a) ys) (are_apart (used_in b) ys) parts)) (all_bound_apart b ys (second_of (are_apart (used_by a) ys) (are_apart (used_in b) ys) parts))
+  all_bound_apart : (b : Stmts) → Within (bound_in b) (used_in b)
+  all_bound_apart NoStmts = no_names []
+  all_bound_apart (MoreStmts a b) = in_both (used_by a) (used_in b) (bound_by a) (bound_in b) (bound_apart a) (all_bound_apart b)
+
+  clauses_bound_apart : (cs : Clauses) → Within (bound_in_clauses cs) (used_in_clauses cs)
+  clauses_bound_apart NoClauses = no_names []
+  clauses_bound_apart (MoreClauses a y b cs) =
+      behind_names (names_of_value a) (name_in y ++ (used_in b ++ used_in_clauses cs)) (name_in y ++ (bound_in b ++ bound_in_clauses cs))
+      (in_both (name_in y) (used_in b ++ used_in_clauses cs) (name_in y) (bound_in b ++ bound_in_clauses cs) (λ ys h. h)
+      (in_both (used_in b) (used_in_clauses cs) (bound_in b) (bound_in_clauses cs) (all_bound_apart b) (clauses_bound_apart cs)))
 
 -- ---- the theorem
 
 -- a test, a suite and another suite
-suites_are : (f : Seen → Option Seen) (o : Option Seen) (s : Seen) (n ub db bb uc dc bc : List Text) (fb sb fc sc : Bool)
-    → o ≡ given (using n s) ub db bb (fb && sb) → ((t : Seen) → f t ≡ given t uc dc bc (fc && sc)) → (are_apart ub dc ≡ true → are_apart bb dc ≡ true)
-    → option_and_then f o ≡ given s ((n ++ ub) ++ uc) (db ++ dc) (bb ++ bc) ((((are_apart n (db ++ dc) && are_apart ub dc) && fb) && fc) && (sb && sc))
-suites_are f o s n ub db bb uc dc bc fb sb fc sc now later within =
-    two_rows f o (using n s) ub db bb (fb && sb) uc dc bc (fc && sc) now later within
-    ∙ used_first s n (ub ++ uc) (db ++ dc) (bb ++ bc) (are_apart ub dc && ((fb && sb) && (fc && sc)))
-    ∙ ap (λ u. given s u (db ++ dc) (bb ++ bc) (are_apart n (db ++ dc) && (are_apart ub dc && ((fb && sb) && (fc && sc))))) (sym (append_assoc n ub uc))
-    ∙ ap (given s ((n ++ ub) ++ uc) (db ++ dc) (bb ++ bc)) (regrouped (are_apart n (db ++ dc)) (are_apart ub dc) fb fc sb sc)
+suites_are : (f : Seen → Option Seen) (o : Option Seen) (s : Seen) (n m ub db bb uc dc bc : List Text) (fb sb fc sc : Bool)
+    → o ≡ given (seen_in s n [] m) ub db bb (fb && sb) → ((t : Seen) → f t ≡ given t uc dc bc (fc && sc)) → Within m n → Within bb ub
+    → option_and_then f o ≡ given s ((n ++ ub) ++ uc) (db ++ dc) (m ++ (bb ++ bc)) ((((are_apart n (db ++ dc) && are_apart ub dc) && fb) && fc) && (sb && sc))
+suites_are f o s n m ub db bb uc dc bc fb sb fc sc now later front within =
+    two_rows f o (seen_in s n [] m) ub db bb (fb && sb) uc dc bc (fc && sc) now later (within dc)
+    ∙ used_first s n m (ub ++ uc) (db ++ dc) (bb ++ bc) (are_apart ub dc && ((fb && sb) && (fc && sc))) (front (db ++ dc))
+    ∙ ap (λ u. given s u (db ++ dc) (m ++ (bb ++ bc)) (are_apart n (db ++ dc) && (are_apart ub dc && ((fb && sb) && (fc && sc))))) (sym (append_assoc n ub uc))
+    ∙ ap (given s ((n ++ ub) ++ uc) (db ++ dc) (m ++ (bb ++ bc))) (regrouped (are_apart n (db ++ dc)) (are_apart ub dc) fb fc sb sc)
+
+-- what an except clause uses and binds in front of its suite
+named : (s : Seen) (a : Option Expr) (y : Option Text) → binding_any y (using (names_of_value a) s) ≡ seen_in s (names_of_value a ++ name_in y) [] (name_in y)
+named s a None = ap (λ u. using u s) (sym (append-nil (names_of_value a)))
+named s a (Some x) = ap (λ u. seen_of u s.declared (with_new s.locals s.declared (x ∷ []))) (sym (with_names-append s.used (names_of_value a) (x ∷ [])))
 
 mutual
-  stmt_is : (a : Stmt) (loop : Bool) (s : Seen) → after a loop s ≡ given s (used_by a) (declared_by a) (bound_by a) (declares_first a && stmt_scoped (InFunction loop) a)
-  stmt_is (Evaluate e) loop s = one_row s (names_of e) []
-  stmt_is (Assign x e) loop s = one_row s (x ∷ names_of e) (x ∷ [])
-  stmt_is (Augment x o e) loop s = one_row s (x ∷ names_of e) (x ∷ [])
-  stmt_is Pass loop s = one_row s [] []
-  stmt_is (If a b c) loop s =
-      suites_are (after_all c loop) (after_all b loop (using (names_of a) s)) s (names_of a) (used_in b) (declared_in b) (bound_in b) (used_in c) (declared_in c) (bound_in c)
-      (declare_first b) (stmts_scoped (InFunction loop) b) (declare_first c) (stmts_scoped (InFunction loop) c)
-      (stmts_are b loop (using (names_of a) s)) (stmts_are c loop) (all_bound_apart b (declared_in c))
-  stmt_is (While a b c) loop s =
-      suites_are (after_all c loop) (after_all b true (using (names_of a) s)) s (names_of a) (used_in b) (declared_in b) (bound_in b) (used_in c) (declared_in c) (bound_in c)
-      (declare_first b) (stmts_scoped (InFunction true) b) (declare_first c) (stmts_scoped (InFunction loop) c)
-      (stmts_are b true (using (names_of a) s)) (stmts_are c loop) (all_bound_apart b (declared_in c))
-  stmt_is Break loop s = ap (λ a. if a && loop then Some s else None) (sym (apart_nil s.used))
-  stmt_is Continue loop s = ap (λ a. if a && loop then Some s else None) (sym (apart_nil s.used))
-  stmt_is (Define f ps b) loop s = ap (λ a. if a && false then Some (seen_in s (f ∷ []) [] (f ∷ [])) else None) (sym (apart_nil s.used))
-  stmt_is (Return a) loop s = one_row s (names_of_value a) []
-  stmt_is (Global xs) loop s = declaring_is xs s
+  stmt_is : (a : Stmt) (loop returns : Bool) (s : Seen) → after a loop returns s ≡ given s (used_by a) (declared_by a) (bound_by a) (declares_first a && stmt_scoped (InFunction loop returns) a)
+  stmt_is (Evaluate e) loop returns s = one_row s (names_of e) []
+  stmt_is (Assign x e) loop returns s = one_row s (x ∷ names_of e) (x ∷ [])
+  stmt_is (Augment x o e) loop returns s = one_row s (x ∷ names_of e) (x ∷ [])
+  stmt_is Pass loop returns s = one_row s [] []
+  stmt_is (If a b c) loop returns s =
+      suites_are (after_all c loop returns) (after_all b loop returns (using (names_of a) s)) s (names_of a) [] (used_in b) (declared_in b) (bound_in b) (used_in c) (declared_in c) (bound_in c)
+      (declare_first b) (stmts_scoped (InFunction loop returns) b) (declare_first c) (stmts_scoped (InFunction loop returns) c)
+      (stmts_are b loop returns (using (names_of a) s)) (stmts_are c loop returns) (no_names (names_of a)) (all_bound_apart b)
+  stmt_is (While a b c) loop returns s =
+      suites_are (after_all c loop returns) (after_all b true returns (using (names_of a) s)) s (names_of a) [] (used_in b) (declared_in b) (bound_in b) (used_in c) (declared_in c) (bound_in c)
+      (declare_first b) (stmts_scoped (InFunction true returns) b) (declare_first c) (stmts_scoped (InFunction loop returns) c)
+      (stmts_are b true returns (using (names_of a) s)) (stmts_are c loop returns) (no_names (names_of a)) (all_bound_apart b)
+  stmt_is (For x a b c) loop returns s =
+      let front = seen_in s (x ∷ names_of a) [] (x ∷ []) in
+      suites_are (after_all c loop returns) (after_all b true returns front) s (x ∷ names_of a) (x ∷ []) (used_in b) (declared_in b) (bound_in b) (used_in c) (declared_in c) (bound_in c)
+      (declare_first b) (stmts_scoped (InFunction true returns) b) (declare_first c) (stmts_scoped (InFunction loop returns) c)
+      (stmts_are b true returns front) (stmts_are c loop returns) (name_first x (names_of a) [] (no_names (names_of a))) (all_bound_apart b)
+  stmt_is Break loop returns s = ap (λ a. if a && loop then Some s else None) (sym (apart_nil s.used))
+  stmt_is Continue loop returns s = ap (λ a. if a && loop then Some s else None) (sym (apart_nil s.used))
+  stmt_is (Define f ps b) loop returns s = ap (λ a. if a && false then Some (seen_in s (f ∷ []) [] (f ∷ [])) else None) (sym (apart_nil s.used))
+  stmt_is (Return a) loop returns s = ap (λ b. if b && returns then Some (using (names_of_value a) s) else None) (sym (apart_nil s.used))
+  stmt_is (Global xs) loop returns s = declaring_is xs s
+  stmt_is (Raise a) loop returns s = one_row s (names_of_value a) []
+  stmt_is (Try b cs c) loop returns s =
+      let w = InFunction loop returns in
+      two_rows (λ t. option_and_then (after_all c loop returns) (after_clauses cs loop returns t)) (after_all b loop returns s) s (used_in b) (declared_in b) (bound_in b) (declare_first b && stmts_scoped w b)
+      (used_in_clauses cs ++ used_in c) (declared_in_clauses cs ++ declared_in c) (bound_in_clauses cs ++ bound_in c)
+      (are_apart (used_in_clauses cs) (declared_in c) && ((clauses_declare_first cs && clauses_scoped w cs) && (declare_first c && stmts_scoped w c)))
+      (stmts_are b loop returns s)
+      (λ t. two_rows (after_all c loop returns) (after_clauses cs loop returns t) t (used_in_clauses cs) (declared_in_clauses cs) (bound_in_clauses cs) (clauses_declare_first cs && clauses_scoped w cs)
+      (used_in c) (declared_in c) (bound_in c) (declare_first c && stmts_scoped w c) (clauses_are cs loop returns t) (stmts_are c loop returns) (clauses_bound_apart cs (declared_in c)))
+      (all_bound_apart b (declared_in_clauses cs ++ declared_in c))
+      ∙ ap (given s (used_in b ++ (used_in_clauses cs ++ used_in c)) (declared_in b ++ (declared_in_clauses cs ++ declared_in c)) (bound_in b ++ (bound_in_clauses cs ++ bound_in c)))
+      (regrouped_try (are_apart (used_in b) (declared_in_clauses cs ++ declared_in c)) (are_apart (used_in_clauses cs) (declared_in c)) (declare_first b) (clauses_declare_first cs) (declare_first c) (stmts_scoped w b) (clauses_scoped w cs) (stmts_scoped w c))
+  stmt_is (Finally b cs c f) loop returns s =
+      let w = InFunction loop returns in
+      let last = are_apart (used_in c) (declared_in f) && ((declare_first c && stmts_scoped w c) && (declare_first f && stmts_scoped (InFunction false false) f)) in
+      two_rows (λ t. option_and_then (after_all f false false) (option_and_then (after_all c loop returns) (after_clauses cs loop returns t))) (after_all b loop returns s) s (used_in b) (declared_in b) (bound_in b) (declare_first b && stmts_scoped w b)
+      (used_in_clauses cs ++ (used_in c ++ used_in f)) (declared_in_clauses cs ++ (declared_in c ++ declared_in f)) (bound_in_clauses cs ++ (bound_in c ++ bound_in f))
+      (are_apart (used_in_clauses cs) (declared_in c ++ declared_in f) && ((clauses_declare_first cs && clauses_scoped w cs) && last))
+      (stmts_are b loop returns s)
+      (λ t. then_then (after_all f false false) (after_all c loop returns) (after_clauses cs loop returns t)
+      ∙ two_rows (λ u. option_and_then (after_all f false false) (after_all c loop returns u)) (after_clauses cs loop returns t) t (used_in_clauses cs) (declared_in_clauses cs) (bound_in_clauses cs) (clauses_declare_first cs && clauses_scoped w cs)
+      (used_in c ++ used_in f) (declared_in c ++ declared_in f) (bound_in c ++ bound_in f) last (clauses_are cs loop returns t)
+      (λ u. two_rows (after_all f false false) (after_all c loop returns u) u (used_in c) (declared_in c) (bound_in c) (declare_first c && stmts_scoped w c)
+      (used_in f) (declared_in f) (bound_in f) (declare_first f && stmts_scoped (InFunction false false) f) (stmts_are c loop returns u) (stmts_are f false false) (all_bound_apart c (declared_in f)))
+      (clauses_bound_apart cs (declared_in c ++ declared_in f)))
+      (all_bound_apart b (declared_in_clauses cs ++ (declared_in c ++ declared_in f)))
+      ∙ ap (given s (used_in b ++ (used_in_clauses cs ++ (used_in c ++ used_in f))) (declared_in b ++ (declared_in_clauses cs ++ (declared_in c ++ declared_in f))) (bound_in b ++ (bound_in_clauses cs ++ (bound_in c ++ bound_in f))))
+      (regrouped_finally (are_apart (used_in b) (declared_in_clauses cs ++ (declared_in c ++ declared_in f))) (are_apart (used_in_clauses cs) (declared_in c ++ declared_in f)) (are_apart (used_in c) (declared_in f))
+      (declare_first b) (clauses_declare_first cs) (declare_first c) (declare_first f) (stmts_scoped w b) (clauses_scoped w cs) (stmts_scoped w c) (stmts_scoped (InFunction false false) f))
 
-  stmts_are : (b : Stmts) (loop : Bool) (s : Seen) → after_all b loop s ≡ given s (used_in b) (declared_in b) (bound_in b) (declare_first b && stmts_scoped (InFunction loop) b)
-  stmts_are NoStmts loop s = one_row s [] []
-  stmts_are (MoreStmts a b) loop s =
-      two_rows (after_all b loop) (after a loop s) s (used_by a) (declared_by a) (bound_by a) (declares_first a && stmt_scoped (InFunction loop) a) (used_in b) (declared_in b) (bound_in b) (declare_first b && stmts_scoped (InFunction loop) b)
-      (stmt_is a loop s) (stmts_are b loop) (bound_apart a (declared_in b))
+  stmts_are : (b : Stmts) (loop returns : Bool) (s : Seen) → after_all b loop returns s ≡ given s (used_in b) (declared_in b) (bound_in b) (declare_first b && stmts_scoped (InFunction loop returns) b)
+  stmts_are NoStmts loop returns s = one_row s [] []
+  stmts_are (MoreStmts a b) loop returns s =
+      let w = InFunction loop returns in
+      two_rows (after_all b loop returns) (after a loop returns s) s (used_by a) (declared_by a) (bound_by a) (declares_first a && stmt_scoped w a) (used_in b) (declared_in b) (bound_in b) (declare_first b && stmts_scoped w b)
+      (stmt_is a loop returns s) (stmts_are b loop returns) (bound_apart a (declared_in b))
       ∙ ap (given s (used_by a ++ used_in b) (declared_by a ++ declared_in b) (bound_by a ++ bound_in b))
-      (regrouped true (are_apart (used_by a) (declared_in b)) (declares_first a) (declare_first b) (stmt_scoped (InFunction loop) a) (stmts_scoped (InFunction loop) b))
+      (regrouped true (are_apart (used_by a) (declared_in b)) (declares_first a) (declare_first b) (stmt_scoped w a) (stmts_scoped w b))
+
+  clauses_are : (cs : Clauses) (loop returns : Bool) (s : Seen)
+      → after_clauses cs loop returns s ≡ given s (used_in_clauses cs) (declared_in_clauses cs) (bound_in_clauses cs) (clauses_declare_first cs && clauses_scoped (InFunction loop returns) cs)
+  clauses_are NoClauses loop returns s = one_row s [] []
+  clauses_are (MoreClauses a y b cs) loop returns s =
+      let w = InFunction loop returns in
+      let n = names_of_value a ++ name_in y in
+      let u = used_in b ++ used_in_clauses cs in
+      let d = declared_in b ++ declared_in_clauses cs in
+      let m = name_in y ++ (bound_in b ++ bound_in_clauses cs) in
+      ap (λ t. option_and_then (after_clauses cs loop returns) (after_all b loop returns t)) (named s a y)
+      ∙ suites_are (after_clauses cs loop returns) (after_all b loop returns (seen_in s n [] (name_in y))) s n (name_in y) (used_in b) (declared_in b) (bound_in b) (used_in_clauses cs) (declared_in_clauses cs) (bound_in_clauses cs)
+      (declare_first b) (stmts_scoped w b) (clauses_declare_first cs) (clauses_scoped w cs)
+      (stmts_are b loop returns (seen_in s n [] (name_in y))) (clauses_are cs loop returns) (behind_names (names_of_value a) (name_in y) (name_in y) (λ ys h. h)) (all_bound_apart b)
+      ∙ ap (λ r. given s r d m (clauses_declare_first (MoreClauses a y b cs) && clauses_scoped w (MoreClauses a y b cs))) (append_assoc n (used_in b) (used_in_clauses cs) ∙ append_assoc (names_of_value a) (name_in y) u)
 
 -- what is local to a function, if it is well scoped
 pub local_is : (ps : List Text) (b : Stmts) → local_to ps b ≡ (if stmt_scoped (InText false) (Define [] ps b) then Some (with_new ps (declared_in b) (bound_in b)) else None)
 local_is ps b =
     let s = seen_of ps [] ps in
-    ap (λ o. if are_distinct ps then option_map (λ (t : Seen). t.locals) o else None) (stmts_are b false s)
-    ∙ by (are_distinct ps) (are_apart ps (declared_in b)) (declare_first b) (stmts_scoped (InFunction false) b) (seen_in s (used_in b) (declared_in b) (bound_in b))
+    ap (λ o. if are_distinct ps then option_map (λ (t : Seen). t.locals) o else None) (stmts_are b false true s)
+    ∙ by (are_distinct ps) (are_apart ps (declared_in b)) (declare_first b) (stmts_scoped (InFunction false true) b) (seen_in s (used_in b) (declared_in b) (bound_in b))
     ∙ ap (λ l. if stmt_scoped (InText false) (Define [] ps b) then Some l else None) (new_alike ps (with_names [] (declared_in b)) (declared_in b) (bound_in b) (λ x. in_names x [] (declared_in b)))
   where
     by : (d a f h : Bool) (t : Seen) → (if d then option_map (λ (u : Seen). u.locals) (if a && (f && h) then Some t else None) else None) ≡ (if ((d && a) && f) && h then Some t.locals else None)

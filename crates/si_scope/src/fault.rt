@@ -1,4 +1,6 @@
 // Why a script is refused.
+ghost use Rattle.std.specs.Prelude.{Some, None, if◌then◌else◌};
+ghost use Rattle.si_scope.specs.Faults.{Returns};
 
 use si_syntax::Line;
 use std::alloc::{AllocError, AllocFailed};
@@ -11,6 +13,17 @@ pub enum ScopeFault {
     Scope(Line),
     /// Memory was refused.
     NoMemory,
+}
+
+// A statement in this line may stand there, or may not.
+pub(crate) fn allowed(may: bool, line: Line) -> Result<(), ScopeFault>
+    ensures { Returns result (if may then Some tt else None) }
+{
+    if may {
+        Ok(())
+    } else {
+        Err(ScopeFault::Scope(line))
+    }
 }
 
 impl From<AllocError> for ScopeFault {

@@ -1,12 +1,15 @@
 // The names of a function, as far as its suite was gone over.
 ghost use Rattle.std.specs.Prelude.{◌≡◌, [], IfOk, IfErr, OnOk, map, string_bytes, true, false};
-ghost use Rattle.si_semantics.specs.Scope.{are_distinct};
+ghost use Rattle.std.specs.Option.{option_map};
+ghost use Rattle.si_semantics.specs.Scope.{are_distinct, names_of, names_of_value};
+ghost use Rattle.si_syntax.specs.Trees.{expr_of};
 ghost use Rattle.si_scope.specs.Faults.{Leaves, IsScope};
-ghost use Rattle.si_scope.specs.Walk.{binding, declaring};
+ghost use Rattle.si_scope.specs.Walk.{binding, binding_any, declaring, using};
 
+use crate::expression::use_names;
 use crate::fault::ScopeFault;
 use si_plain::{Names, NoMemory};
-use si_syntax::Line;
+use si_syntax::{Expr, Line};
 use std::alloc::Global;
 
 // The names that were used or bound, and the parameters; those that were declared global; and those that are local.
@@ -52,6 +55,41 @@ impl Seen {
             self.locals.slot_of(name)?;
         }
         Ok(())
+    }
+
+    // A name that may be left out is bound.
+    pub(crate) fn bind_any(&mut self, name: &Option<String>) -> Result<(), NoMemory>
+        ensures { OnOk result (self.new ≡ binding_any (option_map string_bytes name.now) self.old) }
+    {
+        match name {
+            Some(name) => self.bind(name.as_str()),
+            None => Ok(()),
+        }
+    }
+
+    // The names of an expression are used.
+    pub(crate) fn use_expr(&mut self, expr: &Expr) -> Result<(), NoMemory>
+        ensures { OnOk result (self.new ≡ using (names_of (expr_of expr.now)) self.old) }
+    {
+        use_names(expr, &mut self.used)
+    }
+
+    // Those of an expression that may be left out.
+    pub(crate) fn use_value(&mut self, value: &Option<Expr>) -> Result<(), NoMemory>
+        ensures { OnOk result (self.new ≡ using (names_of_value (option_map expr_of value.now)) self.old) }
+    {
+        match value {
+            Some(expr) => self.use_expr(expr),
+            None => Ok(()),
+        }
+    }
+
+    // A name is bound to the value of an expression, or to what it gives.
+    pub(crate) fn set(&mut self, name: &str, expr: &Expr) -> Result<(), NoMemory>
+        ensures { OnOk result (self.new ≡ using (names_of (expr_of expr.now)) (binding name.now self.old)) }
+    {
+        self.bind(name)?;
+        self.use_expr(expr)
     }
 
     // Names are declared global, in this line.

@@ -28,6 +28,42 @@ fn loops_have_what_leaves_them(rt: HostRuntime) -> Result<(), Fail> {
         ("if 1: pass\nelif 2: continue\n", 2),
         ("while 1:\n def f():\n  break\n", 3),
         ("def f():\n pass\n continue\n", 3),
+        ("for i in 'a':\n break\nelse:\n pass\n", 0),
+        ("while 1:\n for i in 'a': pass\n else: break\n", 0),
+        ("while 1:\n pass\nelse:\n break\n", 4),
+        ("def f():\n for i in 'a': pass\n else: continue\n", 3),
+    ];
+    for (script, want) in cases {
+        assert_eq!(rt; refused_line(rt.alloc(), script)?, want, "{script}");
+    }
+    Ok(())
+}
+
+#[test]
+fn no_finally_suite_is_left(rt: HostRuntime) -> Result<(), Fail> {
+    let cases = [
+        (
+            "while 1:\n try: break\n except: continue\n else: break\n finally: pass\n",
+            0,
+        ),
+        (
+            "def f():\n try: return 1\n except: return 2\n finally: pass\n",
+            0,
+        ),
+        ("try: pass\nfinally:\n while 1: break\n", 0),
+        ("try: pass\nfinally:\n def f(): return\n", 0),
+        ("try: break\nexcept: pass\n", 1),
+        ("while 1:\n try: pass\n finally:\n  break\n", 4),
+        ("def f():\n while 1:\n  try: pass\n  finally: continue\n", 4),
+        ("def f():\n try: pass\n finally: return\n", 3),
+        (
+            "def f():\n try: pass\n finally:\n  while 1:\n   return 1\n",
+            5,
+        ),
+        (
+            "def f():\n try: pass\n finally:\n  try: pass\n  except: return\n",
+            5,
+        ),
     ];
     for (script, want) in cases {
         assert_eq!(rt; refused_line(rt.alloc(), script)?, want, "{script}");
@@ -67,6 +103,18 @@ fn names_are_declared_global_first(rt: HostRuntime) -> Result<(), Fail> {
         ("def f():\n while x < 1:\n  global x\n", 3),
         ("def f():\n return x\n global x\n", 3),
         ("def f(b, a):\n global a\n", 2),
+        ("def f():\n for x in 'a':\n  global x\n", 3),
+        ("def f():\n raise x\n global x\n", 3),
+        ("def f():\n try: x = 1\n except: global x\n", 3),
+        ("def f():\n try: pass\n except E as x:\n  global x\n", 4),
+        (
+            "def f():\n try: global x\n except x: x = 1\n else: x = 2\n",
+            0,
+        ),
+        (
+            "def f():\n try: pass\n except: x = 1\n finally: global x\n",
+            4,
+        ),
     ];
     for (script, want) in cases {
         assert_eq!(rt; refused_line(rt.alloc(), script)?, want, "{script}");
@@ -98,5 +146,29 @@ fn locals_are_parameters_and_what_is_bound(rt: HostRuntime) -> Result<(), Fail> 
     }
     assert_eq!(rt; scoped.locals(2).is_none(), true);
     assert_eq!(rt; scoped.body().len(), 2);
+    Ok(())
+}
+
+#[test]
+fn targets_and_names_behind_as_are_local(rt: HostRuntime) -> Result<(), Fail> {
+    let script =
+        "def f(b):\n for x in b: y = x\n else: z = 1\n try: pass\n except E as e: c = 1\n finally: d = 2\n";
+    let scoped = resolve(rt.alloc(), parse(rt.alloc(), script)?)?;
+    let names = [
+        (0, "b"),
+        (1, "x"),
+        (2, "y"),
+        (3, "z"),
+        (4, "e"),
+        (5, "c"),
+        (6, "d"),
+    ];
+    for (slot, want) in names {
+        let name = match scoped.locals(0) {
+            Some(locals) => locals.get(slot),
+            None => None,
+        };
+        assert_eq!(rt; name, Some(want), "slot {slot}");
+    }
     Ok(())
 }

@@ -5,12 +5,12 @@ ghost use Rattle.si_syntax.specs.Modules.{tree_of};
 ghost use Rattle.si_syntax.specs.Trees.{body_of, stmt_of};
 ghost use Rattle.si_scope.specs.Faults.{IsScope, Leaves, Returns};
 ghost use Rattle.si_scope.specs.Scripts.{script_of};
-ghost use Rattle.si_scope.specs.Walk.{local_to, resolved, resolved_all};
+ghost use Rattle.si_scope.specs.Walk.{local_to, resolved, resolved_all, resolved_try, resolved_clauses, clauses_in};
 
-use crate::fault::ScopeFault;
+use crate::fault::{ScopeFault, allowed};
 use crate::scoped::Scoped;
 use crate::seen::Seen;
-use crate::suite::see_suite;
+use crate::suite::{Place, see_suite};
 use si_plain::Names;
 use si_syntax::{Line, Module, Stmt};
 use std::alloc::Global;
@@ -19,8 +19,9 @@ use std::alloc::Global;
 ///
 /// A script is refused unless each `break` and `continue` stands in a loop of the same function or text (Python Language
 /// Reference 3.14, 7.9 and 7.10), each `return` and `global` in a function (7.6; that a `global` is refused at module
-/// level is this project's own), and each `def` in none (this project's own); no parameter comes twice (8.7); and no name
-/// is declared global that is a parameter of the function or is used in front of the declaration (7.12).
+/// level is this project's own), and each `def` in none (this project's own); no `break`, `continue` or `return` leaves
+/// the suite of a `finally` (PEP 765, whose warning is a refusal here); no parameter comes twice (8.7); and no name is
+/// declared global that is a parameter of the function or is used in front of the declaration (7.12).
 ///
 /// # Errors
 ///
@@ -62,7 +63,11 @@ fn resolve_stmt(
     ensures { Leaves locals.new.items result (resolved (stmt_of stmt.now) in_loop locals.old.items) }
 {
     match stmt {
-        Stmt::Evaluate(_) | Stmt::Assign(_, _) | Stmt::Augment(_, _, _) | Stmt::Pass => Ok(()),
+        Stmt::Evaluate(_)
+        | Stmt::Assign(_, _)
+        | Stmt::Augment(_, _, _)
+        | Stmt::Pass
+        | Stmt::Raise(_) => Ok(()),
         Stmt::If(_, body, elifs, last) => {
             resolve_suite(alloc, body, in_loop, locals)?;
             for (_, body) in elifs {
@@ -70,21 +75,63 @@ fn resolve_stmt(
             }
             resolve_suite(alloc, last, in_loop, locals)
         }
-        Stmt::While(_, body) => resolve_suite(alloc, body, true, locals),
-        Stmt::Break(line) | Stmt::Continue(line) => {
-            if in_loop {
-                Ok(())
-            } else {
-                Err(ScopeFault::Scope(*line))
-            }
+        Stmt::While(_, body, last) | Stmt::For(_, _, body, last) => {
+            resolve_suite(alloc, body, true, locals)?;
+            resolve_suite(alloc, last, in_loop, locals)
         }
+        Stmt::Break(line) | Stmt::Continue(line) => allowed(in_loop, *line),
         Stmt::Define(line, _, parameters, body) => {
             let names = function_locals(alloc, *line, parameters, body)?;
             locals.push(names)?;
             Ok(())
         }
         Stmt::Return(line, _) | Stmt::Global(line, _) => Err(ScopeFault::Scope(*line)),
+        Stmt::Try(_, _, _) | Stmt::Finally(_, _, _, _) => resolve_try(alloc, stmt, in_loop, locals),
     }
+}
+
+// The suites of a `try`; other statements have none.
+#[cycle(text)]
+fn resolve_try(
+    alloc: Global,
+    stmt: &Stmt,
+    in_loop: bool,
+    locals: &mut Vec<Names>,
+) -> Result<(), ScopeFault>
+    ensures { Leaves locals.new.items result (resolved_try (stmt_of stmt.now) in_loop locals.old.items) }
+{
+    match stmt {
+        Stmt::Try(body, _, last) => {
+            resolve_suite(alloc, body, in_loop, locals)?;
+            resolve_clauses(alloc, stmt, in_loop, locals)?;
+            resolve_suite(alloc, last, in_loop, locals)
+        }
+        Stmt::Finally(body, _, last, end) => {
+            resolve_suite(alloc, body, in_loop, locals)?;
+            resolve_clauses(alloc, stmt, in_loop, locals)?;
+            resolve_suite(alloc, last, in_loop, locals)?;
+            resolve_suite(alloc, end, false, locals)
+        }
+        _ => Ok(()),
+    }
+}
+
+// The clauses of a `try`; other statements have none.
+#[cycle(text)]
+fn resolve_clauses(
+    alloc: Global,
+    stmt: &Stmt,
+    in_loop: bool,
+    locals: &mut Vec<Names>,
+) -> Result<(), ScopeFault>
+    ensures { Leaves locals.new.items result (resolved_clauses (clauses_in (stmt_of stmt.now)) in_loop locals.old.items) }
+{
+    if let Stmt::Try(_, clauses, _) | Stmt::Finally(_, clauses, _, _) = stmt {
+        for (_, _, body) in clauses {
+            resolve_suite(alloc, body, in_loop, locals)?;
+        }
+    }
+    Ok(())
 }
 
 // The names that are local to a function, whose `def` stands in this line.
@@ -97,6 +144,10 @@ fn function_locals(
     ensures { Returns result (local_to (map string_bytes parameters.now) (body_of body.now)) }
 {
     let mut seen = Seen::new(alloc, line, parameters)?;
-    see_suite(body, false, &mut seen)?;
+    let place = Place {
+        in_loop: false,
+        may_return: true,
+    };
+    see_suite(body, place, &mut seen)?;
     Ok(seen.locals)
 }

@@ -1,7 +1,7 @@
 use Rattle.std.proofs.Common.{◌≡◌, map, drop}
-use Rattle.si_semantics.specs.Grammar.{elifs_of}
-use Rattle.si_syntax.specs.Trees.{body_of, elif_of}
-use Rattle.si_scope.specs.Walk.{resolved_all}
+use Rattle.si_semantics.specs.Grammar.{elifs_of, clauses_of}
+use Rattle.si_syntax.specs.Trees.{body_of, elif_of, clause_of}
+use Rattle.si_scope.specs.Walk.{resolved_all, resolved_clauses}
 use Rattle.si_scope.proofs.text.+text.Given as goal
 
 -- the rest decides
@@ -12,3 +12,7 @@ abbrev pub invariant-resolve_stmt-loop-body : goal.invariant-resolve_stmt-loop-b
 invariant-resolve_stmt-loop-body l =
     resolved_all (elifs_of (map elif_of l.body-items) (body_of l.last.items)) l.in_loop l.initial.locals.items
     ≡ resolved_all (elifs_of (map elif_of (drop l.body-index l.body-items)) (body_of l.last.items)) l.in_loop l.locals.items
+
+abbrev pub invariant-resolve_clauses-loop-body : goal.invariant-resolve_clauses-loop-body
+invariant-resolve_clauses-loop-body l =
+    resolved_clauses (clauses_of (map clause_of l.body-items)) l.in_loop l.initial.locals.items ≡ resolved_clauses (clauses_of (map clause_of (drop l.body-index l.body-items))) l.in_loop l.locals.items

@@ -1,0 +1,133 @@
+// `try` statements: their except clauses, and the suites of `else` and `finally`.
+
+ghost use Rattle.std.specs.Prelude.{◌≡◌, ℕ, ◌+◌, ◌-◌, ◌*◌, ◌<◌, [], length, map, option_map, string_bytes};
+ghost use Rattle.si_semantics.specs.Grammar.{stmts_of};
+ghost use Rattle.si_syntax.specs.Trees.{expr_of, stmt_of, clause_of};
+ghost use Rattle.si_parse.specs.Reading.{caught_by, clause_by, catches_by, bare_by, handlers_by, try_by, block_at};
+ghost use Rattle.si_parse.specs.Gives.{Gives, from};
+
+use crate::block::{otherwise, suite};
+use crate::expression::expression;
+use crate::fault::ParseFault;
+use crate::lookahead::{after_as, after_catch, after_except, after_finally, line_at};
+use crate::name::name;
+use crate::precedence::ANY;
+use si_plain::limits::MAX_EXPRESSION_DEPTH;
+use si_syntax::{Clause, Expr, Stmt};
+use si_token::Token;
+use std::alloc::Global;
+
+// Except clauses, and the place behind them.
+type Clauses = Result<(Vec<Clause>, usize), ParseFault>;
+
+// The statement from behind its `try`.
+#[cycle(blocks)]
+#[tactic(auto, using(si_syntax::proofs::Forms::finally_is, crate::proofs::Turns::tried_none))]
+pub(crate) fn try_statement(
+    alloc: Global,
+    parts: u32,
+    tokens: &[Token],
+    start: usize,
+) -> Result<(Stmt, usize), ParseFault>
+    requires { parts < 999 }
+    ensures { Gives (λ x. (stmt_of x.0, from tokens.now x.1)) result (try_by (block_at parts) (from tokens.now start)) }
+{
+    let (body, behind) = suite(alloc, parts, tokens, start)?;
+    let (clauses, last, at) = handlers(alloc, parts, tokens, behind)?;
+    if let Some(cleanup) = after_finally(tokens, at) {
+        let (cleanup, end) = suite(alloc, parts, tokens, cleanup)?;
+        return Ok((Stmt::Finally(body, clauses, last, cleanup), end));
+    }
+    if clauses.is_empty() {
+        return Err(ParseFault::Syntax(line_at(tokens, at)));
+    }
+    Ok((Stmt::Try(body, clauses, last), at))
+}
+
+// The except clauses, the suite of the `else` behind them, and the place behind it. Without a clause no `else` is read.
+#[cycle(blocks)]
+#[tactic(auto, using(crate::proofs::Turns::handled_some, crate::proofs::Turns::handled_none))]
+fn handlers(
+    alloc: Global,
+    parts: u32,
+    tokens: &[Token],
+    start: usize,
+) -> Result<(Vec<Clause>, Vec<Stmt>, usize), ParseFault>
+    requires { parts < 999 }
+    ensures { Gives (λ x. ((map clause_of x.0.items, map stmt_of x.1.items), from tokens.now x.2)) result (handlers_by (block_at parts) (from tokens.now start)) }
+{
+    let (caught, behind) = catches(alloc, parts, tokens, start)?;
+    let (clauses, at) = bare(alloc, parts, caught, tokens, behind)?;
+    if clauses.is_empty() {
+        return Ok((clauses, Vec::new(alloc), at));
+    }
+    let (last, end) = otherwise(alloc, parts, tokens, at)?;
+    Ok((clauses, last, end))
+}
+
+// The except clauses that have an expression.
+#[cycle(blocks)]
+#[tactic(auto, using(crate::proofs::Steps::many_by_zero, crate::proofs::Steps::many_by_step))]
+fn catches(alloc: Global, parts: u32, tokens: &[Token], start: usize) -> Clauses
+    requires { parts < 999 }
+    ensures { Gives (λ x. (map clause_of x.0.items, from tokens.now x.1)) result (catches_by (block_at parts) (from tokens.now start)) }
+{
+    let mut clauses = Vec::new(alloc);
+    let mut at = start;
+    for _turn in start..tokens.len() {
+        let Some(behind) = after_catch(tokens, at) else {
+            return Ok((clauses, at));
+        };
+        let (next, end) = clause(alloc, parts, tokens, behind)?;
+        clauses.push(next)?;
+        at = end;
+    }
+    Err(ParseFault::Syntax(line_at(tokens, at)))
+}
+
+// The clauses with a bare one behind them, where an `except` stands at the place.
+#[cycle(blocks)]
+fn bare(alloc: Global, parts: u32, before: Vec<Clause>, tokens: &[Token], at: usize) -> Clauses
+    requires { parts < 999 }
+    ensures { Gives (λ x. (map clause_of x.0.items, from tokens.now x.1)) result (bare_by (block_at parts) (map clause_of before.items) (from tokens.now at)) }
+{
+    let Some(behind) = after_except(tokens, at) else {
+        return Ok((before, at));
+    };
+    let (body, end) = suite(alloc, parts, tokens, behind)?;
+    let mut clauses = before;
+    clauses.push((None, None, body))?;
+    Ok((clauses, end))
+}
+
+// An except clause from behind its `except`, with an expression.
+#[cycle(blocks)]
+fn clause(
+    alloc: Global,
+    parts: u32,
+    tokens: &[Token],
+    start: usize,
+) -> Result<(Clause, usize), ParseFault>
+    requires { parts < 999 }
+    ensures { Gives (λ x. (clause_of x.0, from tokens.now x.1)) result (clause_by (block_at parts) (from tokens.now start)) }
+{
+    let (value, name, at) = caught(alloc, tokens, start)?;
+    let (body, end) = suite(alloc, parts, tokens, at)?;
+    Ok(((Some(value), name, body), end))
+}
+
+// The expression of an except clause, the name behind its `as` where there is one, and the place behind them.
+fn caught(
+    alloc: Global,
+    tokens: &[Token],
+    start: usize,
+) -> Result<(Expr, Option<String>, usize), ParseFault>
+    ensures { Gives (λ x. ((expr_of x.0, option_map string_bytes x.1), from tokens.now x.2)) result (caught_by (from tokens.now start)) }
+{
+    let (value, _, at) = expression(alloc, MAX_EXPRESSION_DEPTH, ANY, tokens, start)?;
+    let Some(behind) = after_as(tokens, at) else {
+        return Ok((value, None, at));
+    };
+    let (name, end) = name(alloc, tokens, behind)?;
+    Ok((value, Some(name), end))
+}
