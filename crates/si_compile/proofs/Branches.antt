@@ -1,5 +1,5 @@
 -- What the code of parts with jumps between them gives is what the tree's code gives.
-use Rattle.std.proofs.Common.{◌≡◌, ℕ, ◌+◌, ◌-◌, ◌<◌, ◌≤◌, List, [], ◌∷◌, ◌++◌, map, length, drop, get_or, sym, ap, subst, ◌∙◌, append_assoc, append-nil, length-append, arith}
+use Rattle.std.proofs.Common.{◌≡◌, ℕ, ◌+◌, ◌<◌, ◌≤◌, List, [], ◌∷◌, ◌++◌, map, length, drop, get_or, sym, ap, subst, ◌∙◌, append_assoc, append-nil, length-append, arith}
 use Rattle.std.proofs.lemmas.List.{drop_all, map-append}
 use Rattle.si_semantics.specs.Value.{Text}
 use Rattle.si_semantics.specs.Tree as tree
@@ -9,11 +9,11 @@ use Rattle.si_semantics.specs.Grammar.{exprs_of, chain_of, elifs_of, Link, Branc
 use Rattle.si_syntax.specs.declared.operators.ComparisonOperator.{ComparisonOperator}
 use Rattle.si_syntax.specs.declared.expr.Expr.{Expr}
 use Rattle.si_syntax.specs.Trees.{expr_of, link_of}
-use Rattle.si_compile.specs.Code.{expr_code, operands_code, chain_code, branch_code, loop_code, stmts_code}
+use Rattle.si_compile.specs.Code.{expr_code, operands_code, chain_code, branch_code, stmts_code}
 use Rattle.std.specs.List.{AllByRecursion}
 use Rattle.si_code.specs.Contents.{Contents, Extends}
 use Rattle.si_code.specs.Jumps.{Due, Aims, AimsAll}
-use Rattle.si_compile.specs.Jumps.{branch_front, turn_code}
+use Rattle.si_compile.specs.Jumps.{branch_front}
 use Rattle.si_code.specs.Views.{Gains}
 use Rattle.si_code.proofs.Codes.{Gains-nil, Gains-append}
 use Rattle.si_plain.proofs.Begins.{length-Begins}
@@ -34,14 +34,14 @@ branch_gains {t0} {t1} {t2} {t3} {t4} {t5} test body skip here h0 h1 h2 h3 aim =
     subst (Gains t0 t5) (ap (λ k. test ++ machine.JumpIfFalse k ∷ rest) far ∙ sym (append_assoc test (machine.JumpIfFalse (length body + 1) ∷ body) (machine.Jump 0 ∷ [])))
     (aim t0 test rest (machine.JumpIfFalse 0) all place)
 
--- how many lines there are behind that jump
-pub branch_at : {t0 t1 t2 t3 : Contents} (body : List machine.Instr) (end : ℕ) → Gains t0 t1 (machine.JumpIfFalse 0 ∷ []) → Gains t1 t2 body → end ≡ length t2.lines → Gains t0 t3 (branch_front [] body ++ machine.Jump 0 ∷ []) → end + 1 ≡ length t3.lines
-branch_at {t0} {t1} {t2} {t3} body end h k here all = omega (arith, length_gained h, length_gained k, length_gained all, length-append body (machine.Jump 0 ∷ []))
+-- how many lines there are behind that jump, and in front of it
+pub branch_at : {t0 t1 t2 t3 t5 : Contents} (test body : List machine.Instr) (end : ℕ) → end ≡ length t3.lines → Gains t0 t1 test → Gains t1 t2 (machine.JumpIfFalse 0 ∷ []) → Gains t2 t3 body
+    → Gains t0 t5 (branch_front test body ++ machine.Jump 0 ∷ []) → end + 1 ≡ length t5.lines
+branch_at {t0} {t1} {t2} {t3} {t5} test body end here h0 h1 h2 all =
+    omega (arith, here, length_gained h0, length_gained h1, length_gained h2, length_gained all, length-append (branch_front test body) (machine.Jump 0 ∷ []), length-append test (machine.JumpIfFalse (length body + 1) ∷ body))
 
--- a test in front
-pub tested_branch : {t0 t1 t2 : Contents} (test body : List machine.Instr) → Gains t0 t1 test → Gains t1 t2 (branch_front [] body ++ machine.Jump 0 ∷ []) → Gains t0 t2 (branch_front test body ++ machine.Jump 0 ∷ [])
-tested_branch {t0} {t1} {t2} test body h k =
-    subst (Gains t0 t2) (sym (append_assoc test (machine.JumpIfFalse (length body + 1) ∷ body) (machine.Jump 0 ∷ []))) (Gains-append t0 t1 t2 test (branch_front [] body ++ machine.Jump 0 ∷ []) h k)
+pub branch_behind : {t0 t1 t2 t3 : Contents} (test body : List machine.Instr) (end : ℕ) → end ≡ length t3.lines → Gains t0 t1 test → Gains t1 t2 (machine.JumpIfFalse 0 ∷ []) → Gains t2 t3 body → length t0.lines ≤ end
+branch_behind {t0} {t1} {t2} {t3} test body end here h0 h1 h2 = omega (arith, here, length_gained h0, length_gained h1, length_gained h2)
 
 -- where the jump behind a test's code stands
 pub branch_place : {t0 t1 : Contents} (test body : List machine.Instr) (end : ℕ) → Gains t0 t1 (branch_front test body ++ machine.Jump 0 ∷ []) → end + 1 ≡ length t1.lines → end ≡ length t0.lines + length (branch_front test body)
@@ -56,35 +56,6 @@ branch_ends {t0} {t1} {t2} {t3} test body last end here h k aim =
     let all = subst (Gains t0 t2) (append_assoc front (machine.Jump 0 ∷ []) last) (Gains-append t0 t1 t2 (front ++ machine.Jump 0 ∷ []) last h k) in
     subst (Gains t0 t3) (append_assoc test (machine.JumpIfFalse (length body + 1) ∷ body) (machine.Jump (length last) ∷ last))
     (aim t0 front last (machine.Jump 0) all (branch_place test body end h here))
-
--- ---- loops
-
-pub turn_gains : {t1 t2 t3 t4 t5 t6 t7 : Contents} (body : List machine.Instr) (start skip enter : ℕ) → start ≤ length t1.lines → skip ≡ length t1.lines → enter ≡ length t2.lines
-    → Gains t1 t2 (machine.JumpIfFalse 0 ∷ []) → Gains t2 t3 (machine.EnterLoop (length t2.lines + 1 - start) 0 ∷ []) → Gains t3 t4 body → Gains t4 t5 (machine.DoContinue ∷ []) → Aims t5 skip t6 → Aims t6 enter t7
-    → Gains t1 t7 (turn_code (length t1.lines - start + 2) body)
-turn_gains {t1} {t2} {t3} {t4} {t5} {t6} {t7} body start skip enter e0 e1 e2 h1 h2 h3 h4 aim_skip aim_enter =
-    let back = length t2.lines + 1 - start in
-    let turn = body ++ machine.DoContinue ∷ [] in
-    let inside = Gains-append t2 t3 t5 (machine.EnterLoop back 0 ∷ []) turn h2 (Gains-append t3 t4 t5 body (machine.DoContinue ∷ []) h3 h4) in
-    let all = Gains-append t1 t2 t5 (machine.JumpIfFalse 0 ∷ []) (machine.EnterLoop back 0 ∷ turn) h1 inside in
-    let skipped = length_gained h1 in
-    let turned : length turn ≡ length body + 1 = omega (arith, length-append body (machine.DoContinue ∷ [])) in
-    let far : length (machine.EnterLoop back 0 ∷ turn) ≡ length body + 2 = omega arith in
-    let first = machine.JumpIfFalse (length body + 2) in
-    let here : skip ≡ length t1.lines + 0 = omega arith in
-    let once = subst (Gains t1 t6) (ap (λ k. machine.JumpIfFalse k ∷ (machine.EnterLoop back 0 ∷ turn)) far) (aim_skip t1 [] (machine.EnterLoop back 0 ∷ turn) (machine.JumpIfFalse 0) all here) in
-    let place : enter ≡ length t1.lines + 1 = omega arith in
-    let twice = aim_enter t1 (first ∷ []) turn (machine.EnterLoop back 0) once place in
-    let backed : back ≡ length t1.lines - start + 2 = omega arith in
-    subst (Gains t1 t7) (ap (λ k. first ∷ (machine.EnterLoop k (length turn) ∷ turn)) backed ∙ ap (λ k. first ∷ (machine.EnterLoop (length t1.lines - start + 2) k ∷ turn)) turned) twice
-
--- a loop's test, and what follows it
-pub loop_gains : {t0 t1 t2 : Contents} (test body : List machine.Instr) (start : ℕ) → start ≡ length t0.lines → Gains t0 t1 test → Gains t1 t2 (turn_code (length t1.lines - start + 2) body) → Gains t0 t2 (loop_code test body [])
-loop_gains {t0} {t1} {t2} test body start here h k =
-    let back : length t1.lines - start + 2 ≡ length test + 2 = omega (arith, length_gained h) in
-    let far : length body + 1 ≡ length body + 1 + 0 = omega arith in
-    subst (Gains t0 t2) (ap (λ n. test ++ turn_code n body) back ∙ ap (λ n. test ++ (machine.JumpIfFalse (length body + 2) ∷ (machine.EnterLoop (length test + 2) n ∷ (body ++ (machine.DoContinue ∷ []))))) far)
-    (Gains-append t0 t1 t2 test (turn_code (length t1.lines - start + 2) body) h k)
 
 -- ---- `and` and `or`
 

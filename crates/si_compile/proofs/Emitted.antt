@@ -89,39 +89,7 @@ module _ (ls : List Text) where
 
 -- ---- statements
 
-evaluate_is : (e : Expr) → stmt_of (Evaluate e) ≡ tree.Evaluate (expr_of e)
-evaluate_is e = ap stmt_of (sym (rolls-Evaluate e)) ∙ fold-roll-Stmt tree.Stmt stmt_step (Stmt-F.Evaluate e)
-
-assign_is : (x : String Global) (e : Expr) → stmt_of (Assign x e) ≡ tree.Assign (string_bytes x) (expr_of e)
-assign_is x e = ap stmt_of (sym (rolls-Assign x e)) ∙ fold-roll-Stmt tree.Stmt stmt_step (Stmt-F.Assign x e)
-
-augment_is : (x : String Global) (o : BinaryOperator) (e : Expr) → stmt_of (Augment x o e) ≡ tree.Augment (string_bytes x) (binary_of o) (expr_of e)
-augment_is x o e = ap stmt_of (sym (rolls-Augment x o e)) ∙ fold-roll-Stmt tree.Stmt stmt_step (Stmt-F.Augment x o e)
-
-pub define_is : (line : ℕ) (x : String Global) (ps : Vec (String Global) Global) (body : Vec Stmt Global) → stmt_of (stmt_views.Define line x ps body) ≡ tree.Define (string_bytes x) (map string_bytes ps.items) (body_of body.items)
-define_is line x ps body = ap stmt_of (sym (rolls-Define line x ps body)) ∙ fold-roll-Stmt tree.Stmt stmt_step (Stmt-F.Define line x ps body)
-
 module _ (ls : List Text) where
-  pub at_stmt : {a b : Contents} (first : ℕ) (s view : Stmt) (t : tree.Stmt) → s ≡ view → stmt_of view ≡ t → Gains a b (stmt_code ls first t) → Gains a b (stmt_code ls first (stmt_of s))
-  at_stmt {a} {b} first s view t is sees h = subst (λ c. Gains a b (stmt_code ls first c)) (sym (ap stmt_of is ∙ sees)) h
-
-  pub evaluate_gains : {t0 t1 t2 : Contents} (first : ℕ) (e : Expr) (s : Stmt) → s ≡ Evaluate e → Gains t0 t1 (Code ls e) → Gains t1 t2 (machine.Discard ∷ []) → Gains t0 t2 (stmt_code ls first (stmt_of s))
-  evaluate_gains {t0} {t1} {t2} first e s is h k = at_stmt first s (Evaluate e) (tree.Evaluate (expr_of e)) is (evaluate_is e) (Gains-append t0 t1 t2 _ _ h k)
-
-  pub assign_gains : {t0 t1 t2 : Contents} (first : ℕ) (x : String Global) (e : Expr) (name : List ℕ) (s : Stmt) → s ≡ Assign x e → name ≡ string_bytes x
-      → Gains t0 t1 (Code ls e) → Gains t1 t2 (store_code name (place_of name ls) ∷ []) → Gains t0 t2 (stmt_code ls first (stmt_of s))
-  assign_gains {t0} {t1} {t2} first x e name s is named h k =
-      at_stmt first s (Assign x e) (tree.Assign (string_bytes x) (expr_of e)) is (assign_is x e)
-      (Gains-append t0 t1 t2 _ _ h (subst (λ y. Gains t1 t2 (store_code y (place_of y ls) ∷ [])) named k))
-
-  pub augment_gains : {t0 t1 t2 t3 t4 : Contents} (first : ℕ) (x : String Global) (o : BinaryOperator) (e : Expr) (read name : List ℕ) (s : Stmt) → s ≡ Augment x o e → read ≡ string_bytes x → name ≡ string_bytes x
-      → Gains t0 t1 (load_code read (place_of read ls) ∷ []) → Gains t1 t2 (Code ls e) → Gains t2 t3 (machine.ApplyBinary (binary_of o) ∷ []) → Gains t3 t4 (store_code name (place_of name ls) ∷ []) → Gains t0 t4 (stmt_code ls first (stmt_of s))
-  augment_gains {t0} {t1} {t2} {t3} {t4} first x o e read name s is reads named h0 h1 h2 h3 =
-      let load = subst (λ y. Gains t0 t1 (load_code y (place_of y ls) ∷ [])) reads h0 in
-      let store = subst (λ y. Gains t3 t4 (store_code y (place_of y ls) ∷ [])) named h3 in
-      at_stmt first s (Augment x o e) (tree.Augment (string_bytes x) (binary_of o) (expr_of e)) is (augment_is x o e)
-      (Gains-append t0 t1 t4 _ _ load (Gains-append t1 t2 t4 _ _ h1 (Gains-append t2 t3 t4 _ _ h2 store)))
-
   -- one of several, and then the rest, whose functions are numbered behind its own
   pub next_stmt : {t0 t1 t2 : Contents} (ss : List Stmt) (i : ℕ) (s : Stmt) (first now then : ℕ) → i < length ss → get_or ss i s ≡ s → then ≡ now + length (functions_of (stmt_of s))
       → ((end : Contents) → Gains t1 end (stmts_code ls now (body_of (drop i ss))) → Gains t0 end (stmts_code ls first (body_of ss)))

@@ -3,6 +3,7 @@ use Rattle.std.proofs.Common.{◌≡◌, ℕ, ◌+◌, ◌-◌, ◌<◌, ◌≤�
 use Rattle.std.specs.List.{AllByRecursion}
 use Rattle.std.proofs.lemmas.List.{drop_all}
 use Rattle.si_semantics.specs.Value.{Text}
+use Rattle.si_semantics.specs.Scope.{place_of}
 use Rattle.si_semantics.specs.Tree as tree
 use Rattle.si_semantics.specs.Tree.{functions_of, functions_in}
 use Rattle.si_semantics.specs.Machine as machine
@@ -20,17 +21,19 @@ use Rattle.si_syntax.specs.declared.stmt.Stmt.TheOpen.{Stmt-F}
 use Rattle.si_syntax.specs.declared.stmt.Stmt.TheVariants.{rolls-If, rolls-While}
 use Rattle.si_syntax.specs.declared.stmt.Stmt.TheViews as stmt_views
 use Rattle.si_syntax.specs.Trees.{boolean_of, body_of, comparison_of, expr_of, stmt_of, stmt_step, view_step, link_of, elif_of}
-use Rattle.si_compile.specs.Code.{expr_code, operands_code, chain_code, stmt_code, stmts_code}
+use Rattle.si_compile.specs.Code.{expr_code, operands_code, chain_code, stmt_code, stmts_code, store_code}
 use Rattle.si_code.specs.Contents.{Contents, Extends}
 use Rattle.si_code.specs.Jumps.{Due, Aims}
-use Rattle.si_compile.specs.Jumps.{branch_front, turn_code}
+use Rattle.si_compile.specs.Jumps.{branch_front, turn_front, round_front}
 use Rattle.si_code.specs.Views.{Gains}
 use Rattle.si_code.proofs.Codes.{Gains-append}
 use Rattle.si_plain.proofs.Begins.{length-Begins}
 use Rattle.si_code.proofs.Jumped.{length_gained, All-push}
-use Rattle.si_compile.proofs.Emitted.{Code, at_value, at_tree, at_stmt}
+use Rattle.si_compile.proofs.Emitted.{Code, at_value, at_tree}
+use Rattle.si_compile.proofs.LoopCode.{loop_gains, for_gains, Ends}
+use Rattle.si_compile.proofs.Seen.{tree_gains, tree_number}
 use Rattle.si_syntax.proofs.Rows.{rest_is}
-use Rattle.si_compile.proofs.Branches.{MakesAll, MakesAll-end, Elifs, branch_gains, branch_ends, tested_branch, elif_due, loop_gains}
+use Rattle.si_compile.proofs.Branches.{MakesAll, MakesAll-end, Elifs, branch_gains, branch_ends, elif_due}
 
 -- ---- expressions
 
@@ -75,60 +78,48 @@ module _ (ls : List Text) where
 
 -- ---- statements
 
-while_is : (test : Expr) (body : Vec Stmt Global) → stmt_of (stmt_views.While test body) ≡ tree.While (expr_of test) (body_of body.items) tree.NoStmts
-while_is test body = ap stmt_of (sym (rolls-While test body)) ∙ fold-roll-Stmt tree.Stmt stmt_step (Stmt-F.While test body)
-
-branches_are : (g : Expr × Vec Stmt Global → Expr × Vec tree.Stmt Global) (f : Expr × Vec tree.Stmt Global → Branch) → ((b : Expr × Vec Stmt Global) → f (g b) ≡ elif_of b) → (bs : List (Expr × Vec Stmt Global)) → map f (map g bs) ≡ map elif_of bs
-branches_are g f same [] = refl
-branches_are g f same (b ∷ bs) = ap (λ x. x ∷ map f (map g bs)) (same b) ∙ ap (λ r. elif_of b ∷ r) (branches_are g f same bs)
-
-if_is : (test : Expr) (body : Vec Stmt Global) (elifs : Vec (Expr × Vec Stmt Global) Global) (last : Vec Stmt Global)
-    → stmt_of (stmt_views.If test body elifs last) ≡ tree.If (expr_of test) (body_of body.items) (elifs_of (map elif_of elifs.items) (body_of last.items))
-if_is test body elifs last =
-    ap stmt_of (sym (rolls-If test body elifs last)) ∙ fold-roll-Stmt tree.Stmt stmt_step (Stmt-F.If test body elifs last)
-    ∙ ap (λ bs. tree.If (expr_of test) (body_of body.items) (elifs_of bs (body_of last.items))) (branches_are _ _ (λ b. refl) elifs.items)
-
--- those of an `if` are those of its suite, and of what stands behind it
-pub if_defines : (test : Expr) (body : Vec Stmt Global) (elifs : Vec (Expr × Vec Stmt Global) Global) (last : Vec Stmt Global) (ss ends : List Stmt) (bs : List (Expr × Vec Stmt Global)) (s : Stmt)
-    → s ≡ stmt_views.If test body elifs last → ss ≡ body.items → bs ≡ elifs.items → ends ≡ last.items → functions_of (stmt_of s) ≡ functions_in (body_of ss) ++ functions_in (elifs_of (map elif_of bs) (body_of ends))
-if_defines test body elifs last ss ends bs s is all_body all_elifs all_last =
-    ap functions_of (ap stmt_of is ∙ if_is test body elifs last)
-    ∙ ap (λ l. functions_in (body_of l) ++ functions_in (elifs_of (map elif_of elifs.items) (body_of last.items))) (sym all_body)
-    ∙ ap (λ l. functions_in (body_of ss) ++ functions_in (elifs_of (map elif_of l) (body_of last.items))) (sym all_elifs)
-    ∙ ap (λ l. functions_in (body_of ss) ++ functions_in (elifs_of (map elif_of bs) (body_of l))) (sym all_last)
-
 -- those behind an `if` are those of the next `elif`, and of what stands behind that
 pub elif_defines : (b : Branch) (more : List Branch) (last : tree.Stmts) → functions_in (elifs_of (b ∷ more) last) ≡ functions_in b.1 ++ functions_in (elifs_of more last)
 elif_defines b more last = append-nil (functions_in b.1 ++ functions_in (elifs_of more last))
 
 module _ (ls : List Text) where
-  pub while_gains : {t0 t1 t2 : Contents} (first : ℕ) (test : Expr) (body : Vec Stmt Global) (ss : List Stmt) (s : Stmt) (start : ℕ) → s ≡ stmt_views.While test body → ss ≡ body.items → start ≡ length t0.lines
-      → Gains t0 t1 (Code ls test) → Gains t1 t2 (turn_code (length t1.lines - start + 2) (stmts_code ls first (body_of ss))) → Gains t0 t2 (stmt_code ls first (stmt_of s))
-  while_gains {t0} {t1} {t2} first test body ss s start is all here h k =
-      at_stmt ls first s (stmt_views.While test body) (tree.While (expr_of test) (body_of body.items) tree.NoStmts) is (while_is test body)
-      (loop_gains (Code ls test) (stmts_code ls first (body_of body.items)) start here h (subst (λ l. Gains t1 t2 (turn_code (length t1.lines - start + 2) (stmts_code ls first (body_of l)))) all k))
+  -- an `if`, once the jump behind its suite is aimed; the functions of what follows are numbered behind those of the suite
+  pub if_gains : {t0 t1 t2 t3 : Contents} (first then : ℕ) (test : Expr) (ss ends : List Stmt) (bs : List (Expr × Vec Stmt Global)) (t : tree.Stmt) (end : ℕ)
+      → t ≡ tree.If (expr_of test) (body_of ss) (elifs_of (map elif_of bs) (body_of ends)) → then ≡ first + length (functions_in (body_of ss)) → end + 1 ≡ length t1.lines
+      → Gains t0 t1 (branch_front (Code ls test) (stmts_code ls first (body_of ss)) ++ machine.Jump 0 ∷ []) → Gains t1 t2 (Elifs ls then (map elif_of bs) (body_of ends)) → Aims t2 end t3
+      → Gains t0 t3 (stmt_code ls first t)
+  if_gains {t0} {t1} {t2} {t3} first then test ss ends bs t end seen goes here front others aim =
+      let numbered = subst (λ n. Gains t1 t2 (Elifs ls n (map elif_of bs) (body_of ends))) goes others in
+      tree_gains ls first t (tree.If (expr_of test) (body_of ss) (elifs_of (map elif_of bs) (body_of ends))) seen
+      (branch_ends (Code ls test) (stmts_code ls first (body_of ss)) (Elifs ls (first + length (functions_in (body_of ss))) (map elif_of bs) (body_of ends)) end here front numbered aim)
 
-  pub if_gains : {t0 t1 t2 t3 t4 : Contents} (first then : ℕ) (test : Expr) (body : Vec Stmt Global) (elifs : Vec (Expr × Vec Stmt Global) Global) (last : Vec Stmt Global) (ss ends : List Stmt) (bs : List (Expr × Vec Stmt Global)) (s : Stmt) (end : ℕ)
-      → s ≡ stmt_views.If test body elifs last → ss ≡ body.items → bs ≡ elifs.items → ends ≡ last.items → then ≡ first + length (functions_in (body_of ss)) → end + 1 ≡ length t2.lines
-      → Gains t0 t1 (Code ls test) → Gains t1 t2 (branch_front [] (stmts_code ls first (body_of ss)) ++ machine.Jump 0 ∷ []) → Gains t2 t3 (Elifs ls then (map elif_of bs) (body_of ends)) → Aims t3 end t4
-      → Gains t0 t4 (stmt_code ls first (stmt_of s))
-  if_gains {t0} {t1} {t2} {t3} {t4} first then test body elifs last ss ends bs s end is all_body all_elifs all_last goes here h k l aim =
-      let suite = stmts_code ls first (body_of body.items) in
-      let number : then ≡ first + length (functions_in (body_of body.items)) = goes ∙ ap (λ x. first + length (functions_in (body_of x))) all_body in
-      let front = tested_branch (Code ls test) suite h (subst (λ x. Gains t1 t2 (branch_front [] (stmts_code ls first (body_of x)) ++ machine.Jump 0 ∷ [])) all_body k) in
-      let others = subst (λ x. Gains t2 t3 (Elifs ls then (map elif_of x) (body_of last.items))) all_elifs (subst (λ x. Gains t2 t3 (Elifs ls then (map elif_of bs) (body_of x))) all_last l) in
-      let numbered = subst (λ n. Gains t2 t3 (Elifs ls n (map elif_of elifs.items) (body_of last.items))) number others in
-      at_stmt ls first s (stmt_views.If test body elifs last) (tree.If (expr_of test) (body_of body.items) (elifs_of (map elif_of elifs.items) (body_of last.items))) is (if_is test body elifs last)
-      (branch_ends (Code ls test) suite (Elifs ls (first + length (functions_in (body_of body.items))) (map elif_of elifs.items) (body_of last.items)) end here front numbered aim)
+  -- a loop, of its parts; the functions of the else suite are numbered behind those of the suite
+  pub while_gains : {t0 t1 t2 t3 : Contents} (first then : ℕ) (test : Expr) (ss ends : List Stmt) (t : tree.Stmt) (enter : ℕ) → t ≡ tree.While (expr_of test) (body_of ss) (body_of ends)
+      → then ≡ first + length (functions_in (body_of ss)) → enter ≡ length t0.lines + length (Code ls test) + 1
+      → Gains t0 t1 (turn_front (Code ls test) (stmts_code ls first (body_of ss))) → Gains t1 t2 (stmts_code ls then (body_of ends)) → Aims t2 enter t3
+      → Gains t0 t3 (stmt_code ls first t)
+  while_gains {t0} {t1} {t2} {t3} first then test ss ends t enter seen goes here front last aim =
+      let numbered = subst (λ n. Gains t1 t2 (stmts_code ls n (body_of ends))) goes last in
+      tree_gains ls first t (tree.While (expr_of test) (body_of ss) (body_of ends)) seen
+      (loop_gains (Code ls test) (stmts_code ls first (body_of ss)) (stmts_code ls (first + length (functions_in (body_of ss))) (body_of ends)) enter here front numbered aim)
+
+  pub for_stmt : {t0 t1 t2 t3 t4 : Contents} (first then : ℕ) (name : Text) (items : Expr) (ss ends : List Stmt) (t : tree.Stmt) (enter : ℕ) → t ≡ tree.For name (expr_of items) (body_of ss) (body_of ends)
+      → then ≡ first + length (functions_in (body_of ss)) → enter ≡ length t1.lines + 2
+      → Gains t0 t1 (Code ls items ++ machine.StartFor ∷ []) → Gains t1 t2 (round_front (store_code name (place_of name ls)) (stmts_code ls first (body_of ss))) → Gains t2 t3 (stmts_code ls then (body_of ends)) → Ends t3 enter t4
+      → Gains t0 t4 (stmt_code ls first t)
+  for_stmt {t0} {t1} {t2} {t3} {t4} first then name items ss ends t enter seen goes here over front last end =
+      let numbered = subst (λ n. Gains t2 t3 (stmts_code ls n (body_of ends))) goes last in
+      tree_gains ls first t (tree.For name (expr_of items) (body_of ss) (body_of ends)) seen
+      (for_gains (Code ls items) (store_code name (place_of name ls)) (stmts_code ls first (body_of ss)) (stmts_code ls (first + length (functions_in (body_of ss))) (body_of ends)) enter here over front numbered end)
 
   -- one `elif` of several
-  pub next_elif : {t1 t2 t3 : Contents} (bs : List (Expr × Vec Stmt Global)) (i : ℕ) (b : Expr × Vec Stmt Global) (last : tree.Stmts) (ss : List Stmt) (at now then : ℕ) → i < length bs → get_or bs i b ≡ b → ss ≡ b.1.items → then ≡ now + length (functions_in (body_of ss)) → at + 1 ≡ length t3.lines
-      → Gains t1 t2 (Code ls b.0) → Gains t2 t3 (branch_front [] (stmts_code ls now (body_of ss)) ++ machine.Jump 0 ∷ [])
-      → (end : Contents) (later : List ℕ) → Due t3 later (Elifs ls then (map elif_of (drop (i + 1) bs)) last) end → Due t1 (at ∷ later) (Elifs ls now (map elif_of (drop i bs)) last) end
-  next_elif {t1} {t2} {t3} bs i b last ss at now then lt is all goes here h k end later d =
+  pub next_elif : {t1 t2 : Contents} (bs : List (Expr × Vec Stmt Global)) (i : ℕ) (b : Expr × Vec Stmt Global) (last : tree.Stmts) (ss : List Stmt) (at now then : ℕ) → i < length bs → get_or bs i b ≡ b → ss ≡ b.1.items → then ≡ now + length (functions_in (body_of ss)) → at + 1 ≡ length t2.lines
+      → Gains t1 t2 (branch_front (Code ls b.0) (stmts_code ls now (body_of ss)) ++ machine.Jump 0 ∷ [])
+      → (end : Contents) (later : List ℕ) → Due t2 later (Elifs ls then (map elif_of (drop (i + 1) bs)) last) end → Due t1 (at ∷ later) (Elifs ls now (map elif_of (drop i bs)) last) end
+  next_elif {t1} {t2} bs i b last ss at now then lt is all goes here h end later d =
       let number : then ≡ now + length (functions_in (body_of b.1.items)) = goes ∙ ap (λ x. now + length (functions_in (body_of x))) all in
-      let others = subst (λ n. Due t3 later (Elifs ls n (map elif_of (drop (i + 1) bs)) last) end) number d in
-      let front = tested_branch (Code ls b.0) (stmts_code ls now (body_of b.1.items)) h (subst (λ x. Gains t2 t3 (branch_front [] (stmts_code ls now (body_of x)) ++ machine.Jump 0 ∷ [])) all k) in
+      let others = subst (λ n. Due t2 later (Elifs ls n (map elif_of (drop (i + 1) bs)) last) end) number d in
+      let front = subst (λ x. Gains t1 t2 (branch_front (Code ls b.0) (stmts_code ls now (body_of x)) ++ machine.Jump 0 ∷ [])) all h in
       subst (λ x. Due t1 (at ∷ later) (Elifs ls now (map elif_of x) last) end) (sym (rest_is bs i b lt is)) (elif_due ls now (elif_of b) (map elif_of (drop (i + 1) bs)) last at here front end later others)
 
   -- behind the last one
@@ -155,8 +146,18 @@ pub last_elif_number : (bs : List (Expr × Vec Stmt Global)) (i : ℕ) (ends ss 
 last_elif_number bs i ends ss now then all le same goes before =
     omega (arith, ap (λ l. length (functions_in (elifs_of (map elif_of l) (body_of ends)))) (drop_all i bs le), ap (λ l. length (functions_in (body_of l))) same)
 
-pub if_number : (first then all : ℕ) (fs gs hs : List tree.Function) → fs ≡ gs ++ hs → then ≡ first + length gs → all ≡ then + length hs → all ≡ first + length fs
-if_number first then all fs gs hs is goes on = omega (arith, ap length is, length-append gs hs)
+-- the number moves on over an `if`
+pub if_number : (first then now : ℕ) (ss : List Stmt) (others : tree.Stmts) → then ≡ first + length (functions_in (body_of ss)) → now ≡ then + length (functions_in others) → now ≡ first + length (functions_in (body_of ss) ++ functions_in others)
+if_number first then now ss others goes on = omega (arith, goes, on, length-append (functions_in (body_of ss)) (functions_in others))
+
+-- so with a loop
+pub while_number : (first then now : ℕ) (test : Expr) (ss ends : List Stmt) (t : tree.Stmt) → t ≡ tree.While (expr_of test) (body_of ss) (body_of ends)
+    → then ≡ first + length (functions_in (body_of ss)) → now ≡ then + length (functions_in (body_of ends)) → now ≡ first + length (functions_of t)
+while_number first then now test ss ends t seen goes on = tree_number now first t (tree.While (expr_of test) (body_of ss) (body_of ends)) seen (if_number first then now ss (body_of ends) goes on)
+
+pub for_number : (first then now : ℕ) (name : Text) (items : Expr) (ss ends : List Stmt) (t : tree.Stmt) → t ≡ tree.For name (expr_of items) (body_of ss) (body_of ends)
+    → then ≡ first + length (functions_in (body_of ss)) → now ≡ then + length (functions_in (body_of ends)) → now ≡ first + length (functions_of t)
+for_number first then now name items ss ends t seen goes on = tree_number now first t (tree.For name (expr_of items) (body_of ss) (body_of ends)) seen (if_number first then now ss (body_of ends) goes on)
 
 -- ---- what stood in front
 
@@ -166,16 +167,8 @@ front_stays {front} {old} {new} {at} keeps seen here before all =
     let behind : length front.lines ≤ at = omega (arith, length-Begins front.lines seen.lines before.lines) in
     keeps front behind all
 
--- the jump behind a suite stands behind what stood in front of the suite
-jump_behind : {t1 t2 : Contents} (body : List machine.Instr) (at : ℕ) → at + 1 ≡ length t2.lines → Gains t1 t2 (branch_front [] body ++ machine.Jump 0 ∷ []) → length t1.lines ≤ at
-jump_behind {t1} {t2} body at here h = omega (arith, length_gained h, length-append body (machine.Jump 0 ∷ []))
-
-pub branch_stays : {t0 t1 t2 old new : Contents} {at : ℕ} (body : List machine.Instr) → ((c : Contents) → length c.lines ≤ at → Extends c old → Extends c new) → at + 1 ≡ length t2.lines → Gains t1 t2 (branch_front [] body ++ machine.Jump 0 ∷ []) → Extends t0 t1 → Extends t0 old → Extends t0 new
-branch_stays {t0} {t1} {t2} {old} {new} {at} body keeps here h before all =
-    let behind : length t0.lines ≤ at = omega (arith, length-Begins t0.lines t1.lines before.lines, jump_behind body at here h) in
-    keeps t0 behind all
-
-pub branch_more : {t0 t1 t2 : Contents} {more : List ℕ} (body : List machine.Instr) (jumps : List ℕ) (at : ℕ) → more ≡ jumps ++ at ∷ [] → at + 1 ≡ length t2.lines → Gains t1 t2 (branch_front [] body ++ machine.Jump 0 ∷ []) → Extends t0 t1 → AllByRecursion (λ k. length t0.lines ≤ k) jumps → AllByRecursion (λ k. length t0.lines ≤ k) more
-branch_more {t0} {t1} {t2} {more} body jumps at push here h before all =
-    let behind : length t0.lines ≤ at = omega (arith, length-Begins t0.lines t1.lines before.lines, jump_behind body at here h) in
+-- one jump more stands behind what stood in front
+pub branch_more : {t0 t1 : Contents} {more : List ℕ} (jumps : List ℕ) (at : ℕ) → more ≡ jumps ++ at ∷ [] → length t1.lines ≤ at → Extends t0 t1 → AllByRecursion (λ k. length t0.lines ≤ k) jumps → AllByRecursion (λ k. length t0.lines ≤ k) more
+branch_more {t0} {t1} {more} jumps at push here before all =
+    let behind : length t0.lines ≤ at = omega (arith, length-Begins t0.lines t1.lines before.lines, here) in
     subst (AllByRecursion (λ k. length t0.lines ≤ k)) (sym push) (All-push (length t0.lines) jumps at all behind)

@@ -1,18 +1,19 @@
 -- The functions of a script, one after the other.
-use Rattle.std.proofs.Common.{◌≡◌, ℕ, ◌+◌, ◌<◌, ◌≤◌, List, [], ◌∷◌, ◌++◌, map, length, drop, get_or, Option, Some, None, Vec, String, Global, string_bytes, refl, sym, ap, subst, ◌∙◌, append_assoc, append-nil, length-append, arith}
+use Rattle.std.proofs.Common.{◌≡◌, ◌⊎◌, inl, inr, max, ℕ, ◌+◌, ◌<◌, ◌≤◌, List, [], ◌∷◌, ◌++◌, map, length, drop, get_or, Option, Some, None, Vec, String, Global, string_bytes, refl, sym, ap, subst, ◌∙◌, append_assoc, append-nil, length-append, arith}
 use Rattle.std.specs.Prelude.{slice_get}
 use Rattle.std.specs.Option.{option_map}
 use Rattle.std.proofs.lemmas.List.{drop_all, length-map, map-append}
 use Rattle.std.proofs.lemmas.Option.{slice_get-map}
 use Rattle.si_semantics.specs.Value.{Text, Nothing}
-use Rattle.si_semantics.specs.Tree.{Function, Stmts, functions_of, functions_in}
-use Rattle.si_semantics.specs.Grammar.{elifs_of}
+use Rattle.si_semantics.specs.Tree.{Function, Stmts, functions_of, functions_in, functions_in_clauses}
+use Rattle.si_semantics.specs.Grammar.{elifs_of, clauses_of}
 use Rattle.si_semantics.specs.Machine as machine
 use Rattle.si_semantics.specs.Scope.{locals_of}
 use Rattle.si_syntax.specs.declared.expr.Expr.{Expr}
-use Rattle.si_syntax.specs.declared.stmt.Stmt.{Stmt}
+use Rattle.si_syntax.specs.declared.stmt.Stmt.{Stmt, size-Stmt}
+use denote.Param.Weighed.{most}
 use Rattle.si_syntax.specs.declared.stmt.Stmt.TheViews as stmt_views
-use Rattle.si_syntax.specs.Trees.{stmt_of, body_of, elif_of}
+use Rattle.si_syntax.specs.Trees.{stmt_of, body_of, elif_of, clause_of}
 use Rattle.si_code.specs.Contents.{Contents}
 use Rattle.si_code.specs.declared.routine.Routine.{Routine}
 use Rattle.si_code.specs.Views.{entry_of, Gains, GainsRoutines}
@@ -20,9 +21,10 @@ use Rattle.si_code.proofs.Codes.{Gains-nil, Gains-append, Gains-alone, GainsRout
 use Rattle.si_code.proofs.Jumped.{get_here, length_gained}
 use Rattle.si_syntax.proofs.Rows.{rest_is}
 use Rattle.si_compile.specs.Code.{stmts_code, function_code, functions_code, entries_from, module_code}
-use Rattle.si_compile.specs.Functions.{StandAt, GainsFunctions}
-use Rattle.si_compile.proofs.Emitted.{define_is}
-use Rattle.si_compile.proofs.Forms.{if_defines, elif_defines}
+use Rattle.si_compile.specs.Functions.{StandAt, GainsFunctions, loop_functions, finally_functions}
+use Rattle.si_compile.specs.Jumps.{front_functions}
+use Rattle.si_compile.proofs.Forms.{elif_defines}
+use Rattle.si_compile.proofs.Seen.{Handler, define_seen, while_seen, for_seen, try_seen, finally_seen}
 
 -- ---- their code
 
@@ -122,16 +124,97 @@ elifs_last bs i ends ss le same = ap (λ l. functions_in (elifs_of (map elif_of 
 pub stmt_stands : (all : List Function) (n : ℕ) (ss : List Stmt) (i : ℕ) (s : Stmt) → s ≡ get_or ss i s → i < length ss → StandAt all n (functions_in (body_of (drop i ss))) → StandAt all n (functions_of (stmt_of s))
 stmt_stands all n ss i s at lt h = stand_front all n (functions_of (stmt_of s)) (functions_in (body_of (drop (i + 1) ss))) (subst (StandAt all n) (stmts_rest ss i s lt (sym at)) h)
 
-pub suite_stands : (all : List Function) (n : ℕ) (test : Expr) (body : Vec Stmt Global) (elifs : Vec (Expr × Vec Stmt Global) Global) (last : Vec Stmt Global) (ss : List Stmt) (s : Stmt)
-    → s ≡ stmt_views.If test body elifs last → ss ≡ body.items → StandAt all n (functions_of (stmt_of s)) → StandAt all n (functions_in (body_of ss))
-suite_stands all n test body elifs last ss s is all_body h =
-    stand_front all n (functions_in (body_of ss)) (functions_in (elifs_of (map elif_of elifs.items) (body_of last.items)))
-    (subst (StandAt all n) (if_defines test body elifs last ss last.items elifs.items s is all_body refl refl) h)
-
 pub elif_stands : (all : List Function) (n : ℕ) (bs : List (Expr × Vec Stmt Global)) (i : ℕ) (b : Expr × Vec Stmt Global) (last : Stmts) (ss : List Stmt) → ss ≡ b.1.items → b ≡ get_or bs i b → i < length bs
     → StandAt all n (functions_in (elifs_of (map elif_of (drop i bs)) last)) → StandAt all n (functions_in (body_of ss))
 elif_stands all n bs i b last ss body at lt h =
     stand_front all n (functions_in (body_of ss)) (functions_in (elifs_of (map elif_of (drop (i + 1) bs)) last)) (subst (StandAt all n) (elifs_rest bs i b last ss lt (sym at) body) h)
+
+-- those in front, and those that are left
+pub part_stands : (all : List Function) (n : ℕ) (whole fs gs : List Function) → whole ≡ fs ++ gs → StandAt all n whole → StandAt all n fs
+part_stands all n whole fs gs is h = stand_front all n fs gs (subst (StandAt all n) is h)
+
+pub rest_stands : (all : List Function) (n then : ℕ) (whole fs gs : List Function) → whole ≡ fs ++ gs → then ≡ n + length fs → StandAt all n whole → StandAt all then gs
+rest_stands all n then whole fs gs is goes h = stand_behind all n then fs gs goes (subst (StandAt all n) is h)
+
+pub all_stand : (all : List Function) (n : ℕ) (whole fs : List Function) → whole ≡ fs → StandAt all n whole → StandAt all n fs
+all_stand all n whole fs is h = subst (StandAt all n) is h
+
+-- two parts, one behind the other
+pub both_gain : {a b c : Contents} (whole fs gs : List Function) → whole ≡ fs ++ gs → GainsFunctions a b fs → GainsFunctions b c gs → GainsFunctions a c whole
+both_gain {a} {b} {c} whole fs gs is h k = subst (GainsFunctions a c) (sym is) (functions_more a b c fs gs h k)
+
+pub both_pass : (n then now : ℕ) (whole fs gs : List Function) → whole ≡ fs ++ gs → then ≡ n + length fs → now ≡ then + length gs → now ≡ n + length whole
+both_pass n then now whole fs gs is goes on = omega (arith, goes, on, ap length is, length-append fs gs)
+
+-- ---- of except clauses, and of the else suite behind them
+
+abbrev pub Handled : List Handler → List Stmt → List Function
+Handled cs ends = functions_in_clauses (clauses_of (map clause_of cs)) ++ functions_in (body_of ends)
+
+pub clauses_rest : (cs : List Handler) (i : ℕ) (c : Handler) (ends ss : List Stmt) → i < length cs → get_or cs i c ≡ c → ss ≡ c.2.items → Handled (drop i cs) ends ≡ functions_in (body_of ss) ++ Handled (drop (i + 1) cs) ends
+clauses_rest cs i c ends ss lt at all =
+    let more = functions_in_clauses (clauses_of (map clause_of (drop (i + 1) cs))) in
+    ap (λ l. Handled l ends) (rest_is cs i c lt at) ∙ append_assoc (functions_in (body_of c.2.items)) more (functions_in (body_of ends)) ∙ ap (λ l. functions_in (body_of l) ++ Handled (drop (i + 1) cs) ends) (sym all)
+
+pub clauses_last : (cs : List Handler) (i : ℕ) (ends ss : List Stmt) → length cs ≤ i → ss ≡ ends → Handled (drop i cs) ends ≡ functions_in (body_of ss)
+clauses_last cs i ends ss le same = ap (λ l. Handled l ends) (drop_all i cs le) ∙ ap (λ l. functions_in (body_of l)) (sym same)
+
+pub clause_stands : (all : List Function) (n : ℕ) (cs : List Handler) (i : ℕ) (c : Handler) (ends ss : List Stmt) → ss ≡ c.2.items → c ≡ get_or cs i c → i < length cs
+    → StandAt all n (Handled (drop i cs) ends) → StandAt all n (functions_in (body_of ss))
+clause_stands all n cs i c ends ss body at lt h = stand_front all n (functions_in (body_of ss)) (Handled (drop (i + 1) cs) ends) (subst (StandAt all n) (clauses_rest cs i c ends ss lt (sym at) body) h)
+
+-- what stands in front of a finally suite, and that suite
+pub finally_front : (body : Vec Stmt Global) (clauses : Vec Handler Global) (last final : Vec Stmt Global) (finals : List Stmt) (s : Stmt) → s ≡ stmt_views.Finally body clauses last final → finals ≡ final.items
+    → finally_functions (stmt_of s) ≡ front_functions (stmt_of s) ++ functions_in (body_of finals)
+finally_front body clauses last final finals s is done =
+    let seen = finally_seen body clauses last final body.items last.items finals clauses.items s is refl refl refl done in
+    let b = functions_in (body_of body.items) in let cs = functions_in_clauses (clauses_of (map clause_of clauses.items)) in let c = functions_in (body_of last.items) in
+    let f = functions_in (body_of finals) in
+    ap finally_functions seen ∙ ap (λ l. b ++ l) (sym (append_assoc cs c f)) ∙ sym (append_assoc b (cs ++ c) f) ∙ ap (λ x. front_functions x ++ f) (sym seen)
+
+-- ---- the parts of a statement
+
+-- a loop, of either kind, has this suite and this else suite
+abbrev pub IsLoop : Stmt → Vec Stmt Global → Vec Stmt Global → Type 0
+IsLoop s body last = ((x : Expr) × (s ≡ stmt_views.While x body last)) ⊎ ((y : String Global) × (x : Expr) × (s ≡ stmt_views.For y x body last))
+
+pub loop_defines : (s : Stmt) (body last : Vec Stmt Global) (ss ends : List Stmt) → IsLoop s body last → ss ≡ body.items → ends ≡ last.items → loop_functions (stmt_of s) ≡ functions_in (body_of ss) ++ functions_in (body_of ends)
+loop_defines s body last ss ends (inl (x, is)) suite end = ap loop_functions (while_seen x body last ss ends s is suite end)
+loop_defines s body last ss ends (inr (y, x, is)) suite end = ap loop_functions (for_seen y x body last (string_bytes y) ss ends s is refl suite end)
+
+-- its suites are smaller
+pub loop_suite : (s : Stmt) (body last : Vec Stmt Global) (ss : List Stmt) → IsLoop s body last → ss ≡ body.items → most size-Stmt ss < size-Stmt s
+loop_suite s body last ss (inl (x, is)) suite = omega (arith, stmt_views.sized-While x body last, ap size-Stmt is, ap (most size-Stmt) suite)
+loop_suite s body last ss (inr (y, x, is)) suite = omega (arith, stmt_views.sized-For y x body last, ap size-Stmt is, ap (most size-Stmt) suite)
+
+pub loop_last : (s : Stmt) (body last : Vec Stmt Global) (ends : List Stmt) → IsLoop s body last → ends ≡ last.items → most size-Stmt ends < size-Stmt s
+loop_last s body last ends (inl (x, is)) end = omega (arith, stmt_views.sized-While x body last, ap size-Stmt is, ap (most size-Stmt) end)
+loop_last s body last ends (inr (y, x, is)) end = omega (arith, stmt_views.sized-For y x body last, ap size-Stmt is, ap (most size-Stmt) end)
+
+-- a `try`, with a finally suite or with none, has this suite, these clauses and this else suite
+abbrev pub IsTry : Stmt → Vec Stmt Global → Vec Handler Global → Vec Stmt Global → Type 0
+IsTry s body clauses last = (s ≡ stmt_views.Try body clauses last) ⊎ ((x : Vec Stmt Global) × (s ≡ stmt_views.Finally body clauses last x))
+
+pub try_defines : (s : Stmt) (body : Vec Stmt Global) (clauses : Vec Handler Global) (last : Vec Stmt Global) (ss ends : List Stmt) (cs : List Handler)
+    → IsTry s body clauses last → ss ≡ body.items → cs ≡ clauses.items → ends ≡ last.items → front_functions (stmt_of s) ≡ functions_in (body_of ss) ++ Handled cs ends
+try_defines s body clauses last ss ends cs (inl is) suite all end = ap front_functions (try_seen body clauses last ss ends cs s is suite all end)
+try_defines s body clauses last ss ends cs (inr (x, is)) suite all end = ap front_functions (finally_seen body clauses last x ss ends x.items cs s is suite all end refl)
+
+pub try_suite : (s : Stmt) (body : Vec Stmt Global) (clauses : Vec Handler Global) (last : Vec Stmt Global) (ss : List Stmt) → IsTry s body clauses last → ss ≡ body.items → most size-Stmt ss < size-Stmt s
+try_suite s body clauses last ss (inl is) suite = omega (arith, stmt_views.sized-Try body clauses last, ap size-Stmt is, ap (most size-Stmt) suite)
+try_suite s body clauses last ss (inr (x, is)) suite = omega (arith, stmt_views.sized-Finally body clauses last x, ap size-Stmt is, ap (most size-Stmt) suite)
+
+pub try_last : (s : Stmt) (body : Vec Stmt Global) (clauses : Vec Handler Global) (last : Vec Stmt Global) (ends : List Stmt) → IsTry s body clauses last → ends ≡ last.items → most size-Stmt ends < size-Stmt s
+try_last s body clauses last ends (inl is) end = omega (arith, stmt_views.sized-Try body clauses last, ap size-Stmt is, ap (most size-Stmt) end)
+try_last s body clauses last ends (inr (x, is)) end = omega (arith, stmt_views.sized-Finally body clauses last x, ap size-Stmt is, ap (most size-Stmt) end)
+
+-- how deep the suite of a clause is
+abbrev pub clause_depth : Handler → ℕ
+clause_depth h = max 0 (max 0 (max (most size-Stmt h.2.items) 0))
+
+pub try_clauses : (s : Stmt) (body : Vec Stmt Global) (clauses : Vec Handler Global) (last : Vec Stmt Global) (cs : List Handler) → IsTry s body clauses last → cs ≡ clauses.items → most clause_depth cs < size-Stmt s
+try_clauses s body clauses last cs (inl is) all = omega (arith, stmt_views.sized-Try body clauses last, ap size-Stmt is, ap (most clause_depth) all)
+try_clauses s body clauses last cs (inr (x, is)) all = omega (arith, stmt_views.sized-Finally body clauses last x, ap size-Stmt is, ap (most clause_depth) all)
 
 -- ---- a definition
 
@@ -140,7 +223,7 @@ abbrev pub defined : String Global → Vec (String Global) Global → Vec Stmt G
 defined x ps body = record { name = string_bytes x; parameters = map string_bytes ps.items; body = body_of body.items }
 
 defines : (line : ℕ) (x : String Global) (ps : Vec (String Global) Global) (body : Vec Stmt Global) (s : Stmt) → s ≡ stmt_views.Define line x ps body → functions_of (stmt_of s) ≡ defined x ps body ∷ []
-defines line x ps body s is = ap functions_of (ap stmt_of is ∙ define_is line x ps body)
+defines line x ps body s is = ap functions_of (define_seen line x ps body s is)
 
 -- the names that are local to it
 pub locals_at : (all : List Function) (n : ℕ) (line : ℕ) (x : String Global) (ps : Vec (String Global) Global) (body : Vec Stmt Global) (s : Stmt) → s ≡ stmt_views.Define line x ps body → StandAt all n (functions_of (stmt_of s)) → slice_get (map locals_of all) n ≡ Some (locals_of (defined x ps body))

@@ -1,5 +1,11 @@
 pub mod Steps
 pub mod Exprs
+pub mod Blocks
+pub mod Names
+pub mod Turns
+pub mod Items
+pub mod Finals
+pub mod Excepts
 pub mod Stmts
 pub mod Calls
 pub mod Tables
@@ -9,6 +15,9 @@ pub mod Due
 pub mod Shown
 pub mod Interpreter
 pub mod Emitted
+pub mod Seen
 pub mod Branches
 pub mod Forms
+pub mod LoopCode
+pub mod HandlerCode
 pub mod Functions

@@ -4,7 +4,7 @@ ghost use Rattle.si_compile.specs.Correct.{Compiles, KnowsMore, Lives, StaysOpen
 ghost use Rattle.si_compile.specs.Interpreter.{StaysAfter, AfterShows};
 
 /// The code of a text does what its body means, from every state and whatever came before, and takes at most sixteen
-/// lines for each statement, expression and target that the meaning visits.
+/// lines for each statement, expression, target, turn of a loop and except clause that the meaning visits.
 pub fn compiles()
     ensures { Compiles }
 {}

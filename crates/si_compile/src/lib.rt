@@ -9,7 +9,10 @@
 #![tactic(auto)]
 
 pub mod emit;
+pub mod expression;
+pub mod handlers;
 pub mod laws;
+pub mod loops;
 pub mod script;
 #[cfg(test)]
 mod tests;

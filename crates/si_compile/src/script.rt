@@ -8,7 +8,8 @@ ghost use Rattle.si_scope.specs.Scripts.{script_of};
 ghost use Rattle.si_code.specs.Contents.{Extends};
 ghost use Rattle.si_code.specs.Views.{Gains, GainsRoutines, table_of};
 ghost use Rattle.si_compile.specs.Code.{compiled, entries_from, functions_code, module_code, stmts_code};
-ghost use Rattle.si_compile.specs.Functions.{GainsFunctions, StandAt};
+ghost use Rattle.si_compile.specs.Functions.{GainsFunctions, StandAt, finally_functions, if_functions, loop_functions};
+ghost use Rattle.si_compile.specs.Jumps.{front_functions};
 
 use crate::emit::{emit_end, emit_suite};
 use si_code::{CodeTable, Entry, Instr, Routine};
@@ -86,6 +87,7 @@ fn emit_functions(
     Ok(())
 }
 
+// Those of one of them.
 #[cycle(functions)]
 fn emit_functions_of(
     table: &mut CodeTable,
@@ -99,21 +101,16 @@ fn emit_functions_of(
     ensures extends { Extends table.old table.new }
 {
     match stmt {
-        Stmt::If(_, body, elifs, last) => {
-            emit_functions(table, script, number, body)?;
-            for (_, body) in elifs {
-                emit_functions(table, script, number, body)?;
-            }
-            emit_functions(table, script, number, last)
-        }
-        Stmt::While(_, body) => emit_functions(table, script, number, body),
+        Stmt::If(_, _, _, _) => emit_functions_of_if(table, script, number, stmt),
+        Stmt::While(_, _, _) => emit_functions_of_loop(table, script, number, stmt),
+        Stmt::For(_, _, _, _) => emit_functions_of_loop(table, script, number, stmt),
+        Stmt::Try(_, _, _) => emit_functions_of_try(table, script, number, stmt),
+        Stmt::Finally(_, _, _, _) => emit_functions_of_finally(table, script, number, stmt),
         Stmt::Define(_, _, parameters, body) => {
             let Some(locals) = script.locals(*number as usize) else {
                 unreachable!()
             };
-            emit_function(table, locals, parameters.len(), body)?;
-            *number = number.checked_add(1).ok_or(AllocError)?;
-            Ok(())
+            emit_function(table, locals, number, parameters.len(), body)
         }
         Stmt::Evaluate(_)
         | Stmt::Assign(_, _)
@@ -122,18 +119,108 @@ fn emit_functions_of(
         | Stmt::Break(_)
         | Stmt::Continue(_)
         | Stmt::Return(_, _)
-        | Stmt::Global(_, _) => Ok(()),
+        | Stmt::Global(_, _)
+        | Stmt::Raise(_) => Ok(()),
     }
 }
 
-// A function of so many parameters, with the names that are local to it.
+// Those of an `if`. Another statement has none there.
+#[cycle(functions)]
+fn emit_functions_of_if(
+    table: &mut CodeTable,
+    script: &Scoped,
+    number: &mut u32,
+    stmt: &Stmt,
+) -> Result<(), NoMemory>
+    requires { StandAt (functions_in (script_of script.now)) number.old (if_functions (stmt_of stmt.now)) }
+    ensures ok { OnOk result (GainsFunctions table.old table.new (if_functions (stmt_of stmt.now))) }
+    ensures number { OnOk result (number.new ≡ number.old + length (if_functions (stmt_of stmt.now))) }
+    ensures extends { Extends table.old table.new }
+{
+    let Stmt::If(_, body, elifs, last) = stmt else {
+        return Ok(());
+    };
+    emit_functions(table, script, number, body)?;
+    for (_, body) in elifs {
+        emit_functions(table, script, number, body)?;
+    }
+    emit_functions(table, script, number, last)
+}
+
+// Those of a loop. Another statement has none there.
+#[cycle(functions)]
+fn emit_functions_of_loop(
+    table: &mut CodeTable,
+    script: &Scoped,
+    number: &mut u32,
+    stmt: &Stmt,
+) -> Result<(), NoMemory>
+    requires { StandAt (functions_in (script_of script.now)) number.old (loop_functions (stmt_of stmt.now)) }
+    ensures ok { OnOk result (GainsFunctions table.old table.new (loop_functions (stmt_of stmt.now))) }
+    ensures number { OnOk result (number.new ≡ number.old + length (loop_functions (stmt_of stmt.now))) }
+    ensures extends { Extends table.old table.new }
+{
+    let (Stmt::While(_, body, last) | Stmt::For(_, _, body, last)) = stmt else {
+        return Ok(());
+    };
+    emit_functions(table, script, number, body)?;
+    emit_functions(table, script, number, last)
+}
+
+// Those of a `try` with a finally suite. Another statement has none there.
+#[cycle(functions)]
+fn emit_functions_of_finally(
+    table: &mut CodeTable,
+    script: &Scoped,
+    number: &mut u32,
+    stmt: &Stmt,
+) -> Result<(), NoMemory>
+    requires { StandAt (functions_in (script_of script.now)) number.old (finally_functions (stmt_of stmt.now)) }
+    ensures ok { OnOk result (GainsFunctions table.old table.new (finally_functions (stmt_of stmt.now))) }
+    ensures number { OnOk result (number.new ≡ number.old + length (finally_functions (stmt_of stmt.now))) }
+    ensures extends { Extends table.old table.new }
+{
+    let Stmt::Finally(_, _, _, last) = stmt else {
+        return Ok(());
+    };
+    emit_functions_of_try(table, script, number, stmt)?;
+    emit_functions(table, script, number, last)
+}
+
+// Those of a `try` without its finally suite. Another statement has none there.
+#[cycle(functions)]
+fn emit_functions_of_try(
+    table: &mut CodeTable,
+    script: &Scoped,
+    number: &mut u32,
+    stmt: &Stmt,
+) -> Result<(), NoMemory>
+    requires { StandAt (functions_in (script_of script.now)) number.old (front_functions (stmt_of stmt.now)) }
+    ensures ok { OnOk result (GainsFunctions table.old table.new (front_functions (stmt_of stmt.now))) }
+    ensures number { OnOk result (number.new ≡ number.old + length (front_functions (stmt_of stmt.now))) }
+    ensures extends { Extends table.old table.new }
+{
+    let (Stmt::Try(body, clauses, last) | Stmt::Finally(body, clauses, last, _)) = stmt else {
+        return Ok(());
+    };
+    emit_functions(table, script, number, body)?;
+    for (_, _, body) in clauses {
+        emit_functions(table, script, number, body)?;
+    }
+    emit_functions(table, script, number, last)
+}
+
+// A function of so many parameters, with the names that are local to it. `number` moves past its number: there are at most
+// 2^32, and past them memory counts as refused.
 fn emit_function(
     table: &mut CodeTable,
     locals: &Names,
+    number: &mut u32,
     parameters: usize,
     body: &[Stmt],
 ) -> Result<(), NoMemory>
     ensures ok { OnOk result (GainsRoutines table.old table.new (stmts_code locals.now 0 (body_of body.now) ++ (machine.Push Nothing ∷ (machine.DoReturn ∷ []))) ((record { at = length table.old.lines; parameters = parameters; locals = length locals.now }) ∷ [])) }
+    ensures number { OnOk result (number.new ≡ number.old + 1) }
     ensures extends { Extends table.old table.new }
 {
     let routine = Routine {
@@ -141,6 +228,7 @@ fn emit_function(
         parameters: u32::try_from(parameters).map_err(|_| AllocError)?,
         locals: u32::try_from(locals.len()).map_err(|_| AllocError)?,
     };
+    *number = number.checked_add(1).ok_or(AllocError)?;
     let mut next = 0;
     emit_suite(table, locals, &mut next, body)?;
     emit_end(table)?;

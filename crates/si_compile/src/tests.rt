@@ -6,7 +6,9 @@ use si_code::{CodeTable, Entry, Instr, Routine};
 use si_parse::parse;
 use si_plain::Names;
 use si_scope::{Scoped, resolve};
-use si_syntax::{BinaryOperator, BooleanOperator, ComparisonOperator, Expr, Stmt, UnaryOperator};
+use si_syntax::{
+    BinaryOperator, BooleanOperator, Clause, ComparisonOperator, Expr, Stmt, UnaryOperator,
+};
 use std::alloc::{AllocError, Global};
 use std::test::Fail;
 
@@ -87,6 +89,29 @@ fn refused_memory_changes_nothing(rt: HostRuntime) -> Result<(), Fail> {
     Ok(())
 }
 
+// The same, of a text with a `try` and a `for`.
+#[test]
+fn refused_memory_leaves_no_half_of_a_try(rt: HostRuntime) -> Result<(), Fail> {
+    let first = script(rt.alloc(), "a = 'x'\n")?;
+    let text =
+        "try:\n    for b in range(2):\n        c = b\nexcept TypeError as d:\n    print('y')\nfinally:\n    a = 'z'\n";
+    let second = script(rt.alloc(), text)?;
+    let mut table = CodeTable::new(rt.alloc());
+    compile(&first, &mut table)?;
+    let entry = match compile(&second, &mut table) {
+        Ok(entry) => entry,
+        Err(_) => {
+            assert_eq!(rt; table.len(), 3);
+            assert_eq!(rt; table.slots(), 1);
+            assert_eq!(rt; table.literals().len(), 1);
+            compile(&second, &mut table)?
+        }
+    };
+    assert_eq!(rt; entry, Entry { at: 3 });
+    assert_eq!(rt; table.literals().len(), 3);
+    Ok(())
+}
+
 // Whether the code of statements is this, in a table of its own.
 fn has_code(alloc: Global, body: &[Stmt], code: &[Instr]) -> Result<bool, AllocError> {
     let mut table = CodeTable::new(alloc);
@@ -138,25 +163,129 @@ fn each_branch_leads_past_the_others(rt: HostRuntime) -> Result<(), Fail> {
     Ok(())
 }
 
-// `while a:` with `if b: break` and `continue`
+// `while a:` with `if b: break` and `continue`, and `else: c`
 #[test]
 fn a_loop_begins_again_or_ends(rt: HostRuntime) -> Result<(), Fail> {
     let alloc = rt.alloc();
     let leaves = vec![in alloc; Stmt::Break(1)]?;
     let last = Stmt::If(name(alloc, "b")?, leaves, Vec::new(alloc), Vec::new(alloc));
-    let turns = Stmt::While(name(alloc, "a")?, vec![in alloc; last, Stmt::Continue(1)]?);
+    let turns = Stmt::While(
+        name(alloc, "a")?,
+        vec![in alloc; last, Stmt::Continue(1)]?,
+        suite(alloc, "c")?,
+    );
     let code = [
         Instr::LoadGlobal(0),
         Instr::JumpIfFalse(7),
-        Instr::EnterLoop(3, 6),
+        Instr::EnterLoop(3, 8),
         Instr::LoadGlobal(1),
         Instr::JumpIfFalse(2),
         Instr::Break,
         Instr::Jump(0),
         Instr::Continue,
         Instr::Continue,
+        Instr::LoadGlobal(2),
+        Instr::Discard,
     ];
     assert!(rt; has_code(alloc, &[turns], &code)?);
+    Ok(())
+}
+
+// `for x in a: b`, `else: c`
+#[test]
+fn items_are_gone_over(rt: HostRuntime) -> Result<(), Fail> {
+    let alloc = rt.alloc();
+    let rounds = Stmt::For(
+        String::from_str(alloc, "x")?,
+        name(alloc, "a")?,
+        suite(alloc, "b")?,
+        suite(alloc, "c")?,
+    );
+    let code = [
+        Instr::LoadGlobal(0),
+        Instr::StartFor,
+        Instr::NextItem(5),
+        Instr::StoreGlobal(1),
+        Instr::EnterLoop(3, 6),
+        Instr::LoadGlobal(2),
+        Instr::Discard,
+        Instr::Continue,
+        Instr::LoadGlobal(3),
+        Instr::Discard,
+        Instr::Jump(1),
+        Instr::LeaveBlock,
+    ];
+    assert!(rt; has_code(alloc, &[rounds], &code)?);
+    Ok(())
+}
+
+// The clause `except b as y: c`.
+fn named_clause(alloc: Global) -> Result<Clause, AllocError> {
+    Ok((
+        Some(name(alloc, "b")?),
+        Some(String::from_str(alloc, "y")?),
+        suite(alloc, "c")?,
+    ))
+}
+
+// `try: a`, `except b as y: c`, `except: raise`, `else: e`
+const TWO_CLAUSES: [Instr; 24] = [
+    Instr::EnterTry(6),
+    Instr::LoadGlobal(0),
+    Instr::Discard,
+    Instr::LeaveBlock,
+    Instr::LoadGlobal(1),
+    Instr::Discard,
+    Instr::Jump(17),
+    Instr::LoadGlobal(2),
+    Instr::TestClause,
+    Instr::JumpIfFalse(10),
+    Instr::PushException,
+    Instr::StoreGlobal(3),
+    Instr::EnterFinally(3),
+    Instr::LoadGlobal(4),
+    Instr::Discard,
+    Instr::StartFinally,
+    Instr::UnbindGlobal(3),
+    Instr::EndFinally,
+    Instr::LeaveBlock,
+    Instr::Jump(4),
+    Instr::RaiseAgain,
+    Instr::LeaveBlock,
+    Instr::Jump(1),
+    Instr::RaiseAgain,
+];
+
+#[test]
+fn each_clause_leads_past_the_others(rt: HostRuntime) -> Result<(), Fail> {
+    let alloc = rt.alloc();
+    let again = (None, None, vec![in alloc; Stmt::Raise(None)]?);
+    let clauses = vec![in alloc; named_clause(alloc)?, again]?;
+    let tried = Stmt::Try(suite(alloc, "a")?, clauses, suite(alloc, "e")?);
+    assert!(rt; has_code(alloc, &[tried], &TWO_CLAUSES)?);
+    Ok(())
+}
+
+// `try: a`, `finally: b`
+#[test]
+fn a_finally_suite_is_there_once(rt: HostRuntime) -> Result<(), Fail> {
+    let alloc = rt.alloc();
+    let tried = Stmt::Finally(
+        suite(alloc, "a")?,
+        Vec::new(alloc),
+        Vec::new(alloc),
+        suite(alloc, "b")?,
+    );
+    let code = [
+        Instr::EnterFinally(3),
+        Instr::LoadGlobal(0),
+        Instr::Discard,
+        Instr::StartFinally,
+        Instr::LoadGlobal(1),
+        Instr::Discard,
+        Instr::EndFinally,
+    ];
+    assert!(rt; has_code(alloc, &[tried], &code)?);
     Ok(())
 }
 
@@ -229,6 +358,35 @@ fn operands_that_may_be_passed_over(rt: HostRuntime) -> Result<(), Fail> {
     Ok(())
 }
 
+// The code of `f`, of `g`, and of the statements, of the text below.
+const TWO_FUNCTIONS: [Instr; 25] = [
+    Instr::LoadLocal(0, 0),
+    Instr::StoreLocal(2),
+    Instr::LoadLocal(2, 1),
+    Instr::LoadGlobal(2),
+    Instr::Binary(BinaryOperator::Add),
+    Instr::Return,
+    Instr::PushNone,
+    Instr::Return,
+    Instr::PushNone,
+    Instr::Return,
+    Instr::PushInt(1),
+    Instr::StoreGlobal(2),
+    Instr::PushFunction(0, 0),
+    Instr::StoreGlobal(3),
+    Instr::LoadGlobal(3),
+    Instr::LoadGlobal(2),
+    Instr::PushInt(2),
+    Instr::CallByName(2),
+    Instr::Discard,
+    Instr::LoadGlobal(2),
+    Instr::JumpIfFalse(3),
+    Instr::PushFunction(1, 1),
+    Instr::StoreGlobal(4),
+    Instr::Jump(0),
+    Instr::Finish,
+];
+
 // A function of two parameters and one more local, which is called by position and by name, and one in a branch.
 #[test]
 fn functions_come_first(rt: HostRuntime) -> Result<(), Fail> {
@@ -237,35 +395,8 @@ fn functions_come_first(rt: HostRuntime) -> Result<(), Fail> {
     let tree = script(rt.alloc(), text)?;
     let mut table = CodeTable::new(rt.alloc());
     assert_eq!(rt; compile(&tree, &mut table)?, Entry { at: 10 });
-    let code = [
-        Instr::LoadLocal(0, 0),
-        Instr::StoreLocal(2),
-        Instr::LoadLocal(2, 1),
-        Instr::LoadGlobal(2),
-        Instr::Binary(BinaryOperator::Add),
-        Instr::Return,
-        Instr::PushNone,
-        Instr::Return,
-        Instr::PushNone,
-        Instr::Return,
-        Instr::PushInt(1),
-        Instr::StoreGlobal(2),
-        Instr::PushFunction(0, 0),
-        Instr::StoreGlobal(3),
-        Instr::LoadGlobal(3),
-        Instr::LoadGlobal(2),
-        Instr::PushInt(2),
-        Instr::CallByName(2),
-        Instr::Discard,
-        Instr::LoadGlobal(2),
-        Instr::JumpIfFalse(3),
-        Instr::PushFunction(1, 1),
-        Instr::StoreGlobal(4),
-        Instr::Jump(0),
-        Instr::Finish,
-    ];
-    assert_eq!(rt; table.len(), code.len());
-    for (at, instr) in code.iter().enumerate() {
+    assert_eq!(rt; table.len(), TWO_FUNCTIONS.len());
+    for (at, instr) in TWO_FUNCTIONS.iter().enumerate() {
         assert_eq!(rt; table.line(at), Some(*instr), "at {at}");
     }
     assert_eq!(rt; table.routines(), 2);

@@ -7,7 +7,7 @@ use Rattle.si_compile.proofs.Branches.{Linked, MakesAll-step, operand_due, opera
 use Rattle.si_compile.proofs.Forms.{boolean_gains, compare_gains, conditional_gains, front_stays}
 use Rattle.si_compile.proofs.Emitted.{unary_gains, binary_gains, call_gains, next_expr, last_expr}
 use Rattle.si_code.proofs.Growth.{Extends-trans}
-use Rattle.si_compile.proofs.emit.+exprs.Goals as goal
+use Rattle.si_compile.proofs.expression.+exprs.Goals as goal
 
 pub emit_expr-returns-in_ok-emit_expr-in-Unary-clause-ok : goal.emit_expr-returns-in_ok-emit_expr-in-Unary-clause-ok
 emit_expr-returns-in_ok-emit_expr-in-Unary-clause-ok t c =

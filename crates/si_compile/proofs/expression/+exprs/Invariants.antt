@@ -6,7 +6,7 @@ use Rattle.si_compile.specs.Code.{exprs_code, operands_code, chain_code}
 use Rattle.si_code.specs.Contents.{Contents, Extends}
 use Rattle.si_code.specs.Jumps.{Due}
 use Rattle.si_code.specs.Views.{Gains}
-use Rattle.si_compile.proofs.emit.+exprs.Given as goal
+use Rattle.si_compile.proofs.expression.+exprs.Given as goal
 
 -- with the code of the rest it is the code of all
 abbrev pub invariant-emit_exprs-loop-expr : goal.invariant-emit_exprs-loop-expr

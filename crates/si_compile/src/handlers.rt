@@ -1,0 +1,208 @@
+// The code of `try`.
+ghost use Rattle.std.specs.Prelude.{◌≡◌, ◌+◌, ◌≤◌, List, [], ◌∷◌, ◌++◌, length, map, string_bytes, IfOk, OnOk};
+ghost use Rattle.std.specs.Option.{option_map};
+ghost use Rattle.si_semantics.specs.Machine as machine;
+ghost use Rattle.si_semantics.specs.Scope.{place_of};
+ghost use Rattle.si_semantics.specs.Tree.{functions_in, functions_in_clauses, functions_of};
+ghost use Rattle.si_syntax.specs.Trees.{body_of, expr_of, stmt_of};
+ghost use Rattle.si_compile.specs.Code.{clauses_code, finally_code, named_code, stmt_code, stmts_code, store_code, unbind_code};
+ghost use Rattle.si_compile.specs.Jumps.{clause_front, clauses_in, only_finally, tried};
+ghost use Rattle.si_code.specs.Contents.{Contents, Extends};
+ghost use Rattle.si_code.specs.Views.{Gains};
+
+use crate::emit::{emit_store, emit_suite, emit_unbind};
+use crate::expression::emit_expr;
+use si_code::{CodeTable, Instr};
+use si_plain::{Names, NoMemory};
+use si_syntax::{Expr, Stmt};
+
+/// A `try` with a finally suite. Another statement has no code here.
+#[cycle(stmts)]
+pub(crate) fn emit_finally(
+    table: &mut CodeTable,
+    locals: &Names,
+    next: &mut u32,
+    stmt: &Stmt,
+) -> Result<(), NoMemory>
+    ensures ok { OnOk result (Gains table.old table.new (stmt_code locals.now next.old (only_finally (stmt_of stmt.now)))) }
+    ensures next { OnOk result (next.new ≡ next.old + length (functions_of (only_finally (stmt_of stmt.now)))) }
+    ensures extends { Extends table.old table.new }
+{
+    let Stmt::Finally(_, _, _, last) = stmt else {
+        return Ok(());
+    };
+    let enter = table.len();
+    table.put(Instr::EnterFinally(0))?;
+    emit_try(table, locals, next, stmt)?;
+    table.put(Instr::StartFinally)?;
+    table.aim(enter)?;
+    emit_suite(table, locals, next, last)?;
+    table.put(Instr::EndFinally)
+}
+
+/// A `try` without its finally suite: the suite, the except clauses where there are any, and the else suite. Another
+/// statement has none of these.
+#[cycle(stmts)]
+pub(crate) fn emit_try(
+    table: &mut CodeTable,
+    locals: &Names,
+    next: &mut u32,
+    stmt: &Stmt,
+) -> Result<(), NoMemory>
+    ensures ok { OnOk result (Gains table.old table.new (stmt_code locals.now next.old (tried (stmt_of stmt.now)))) }
+    ensures next { OnOk result (next.new ≡ next.old + length (functions_of (tried (stmt_of stmt.now)))) }
+    ensures extends { Extends table.old table.new }
+{
+    let (Stmt::Try(body, clauses, last) | Stmt::Finally(body, clauses, last, _)) = stmt else {
+        return Ok(());
+    };
+    if clauses.is_empty() {
+        emit_suite(table, locals, next, body)?;
+        return emit_suite(table, locals, next, last);
+    }
+    let enter = table.len();
+    table.put(Instr::EnterTry(0))?;
+    emit_suite(table, locals, next, body)?;
+    let skip = leave_try(table, enter)?;
+    emit_clauses(table, locals, next, stmt)?;
+    let end = table.len();
+    table.put(Instr::Jump(0))?;
+    table.aim(skip)?;
+    emit_suite(table, locals, next, last)?;
+    table.aim(end)
+}
+
+// The end of the suite of a `try` that was entered at this place, with the jump past the except clauses, which isn't aimed
+// yet. Says where it is. An exception leads to what follows.
+fn leave_try(table: &mut CodeTable, enter: usize) -> Result<usize, NoMemory>
+    ensures ok { OnOk result ((front : Contents) (before rest : List machine.Instr) → Gains front table.old (before ++ machine.EnterTry 0 ∷ rest) → enter ≡ length front.lines + length before
+        → Gains front table.new (before ++ (machine.EnterTry (length rest + 2) ∷ (rest ++ (machine.LeaveBlock ∷ (machine.Jump 0 ∷ [])))))) }
+    ensures at { IfOk result (λ at. at ≡ length table.old.lines + 1) }
+    ensures extends { (front : Contents) → length front.lines ≤ enter → Extends front table.old → Extends front table.new }
+{
+    table.put(Instr::LeaveBlock)?;
+    let skip = table.len();
+    table.put(Instr::Jump(0))?;
+    table.aim(enter)?;
+    Ok(skip)
+}
+
+// The except clauses of a `try`. Where none matches, the exception goes on: so it does where there is none.
+#[cycle(stmts)]
+fn emit_clauses(
+    table: &mut CodeTable,
+    locals: &Names,
+    next: &mut u32,
+    stmt: &Stmt,
+) -> Result<(), NoMemory>
+    ensures ok { OnOk result (Gains table.old table.new (clauses_code locals.now next.old (clauses_in (stmt_of stmt.now)))) }
+    ensures next { OnOk result (next.new ≡ next.old + length (functions_in_clauses (clauses_in (stmt_of stmt.now)))) }
+    ensures extends { Extends table.old table.new }
+{
+    let (Stmt::Try(_, clauses, _) | Stmt::Finally(_, clauses, _, _)) = stmt else {
+        return table.put(Instr::RaiseAgain);
+    };
+    let mut ends = Vec::new(table.allocator());
+    for (value, name, body) in clauses {
+        ends.push(emit_clause(table, locals, next, body, value, name)?)?;
+    }
+    table.put(Instr::RaiseAgain)?;
+    table.aim_all(&ends)
+}
+
+// An except clause: its test where it has an expression, its suite, and the jump behind that, which isn't aimed yet: it
+// leads past the clauses that follow. Says where it is.
+#[cycle(stmts)]
+fn emit_clause(
+    table: &mut CodeTable,
+    locals: &Names,
+    next: &mut u32,
+    body: &[Stmt],
+    value: &Option<Expr>,
+    name: &Option<String>,
+) -> Result<usize, NoMemory>
+    ensures ok { let suite = named_code locals.now (option_map string_bytes name.now) (stmts_code locals.now next.old (body_of body.now)) in
+        OnOk result (Gains table.old table.new (clause_front locals.now (option_map expr_of value.now) suite ++ machine.Jump 0 ∷ [])) }
+    ensures next { OnOk result (next.new ≡ next.old + length (functions_in (body_of body.now))) }
+    ensures at { IfOk result (λ at. at + 1 ≡ length table.new.lines) }
+    ensures extends { Extends table.old table.new }
+{
+    let Some(value) = value else {
+        return emit_handler(table, locals, next, body, name);
+    };
+    emit_expr(table, locals, value)?;
+    table.put(Instr::TestClause)?;
+    let skip = table.len();
+    table.put(Instr::JumpIfFalse(0))?;
+    let end = emit_handler(table, locals, next, body, name)?;
+    table.aim(skip)?;
+    Ok(end)
+}
+
+// The suite of an except clause, with a name for the exception or with none, and the jump behind it, which isn't aimed
+// yet. Says where that is.
+#[cycle(stmts)]
+fn emit_handler(
+    table: &mut CodeTable,
+    locals: &Names,
+    next: &mut u32,
+    body: &[Stmt],
+    name: &Option<String>,
+) -> Result<usize, NoMemory>
+    ensures ok { let suite = named_code locals.now (option_map string_bytes name.now) (stmts_code locals.now next.old (body_of body.now)) in
+        OnOk result (Gains table.old table.new (suite ++ (machine.LeaveBlock ∷ (machine.Jump 0 ∷ [])))) }
+    ensures next { OnOk result (next.new ≡ next.old + length (functions_in (body_of body.now))) }
+    ensures at { IfOk result (λ at. at + 1 ≡ length table.new.lines) }
+    ensures extends { Extends table.old table.new }
+{
+    let Some(name) = name else {
+        emit_suite(table, locals, next, body)?;
+        return leave_handler(table);
+    };
+    let enter = enter_named(table, locals, name.as_str())?;
+    emit_suite(table, locals, next, body)?;
+    leave_named(table, locals, name.as_str(), enter)?;
+    leave_handler(table)
+}
+
+// The end of an except clause's suite, and the jump behind it, which isn't aimed yet. Says where that is.
+fn leave_handler(table: &mut CodeTable) -> Result<usize, NoMemory>
+    ensures ok { OnOk result (Gains table.old table.new (machine.LeaveBlock ∷ (machine.Jump 0 ∷ []))) }
+    ensures at { IfOk result (λ at. at + 1 ≡ length table.new.lines) }
+    ensures extends { Extends table.old table.new }
+{
+    table.put(Instr::LeaveBlock)?;
+    let end = table.len();
+    table.put(Instr::Jump(0))?;
+    Ok(end)
+}
+
+// A name is bound to the exception, and a suite entered behind which it is unbound. Says where.
+fn enter_named(table: &mut CodeTable, locals: &Names, name: &str) -> Result<usize, NoMemory>
+    ensures ok { OnOk result (Gains table.old table.new (machine.PushException ∷ (store_code name.now (place_of name.now locals.now) ∷ (machine.EnterFinally 0 ∷ [])))) }
+    ensures at { IfOk result (λ at. at ≡ length table.old.lines + 2) }
+    ensures extends { Extends table.old table.new }
+{
+    table.put(Instr::PushException)?;
+    emit_store(table, locals, name)?;
+    let enter = table.len();
+    table.put(Instr::EnterFinally(0))?;
+    Ok(enter)
+}
+
+// The name is unbound behind the suite that was entered at this place, however that is left.
+fn leave_named(
+    table: &mut CodeTable,
+    locals: &Names,
+    name: &str,
+    enter: usize,
+) -> Result<(), NoMemory>
+    ensures ok { OnOk result ((front : Contents) (before body : List machine.Instr) → Gains front table.old (before ++ machine.EnterFinally 0 ∷ body) → enter ≡ length front.lines + length before
+        → Gains front table.new (before ++ finally_code body (unbind_code name.now (place_of name.now locals.now) ∷ []))) }
+    ensures extends { (front : Contents) → length front.lines ≤ enter → Extends front table.old → Extends front table.new }
+{
+    table.put(Instr::StartFinally)?;
+    table.aim(enter)?;
+    emit_unbind(table, locals, name)?;
+    table.put(Instr::EndFinally)
+}

@@ -1,0 +1,132 @@
+// The code of loops.
+ghost use Rattle.std.specs.Prelude.{◌≡◌, ◌+◌, ◌≤◌, List, [], ◌∷◌, ◌++◌, length, IfOk, OnOk};
+ghost use Rattle.si_semantics.specs.Machine as machine;
+ghost use Rattle.si_semantics.specs.Scope.{place_of};
+ghost use Rattle.si_semantics.specs.Tree.{functions_in, functions_of};
+ghost use Rattle.si_syntax.specs.Trees.{body_of, expr_of, stmt_of};
+ghost use Rattle.si_compile.specs.Code.{expr_code, stmt_code, stmts_code, store_code};
+ghost use Rattle.si_compile.specs.Jumps.{only_for, only_while, round_front, turn_front};
+ghost use Rattle.si_code.specs.Contents.{Contents, Extends};
+ghost use Rattle.si_code.specs.Views.{Gains};
+
+use crate::emit::{emit_store, emit_suite};
+use crate::expression::emit_expr;
+use si_code::{CodeTable, Instr};
+use si_plain::{Names, NoMemory};
+use si_syntax::{Expr, Stmt};
+
+/// A `while`. Another statement has no code here.
+#[cycle(stmts)]
+pub(crate) fn emit_while(
+    table: &mut CodeTable,
+    locals: &Names,
+    next: &mut u32,
+    stmt: &Stmt,
+) -> Result<(), NoMemory>
+    ensures ok { OnOk result (Gains table.old table.new (stmt_code locals.now next.old (only_while (stmt_of stmt.now)))) }
+    ensures next { OnOk result (next.new ≡ next.old + length (functions_of (only_while (stmt_of stmt.now)))) }
+    ensures extends { Extends table.old table.new }
+{
+    let Stmt::While(test, body, last) = stmt else {
+        return Ok(());
+    };
+    let enter = emit_turn(table, locals, next, body, test)?;
+    emit_suite(table, locals, next, last)?;
+    table.aim(enter)
+}
+
+// A `while` up to its else suite, to which a test leads that isn't true. Says where the suite is entered: where `break`
+// leads to isn't known yet.
+#[cycle(stmts)]
+fn emit_turn(
+    table: &mut CodeTable,
+    locals: &Names,
+    next: &mut u32,
+    body: &[Stmt],
+    test: &Expr,
+) -> Result<usize, NoMemory>
+    ensures ok { let suite = stmts_code locals.now next.old (body_of body.now) in
+        OnOk result (Gains table.old table.new (turn_front (expr_code locals.now (expr_of test.now)) suite)) }
+    ensures next { OnOk result (next.new ≡ next.old + length (functions_in (body_of body.now))) }
+    ensures at { IfOk result (λ at. at ≡ length table.old.lines + length (expr_code locals.now (expr_of test.now)) + 1) }
+    ensures extends { Extends table.old table.new }
+{
+    let start = table.len();
+    emit_expr(table, locals, test)?;
+    let skip = table.len();
+    table.put(Instr::JumpIfFalse(0))?;
+    let enter = table.len();
+    table.put_enter(start)?;
+    emit_suite(table, locals, next, body)?;
+    table.put(Instr::Continue)?;
+    table.aim(skip)?;
+    Ok(enter)
+}
+
+/// A `for`. Another statement has no code here.
+#[cycle(stmts)]
+pub(crate) fn emit_for(
+    table: &mut CodeTable,
+    locals: &Names,
+    next: &mut u32,
+    stmt: &Stmt,
+) -> Result<(), NoMemory>
+    ensures ok { OnOk result (Gains table.old table.new (stmt_code locals.now next.old (only_for (stmt_of stmt.now)))) }
+    ensures next { OnOk result (next.new ≡ next.old + length (functions_of (only_for (stmt_of stmt.now)))) }
+    ensures extends { Extends table.old table.new }
+{
+    let Stmt::For(name, items, body, last) = stmt else {
+        return Ok(());
+    };
+    emit_items(table, locals, items)?;
+    let enter = emit_round(table, locals, next, name.as_str(), body)?;
+    emit_suite(table, locals, next, last)?;
+    emit_last_round(table, enter)
+}
+
+// What a `for` goes over, and its start.
+fn emit_items(table: &mut CodeTable, locals: &Names, items: &Expr) -> Result<(), NoMemory>
+    ensures ok { OnOk result (Gains table.old table.new (expr_code locals.now (expr_of items.now) ++ machine.StartFor ∷ [])) }
+    ensures extends { Extends table.old table.new }
+{
+    emit_expr(table, locals, items)?;
+    table.put(Instr::StartFor)
+}
+
+// A `for` from the binding of its target to the next item up to its else suite, to which the end of the items leads. Says
+// where the suite is entered: where `break` leads to isn't known yet.
+#[cycle(stmts)]
+fn emit_round(
+    table: &mut CodeTable,
+    locals: &Names,
+    next: &mut u32,
+    name: &str,
+    body: &[Stmt],
+) -> Result<usize, NoMemory>
+    ensures ok { let suite = stmts_code locals.now next.old (body_of body.now) in
+        OnOk result (Gains table.old table.new (round_front (store_code name.now (place_of name.now locals.now)) suite)) }
+    ensures next { OnOk result (next.new ≡ next.old + length (functions_in (body_of body.now))) }
+    ensures at { IfOk result (λ at. at ≡ length table.old.lines + 2) }
+    ensures extends { Extends table.old table.new }
+{
+    let skip = table.len();
+    table.put(Instr::NextItem(0))?;
+    emit_store(table, locals, name)?;
+    let enter = table.len();
+    table.put(Instr::EnterLoop(3, 0))?;
+    emit_suite(table, locals, next, body)?;
+    table.put(Instr::Continue)?;
+    table.aim(skip)?;
+    Ok(enter)
+}
+
+// The end of a `for` whose suite is entered at this place: `break` leads to the last instruction, which lets the items go.
+fn emit_last_round(table: &mut CodeTable, enter: usize) -> Result<(), NoMemory>
+    ensures ok { OnOk result ((front : Contents) (before rest : List machine.Instr) → Gains front table.old (before ++ machine.EnterLoop 3 0 ∷ rest) → enter ≡ length front.lines + length before
+        → Gains front table.new (before ++ (machine.EnterLoop 3 (length rest + 1) ∷ (rest ++ (machine.Jump 1 ∷ (machine.LeaveBlock ∷ [])))))) }
+    ensures extends { (front : Contents) → length front.lines ≤ enter → Extends front table.old → Extends front table.new }
+{
+    table.put(Instr::Jump(1))?;
+    table.aim(enter)?;
+    table.put(Instr::LeaveBlock)
+}
