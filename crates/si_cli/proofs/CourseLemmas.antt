@@ -4,11 +4,11 @@ use Rattle.std.proofs.lemmas.Str.{chars-nil, chars_from_encodes, encodes-append,
 use Rattle.si_semantics.specs.Value.{Text, Value, Function}
 use Rattle.si_semantics.specs.Tree.{Module}
 use Rattle.si_semantics.specs.World.{Answer, Asked, Gave, Ran, Threw, World, first_world}
-use Rattle.si_semantics.specs.Meaning.{choose, decides, entered, max_calls, slot_at}
-use Rattle.si_semantics.specs.Operations.{call_by_name, call_provided, compare, is_true, load_global, load_local, not_callable, operate, operate_unary, too_deep, wrong_arguments}
+use Rattle.si_semantics.specs.Meaning.{Leave, choose, decides, entered, max_calls, slot_at}
+use Rattle.si_semantics.specs.Operations.{Iterator, call_by_name, call_provided, catches, compare, is_true, iterator_of, load_global, load_local, next_item, not_callable, operate, operate_unary, too_deep, wrong_arguments}
 use Rattle.si_semantics.specs.Life as life
 use Rattle.si_semantics.specs.Life.{not_read}
-use Rattle.si_semantics.specs.Machine.{At, Block, Calling, Closed, Course, Ending, Entry, Frame, Instr, LoadGlobal, LoadLocal, ApplyUnary, ApplyBinary, ApplyComparison, EndChain, JumpOrDiscard, JumpIfFalse, CallTop, CallByName, Line, Place, Stamped, Table, Taking, act, calls, depth, enters, fetched, goes, next, on, on_callee, stamped, start, stuck, yields}
+use Rattle.si_semantics.specs.Machine.{At, Block, Calling, Closed, Course, Ending, Entry, Each, Catch, Final, Pending, Handling, Frame, Instr, LoadGlobal, LoadLocal, ApplyUnary, ApplyBinary, ApplyComparison, EndChain, JumpOrDiscard, JumpIfFalse, CallTop, CallByName, StartFor, NextItem, LeaveBlock, StartFinally, EndFinally, TestClause, PushException, Line, Place, Stamped, Table, Taking, act, calls, depth, ends_finally, enters, fetched, gives_item, goes, next, on, on_callee, stamped, start, starts_for, stuck, yields}
 use Rattle.si_semantics.specs.Shows.{joined, standing_of, texts}
 use Rattle.si_compile.specs.Code.{compiled}
 use Rattle.si_compile.specs.Correct.{run_at}
@@ -85,6 +85,61 @@ unfolding IsQuiet
 goes_quietly true p q w = λ o e. refl
 goes_quietly false p q w = λ o e. refl
 
+-- the lines of what a `for` goes over, and of a finally suite's end
+starts_quietly : (items : Option Iterator) (next : ℕ) (ops : List Value) (slots : List (Option Value)) (bs : List Block) (w : World) → IsQuiet (starts_for items next ops slots bs w)
+unfolding IsQuiet
+starts_quietly None next ops slots bs w = λ o e. refl
+starts_quietly (Some it) next ops slots bs w = λ o e. refl
+
+gives_quietly : (p : Option (Value × Iterator)) (next out : ℕ) (ops : List Value) (slots : List (Option Value)) (bs : List Block) (w : World) → IsQuiet (gives_item p next out ops slots bs w)
+unfolding IsQuiet
+gives_quietly None next out ops slots bs w = λ o e. refl
+gives_quietly (Some p) next out ops slots bs w = λ o e. refl
+
+ends_quietly : (p : Option Leave) (next : ℕ) (ops : List Value) (slots : List (Option Value)) (bs : List Block) (w : World) → IsQuiet (ends_finally p next ops slots bs w)
+unfolding IsQuiet
+ends_quietly None next ops slots bs w = λ o e. refl
+ends_quietly (Some p) next ops slots bs w = λ o e. refl
+
+-- the lines that look at the innermost block
+item_quietly : (es : List Entry) (n next : ℕ) (ops : List Value) (slots : List (Option Value)) (bs : List Block) (w : World) → IsQuiet (act es (NextItem n) next ops slots bs w)
+unfolding IsQuiet
+item_quietly es n next ops slots [] w = λ o e. refl
+item_quietly es n next ops slots (Each it ∷ bs) w = gives_quietly (next_item it) next (next + n) ops slots bs w
+item_quietly es n next ops slots (_ ∷ bs) w = λ o e. refl
+
+left_quietly : (es : List Entry) (next : ℕ) (ops : List Value) (slots : List (Option Value)) (bs : List Block) (w : World) → IsQuiet (act es LeaveBlock next ops slots bs w)
+unfolding IsQuiet
+left_quietly es next ops slots [] w = λ o e. refl
+left_quietly es next ops slots (Each it ∷ bs) w = λ o e. refl
+left_quietly es next ops slots (Catch clauses ∷ bs) w = λ o e. refl
+left_quietly es next ops slots (Handling x ∷ bs) w = λ o e. refl
+left_quietly es next ops slots (_ ∷ bs) w = λ o e. refl
+
+started_quietly : (es : List Entry) (next : ℕ) (ops : List Value) (slots : List (Option Value)) (bs : List Block) (w : World) → IsQuiet (act es StartFinally next ops slots bs w)
+unfolding IsQuiet
+started_quietly es next ops slots [] w = λ o e. refl
+started_quietly es next ops slots (Final suite ∷ bs) w = λ o e. refl
+started_quietly es next ops slots (_ ∷ bs) w = λ o e. refl
+
+ended_quietly : (es : List Entry) (next : ℕ) (ops : List Value) (slots : List (Option Value)) (bs : List Block) (w : World) → IsQuiet (act es EndFinally next ops slots bs w)
+unfolding IsQuiet
+ended_quietly es next ops slots [] w = λ o e. refl
+ended_quietly es next ops slots (Pending p ∷ bs) w = ends_quietly p next ops slots bs w
+ended_quietly es next ops slots (_ ∷ bs) w = λ o e. refl
+
+tested_quietly : (es : List Entry) (next : ℕ) (v : Value) (ops : List Value) (slots : List (Option Value)) (bs : List Block) (w : World) → IsQuiet (act es TestClause next (v ∷ ops) slots bs w)
+unfolding IsQuiet
+tested_quietly es next v ops slots [] w = λ o e. refl
+tested_quietly es next v ops slots (Handling x ∷ bs) w = λ o e. yields_quietly (catches v x w) next ops slots (Handling x ∷ bs) o e
+tested_quietly es next v ops slots (_ ∷ bs) w = λ o e. refl
+
+pushed_quietly : (es : List Entry) (next : ℕ) (ops : List Value) (slots : List (Option Value)) (bs : List Block) (w : World) → IsQuiet (act es PushException next ops slots bs w)
+unfolding IsQuiet
+pushed_quietly es next ops slots [] w = λ o e. refl
+pushed_quietly es next ops slots (Handling x ∷ bs) w = λ o e. refl
+pushed_quietly es next ops slots (_ ∷ bs) w = λ o e. refl
+
 acts_quietly : (es : List Entry) (i : Instr) (next : ℕ) (ops : List Value) (slots : List (Option Value)) (bs : List Block) (w : World) → IsQuiet (act es i next ops slots bs w)
 unfolding IsQuiet
 acts_quietly es (LoadGlobal x) next ops slots bs w = λ o e. yields_quietly (load_global x w) next ops slots bs o e
@@ -97,6 +152,13 @@ acts_quietly es (JumpIfFalse n) next (v ∷ ops) slots bs w = goes_quietly (is_t
 acts_quietly es (CallTop n) next ops slots bs w = callee_quietly (drop n ops) _ w (λ f rest. calls_quietly es f (reverse (take n ops)) next rest slots bs w)
 acts_quietly es (CallByName n) next ops slots bs w = callee_quietly (drop n ops) _ w (λ f rest. yields_quietly (call_by_name f w) next rest slots bs)
 acts_quietly es (LoadLocal x k) next ops slots bs w = λ o e. yields_quietly (load_local x (slot_at k slots) w) next ops slots bs o e
+acts_quietly es StartFor next (v ∷ ops) slots bs w = starts_quietly (iterator_of v) next ops slots bs w
+acts_quietly es (NextItem n) next ops slots bs w = item_quietly es n next ops slots bs w
+acts_quietly es LeaveBlock next ops slots bs w = left_quietly es next ops slots bs w
+acts_quietly es StartFinally next ops slots bs w = started_quietly es next ops slots bs w
+acts_quietly es EndFinally next ops slots bs w = ended_quietly es next ops slots bs w
+acts_quietly es TestClause next (v ∷ ops) slots bs w = tested_quietly es next v ops slots bs w
+acts_quietly es PushException next ops slots bs w = pushed_quietly es next ops slots bs w
 acts_quietly es _ next [] slots bs w = λ o e. refl
 acts_quietly es _ next (v ∷ []) slots bs w = λ o e. refl
 acts_quietly es _ next (v ∷ u ∷ ops) slots bs w = λ o e. refl

@@ -235,9 +235,17 @@ fn fault_of(alloc: Global, words: &[&str]) -> Result<WordsFault, Fail> {
     }
 }
 
+// Whether words are refused with this message, and the status 2.
+fn are_refused(alloc: Global, words: &[&str], message: &str) -> Result<bool, Fail> {
+    let fault = fault_of(alloc, words)?;
+    let told =
+        matches!(&fault, WordsFault::Words { help: false, text } if text.as_str() == message);
+    Ok(told && fault.status() == 2)
+}
+
 #[test]
-fn words_that_are_refused(rt: HostRuntime) -> Result<(), Fail> {
-    let cases: [(&[&str], &str); 9] = [
+fn turns_that_are_refused(rt: HostRuntime) -> Result<(), Fail> {
+    let cases: [(&[&str], &str); 3] = [
         (
             &["subpy", "serial", "--turns", "0"],
             "--turns takes a whole number from 1 to 1099511627776, not \"0\"",
@@ -250,18 +258,23 @@ fn words_that_are_refused(rt: HostRuntime) -> Result<(), Fail> {
             &["subpy", "serial", "--turns", "1e3"],
             "--turns takes a whole number from 1 to 1099511627776, not \"1e3\"",
         ),
+    ];
+    for (words, message) in cases {
+        assert!(rt; are_refused(rt.alloc(), words, message)?);
+    }
+    Ok(())
+}
+
+#[test]
+fn words_that_are_refused(rt: HostRuntime) -> Result<(), Fail> {
+    let none = "there is no command \"run\"; 'subpy --help' lists them";
+    let cases: [(&[&str], &str); 6] = [
         (
             &["subpy"],
             "no command is named; 'subpy --help' lists the commands",
         ),
-        (
-            &["subpy", "run"],
-            "there is no command \"run\"; 'subpy --help' lists them",
-        ),
-        (
-            &["subpy", "help", "run"],
-            "there is no command \"run\"; 'subpy --help' lists them",
-        ),
+        (&["subpy", "run"], none),
+        (&["subpy", "help", "run"], none),
         (
             &["subpy", "serial", "--x"],
             "unexpected argument '--x' found",
@@ -276,11 +289,7 @@ fn words_that_are_refused(rt: HostRuntime) -> Result<(), Fail> {
         ),
     ];
     for (words, message) in cases {
-        let fault = fault_of(rt.alloc(), words)?;
-        assert_eq!(rt; fault.status(), 2);
-        assert!(rt;
-            matches!(&fault, WordsFault::Words { help: false, text } if text.as_str() == message)
-        );
+        assert!(rt; are_refused(rt.alloc(), words, message)?);
     }
     Ok(())
 }

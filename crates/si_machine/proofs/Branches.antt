@@ -14,13 +14,12 @@ use Rattle.si_machine.specs.declared.value.Value.{Value}
 use Rattle.si_machine.specs.declared.value.Value.TheVariants as value
 use Rattle.si_machine.specs.declared.state.Standing.TheVariants as standing
 use Rattle.si_machine.specs.declared.state.State.{State}
-use Rattle.si_machine.specs.declared.step.Outcome.TheVariants.{Returned}
 use Rattle.si_machine.specs.declared.step.Step.{Step}
 use Rattle.si_machine.specs.declared.step.Step.TheVariants.{Local, Ended}
 use Rattle.si_machine.specs.Values.{value_of, Fits}
 use Rattle.si_machine.specs.Causes.{threw}
-use Rattle.si_machine.specs.States.{AreSound, IsSound, IsOpen, Did, calls_in, blocks_with, blocks_of, slots_of, world_of, line_of, with_operands, at_rest, IsRaised}
-use Rattle.si_machine.proofs.Lines.{line_on, at_line, moved, placed_did, moved_did, advanced_did, raised_did, finished_did}
+use Rattle.si_machine.specs.States.{AreSound, IsSound, IsOpen, Did, FitsBlock, calls_in, blocks_with, blocks_of, slots_of, world_of, line_of, with_operands, IsRaised}
+use Rattle.si_machine.proofs.Lines.{line_on, at_line, moved, placed_did, moved_did, advanced_did, raised_did}
 
 -- what holds of all operands holds of those below the topmost, and of the topmost
 module _ (old : State) (h : IsSound old) where
@@ -168,7 +167,7 @@ enter_did back ahead start after old new h run s a e =
     let k = h.stacks in
     let stacks : AreSound (length old.texts) old.operands old.slots (block.Loop (old.pc + 1 - back) (old.pc + 1 + ahead) ∷ old.blocks) =
     record { here = k.here; below = k.below; locals = k.locals; callers = k.callers; operands_each = k.operands_each; locals_each = k.locals_each } in
-    placed_did (old.pc + 1) old.operands old.slots (block.Loop (old.pc + 1 - back) (old.pc + 1 + ahead) ∷ old.blocks) old new h run stacks
+    placed_did (old.pc + 1) old.operands old.slots (block.Loop (old.pc + 1 - back) (old.pc + 1 + ahead) ∷ old.blocks) old new h run stacks (All-cons (FitsBlock old.texts) (block.Loop (old.pc + 1 - back) (old.pc + 1 + ahead)) old.blocks tt h.blocks)
     (e ∙ ap (λ x. make x after) s ∙ ap (λ y. make (old.pc + 1 - back) y) a)
 
 -- to an end of a loop that is left
@@ -183,7 +182,8 @@ left_did start after next rest old new h run top e =
       operands_each = k.operands_each ∙ ap calls_in top;
       locals_each = k.locals_each ∙ ap calls_in top;
     } in
-    placed_did next (with_operands [] old.operands) old.slots rest old new h run stacks e
+    let B : List Block → Type 0 = λ bs. All (FitsBlock old.texts) bs in
+    placed_did next (with_operands [] old.operands) old.slots rest old new h run stacks (All-tail (FitsBlock old.texts) (block.Loop start after) rest (subst B top h.blocks)) e
 
 pub break_did : (start after : ℕ) (rest : List Block) (old new : State) → IsSound old → old.standing ≡ standing.Running → old.blocks ≡ block.Loop start after ∷ rest → new ≡ record old { pc = after; operands = with_operands [] old.operands; blocks = rest } → Did (line_of DoBreak old) old new Local
 break_did start after rest old new h run top e =
@@ -200,14 +200,3 @@ pub returned : (l : Line) (old new : State) (r : Step) → r ≡ Ended → Did l
 returned l old new r e h =
     let P : Step → Type 0 = λ x. Did l old new x in
     subst P (sym e) h
-
--- outside a loop the run ends
-pub break_ends : (old new : State) → IsSound old → old.blocks ≡ [] → new ≡ at_rest Returned old → Did (line_of DoBreak old) old new Ended
-break_ends old new h none e =
-    let P : Line → Type 0 = λ l. Did l old new Ended in
-    subst P (sym (ap (λ bs. goes (leave Breaks (world_of old) (slots_of old) (blocks_with old.texts bs old.operands.below old.slots.below)) (world_of old)) none)) (finished_did old new h e)
-
-pub continue_ends : (old new : State) → IsSound old → old.blocks ≡ [] → new ≡ at_rest Returned old → Did (line_of DoContinue old) old new Ended
-continue_ends old new h none e =
-    let P : Line → Type 0 = λ l. Did l old new Ended in
-    subst P (sym (ap (λ bs. goes (leave Continues (world_of old) (slots_of old) (blocks_with old.texts bs old.operands.below old.slots.below)) (world_of old)) none)) (finished_did old new h e)

@@ -1,23 +1,21 @@
 -- Calls, returns and locals: which line a step does.
-use Rattle.std.proofs.Common.{◌≡◌, ◌≢◌, ℕ, zero, suc, ◌+◌, ◌-◌, ◌<◌, ◌≤◌, List, [], ◌∷◌, ◌++◌, length, map, take, drop, Option, Some, None, All, string_bytes, refl, sym, ap, subst, ◌∙◌, arith, Bool, true, false, cond, slice_get, slice_set, nat_lt, nat_eq, eq-eqb, ne_eqb, le-ltb, lt-ltb, option_map, length-drop}
+use Rattle.std.proofs.Common.{◌≡◌, ◌≢◌, ℕ, zero, suc, ◌+◌, ◌-◌, ◌<◌, ◌≤◌, List, [], ◌∷◌, ◌++◌, length, map, take, drop, Option, Some, None, All, string_bytes, refl, sym, ap, subst, ◌∙◌, arith, Bool, true, false, cond, slice_get, slice_set, nat_lt, Ok, nat_eq, eq-eqb, ne_eqb, le-ltb, lt-ltb, option_map, length-drop}
 use Rattle.std.proofs.lemmas.List.{map-set, length-map, length-reverse, length-take-le, map-append, reverse-append, drop_all}
 use Rattle.std.proofs.lemmas.Option.{slice_get-map}
 use Rattle.std.specs.Prelude.{reverse, encode_utf8_all}
 use Rattle.std.proofs.lemmas.List.Elements.{All-nil, All-cons, All-append, All-drop, All-take, All-tail, All-head, All-set}
 use Rattle.si_semantics.specs.Value as pure
 use Rattle.si_semantics.specs.Text.{max_length, line_of as text_line}
-use Rattle.si_semantics.specs.World.{World}
-use Rattle.si_semantics.specs.Life as life
-use Rattle.si_semantics.specs.Operations.{refused, too_long, load_local, call_by_name, wrong_arguments, too_deep}
+use Rattle.si_semantics.specs.World.{World, Gave}
+use Rattle.si_semantics.specs.Operations.{refused, too_long, load_local, call_by_name, wrong_arguments, too_deep, printing}
 use Rattle.si_semantics.specs.Meaning as meaning
-use Rattle.si_semantics.specs.Meaning.{Returns, Breaks, Continues, slot_at, choose, max_calls}
+use Rattle.si_semantics.specs.Meaning.{Returns, slot_at, choose, max_calls}
 use Rattle.si_semantics.specs.Machine as machine
-use Rattle.si_semantics.specs.Machine.{leave, depth, calls, enters, CallTop, CallByName, DoReturn, DoBreak, DoContinue, LoadLocal, StoreLocal, on_callee, At, Ending, Line, Entry, Place, goes, yields, stuck}
+use Rattle.si_semantics.specs.Machine.{leave, depth, calls, enters, CallTop, CallByName, DoReturn, LoadLocal, StoreLocal, UnbindLocal, on_callee, At, Ending, Line, Entry, Place, goes, yields, stuck}
 use Rattle.si_code.specs.Views.{text_at, entry_of, entries_of}
 use Rattle.si_code.specs.declared.routine.Routine.{Routine}
 use Rattle.si_machine.specs.declared.value.Value.{Value}
 use Rattle.si_machine.specs.declared.value.Value.TheVariants as value
-use Rattle.si_machine.specs.declared.value.BuiltIn.{BuiltIn}
 use Rattle.si_machine.specs.declared.value.BuiltIn.TheVariants.{Print}
 use Rattle.si_machine.specs.declared.blocks.Block.{Block}
 use Rattle.si_machine.specs.declared.blocks.Block.TheVariants as block
@@ -26,15 +24,14 @@ use Rattle.si_machine.specs.declared.cause.Cause.TheVariants.{TooLong, NotBound,
 use Rattle.si_plain.specs.declared.kind.Kind.TheVariants.{UnboundLocalError}
 use Rattle.si_machine.specs.declared.state.Standing.TheVariants as standing
 use Rattle.si_machine.specs.declared.state.State.{State}
-use Rattle.si_machine.specs.declared.step.Outcome.TheVariants.{Returned}
 use Rattle.si_machine.specs.declared.step.Step.{Step}
 use Rattle.si_machine.specs.declared.step.Step.TheVariants.{Local, Ended, Starved}
-use Rattle.si_machine.specs.Values.{value_of, Fits}
+use Rattle.si_machine.specs.Values.{value_of, bound_of, Fits, FitsBound}
 use Rattle.si_machine.specs.Causes.{threw, not_bound, not_bound_cause}
-use Rattle.si_machine.specs.Stacks.{OperandsSeen, SlotsSeen, back_with, back, slot_in, unbound, passed, entered, behind_call}
-use Rattle.si_machine.specs.States.{AreSound, IsSound, IsOpen, Did, place_in, innermost, local_of, blocks_with, blocks_of, slots_of, world_of, line_of, FitsLocal, calls_in, with_operands, at_rest, back_at, IsRaised, IsPushed, IsPrinted, IsCallee, IsEntered, entered_operands, entered_slots}
+use Rattle.si_machine.specs.Stacks.{OperandsSeen, SlotsSeen, back_with, back, left_by, slot_in, unbound, passed, entered}
+use Rattle.si_machine.specs.States.{AreSound, IsSound, IsOpen, Did, place_in, innermost, blocks_with, blocks_of, slots_of, world_of, line_of, FitsBlock, calls_in, with_operands, back_at, IsRaised, IsPushed, IsPrinted, IsCallee, IsEntered, entered_operands, entered_slots}
 use Rattle.si_machine.proofs.Growth.{All-innermost}
-use Rattle.si_machine.proofs.Lines.{line_on, yields_on, moved, with_here, starved_did, placed_did, pushed_did, raised_did, finished_did}
+use Rattle.si_machine.proofs.Lines.{line_on, yields_on, moved, with_here, starved_did, placed_did, pushed_did, raised_did}
 
 -- a call's line
 drop_map : {A B : Type 0} (f : A → B) (n : ℕ) (xs : List A) → drop n (map f xs) ≡ map f (drop n xs)
@@ -53,10 +50,10 @@ reverse_map f (x ∷ xs) =
     reverse-append (f x ∷ []) (map f xs) ∙ ap (λ l. l ++ f x ∷ []) (reverse_map f xs) ∙ sym (map-append f (reverse xs) (x ∷ [])) ∙ ap (map f) (sym (reverse-append (x ∷ []) xs))
 
 -- the line of a call on these operands
-abbrev calls_on : Value → List Value → State → List Value → Line
+abbrev pub calls_on : Value → List Value → State → List Value → Line
 calls_on f args s rest = calls (entries_of s.table) (value_of s.texts f) (map (value_of s.texts) args) (s.pc + 1) (map (value_of s.texts) rest) (slots_of s) (blocks_of s) (world_of s)
 
-call_line : (n : ℕ) (f : Value) (args : List Value) (s : State) → drop n s.operands.here ≡ f ∷ drop (n + 1) s.operands.here → args ≡ reverse (take n s.operands.here) → line_of (CallTop n) s ≡ calls_on f args s (drop (n + 1) s.operands.here)
+pub call_line : (n : ℕ) (f : Value) (args : List Value) (s : State) → drop n s.operands.here ≡ f ∷ drop (n + 1) s.operands.here → args ≡ reverse (take n s.operands.here) → line_of (CallTop n) s ≡ calls_on f args s (drop (n + 1) s.operands.here)
 call_line n f args s top args_are =
     let g = value_of s.texts in
     let es = entries_of s.table in
@@ -66,7 +63,7 @@ call_line n f args s top args_are =
     ∙ ap (λ vs. calls es (g f) vs (s.pc + 1) (map g (drop (n + 1) s.operands.here)) (slots_of s) (blocks_of s) w) given
 
 -- a call that raises an exception
-call_refused : (cause : Cause) (n : ℕ) (f : Value) (args : List Value) (old new : State) (r : Step) → IsSound old → drop n old.operands.here ≡ f ∷ drop (n + 1) old.operands.here → args ≡ reverse (take n old.operands.here) → calls_on f args old (drop (n + 1) old.operands.here) ≡ yields_on (threw old.table.names cause (world_of old)) old (drop (n + 1) old.operands.here) → IsRaised cause old new r → Did (line_of (CallTop n) old) old new r
+pub call_refused : (cause : Cause) (n : ℕ) (f : Value) (args : List Value) (old new : State) (r : Step) → IsSound old → drop n old.operands.here ≡ f ∷ drop (n + 1) old.operands.here → args ≡ reverse (take n old.operands.here) → calls_on f args old (drop (n + 1) old.operands.here) ≡ yields_on (threw old.table.names cause (world_of old)) old (drop (n + 1) old.operands.here) → IsRaised cause old new r → Did (line_of (CallTop n) old) old new r
 call_refused cause n f args old new r h top args_are gives e =
     let P : Line → Type 0 = λ l. Did l old new r in
     subst P (sym (call_line n f args old top args_are ∙ gives)) (raised_did cause (drop (n + 1) old.operands.here) old new r h e)
@@ -84,59 +81,54 @@ call_lacks n s few h =
     h (ap (λ vs. (on_callee vs (λ u rest. calls (entries_of s.table) u (reverse (take n (map g s.operands.here))) (s.pc + 1) rest (slots_of s) (blocks_of s) w) (stuck w)).place) none)
 
 -- a line is printed
-pub print_did : (n : ℕ) (args : List Value) (old mid new : State) (r : Step) → IsSound old → old.standing ≡ standing.Running → drop n old.operands.here ≡ value.BuiltIn Print ∷ drop (n + 1) old.operands.here → args ≡ reverse (take n old.operands.here) → mid ≡ record old { line = mid.line } → string_bytes mid.line ≡ encode_utf8_all (text_line (map (value_of old.texts) args)) → IsPrinted n mid new r → Did (line_of (CallTop n) old) old new r
-print_did n args old mid new Ended h run top args_are m line e = absurd e
-print_did n args old mid new Starved h run top args_are m line e =
-    let P : State → Type 0 = λ s. (s ≡ record old { standing = standing.Starved; line = s.line; printed = s.printed }) × (string_bytes s.printed ≡ string_bytes old.printed) in
+pub print_did : (t : pure.Text) (n : ℕ) (args : List Value) (old mid new : State) (r : Step) → IsSound old → old.standing ≡ standing.Running → drop n old.operands.here ≡ value.BuiltIn Print ∷ drop (n + 1) old.operands.here → args ≡ reverse (take n old.operands.here) → mid ≡ record old { line = mid.line } → text_line (world_of old).store (map (value_of old.texts) args) ≡ Ok t → string_bytes mid.line ≡ encode_utf8_all t → IsPrinted n mid new r → Did (line_of (CallTop n) old) old new r
+print_did t n args old mid new Ended h run top args_are m written line e = absurd e
+print_did t n args old mid new Starved h run top args_are m written line e =
     let M : State → Type 0 = λ s. (new ≡ record s { standing = standing.Starved; printed = new.printed }) × (string_bytes new.printed ≡ string_bytes s.printed) in
     let k = subst M m e in
-    (k.0 ∙ ap (λ l. let s : State = record old { standing = standing.Starved; line = l; printed = new.printed } in s) (sym (ap (λ s. s.line) k.0)), k.1)
-print_did n args old mid new Local h run top args_are m line e =
+    (k.0 ∙ ap (λ l. let s : State = record old { standing = standing.Starved; line = l; printed = new.printed } in s) (sym (ap (λ s. s.line) k.0)) ∙ ap (λ l. let s : State = record old { standing = standing.Starved; line = new.line; printed = new.printed; store = l } in s) (sym (ap (λ s. s.store) k.0)), k.1, ap (λ (s : State). s.store.items) k.0)
+print_did t n args old mid new Local h run top args_are m written line e =
     let g = value_of old.texts in
     let rest = drop (n + 1) old.operands.here in
-    let t = text_line (map g args) in
-    let l = calls_on (value.BuiltIn Print) args old rest in
+    let l = yields_on (Gave pure.Nothing (Some t) (world_of old)) old rest in
     let M : State → Type 0 = λ s. (new ≡ record (moved (s.pc + 1) (value.None ∷ drop (n + 1) s.operands.here) s) { printed = new.printed }) × (string_bytes new.printed ≡ string_bytes s.printed ++ string_bytes mid.line) in
     let k = subst M m e in
     let F = Fits (length old.texts) in
     let P : State → Type 0 = λ s. string_bytes s.printed ≡ string_bytes old.printed ++ encode_utf8_all t → Did l old s Local in
     let Q : Line → Type 0 = λ x. Did x old new Local in
-    subst Q (sym (call_line n (value.BuiltIn Print) args old top args_are))
+    subst Q (sym (call_line n (value.BuiltIn Print) args old top args_are ∙ ap (λ x. yields_on (printing x (world_of old)) old rest) written))
     (subst P (sym k.0) (λ bytes. (
       record {
         place = ap (λ st. place_in st (old.pc + 1) (pure.Nothing ∷ map g rest) (slots_of old) (blocks_of old)) (sym run);
         world = refl;
         printed = bytes;
         code = refl;
-        sound = record { stacks = with_here (length old.texts) (value.None ∷ rest) old h.stacks (All-cons F value.None rest tt (All-drop F (n + 1) old.operands.here h.stacks.here)); globals = h.globals; literals = h.literals; slots = h.slots; short = h.short };
+        sound = record { stacks = with_here (length old.texts) (value.None ∷ rest) old h.stacks (All-cons F value.None rest tt (All-drop F (n + 1) old.operands.here h.stacks.here)); blocks = h.blocks; globals = h.globals; store = h.store; literals = h.literals; slots = h.slots; built_ins = h.built_ins; short = h.short };
       },
       run,
     )) (k.1 ∙ ap (λ b. string_bytes old.printed ++ b) line))
 
-pub only_print : (b : BuiltIn) → b ≡ Print
-only_print Print = refl
-
 -- ---- locals
 
 -- what a slot has is seen at the slot
-slot_seen : (texts : List pure.Text) (xs : List (Option Value)) (k : ℕ) → slot_at k (map (local_of texts) xs) ≡ local_of texts (slot_in k xs)
+slot_seen : (texts : List pure.Text) (xs : List (Option Value)) (k : ℕ) → slot_at k (map (bound_of texts) xs) ≡ bound_of texts (slot_in k xs)
 slot_seen texts [] k = refl
 slot_seen texts (None ∷ xs) zero = refl
 slot_seen texts (Some v ∷ xs) zero = refl
 slot_seen texts (x ∷ xs) (suc k) = slot_seen texts xs k
 
-slot_fits : (n : ℕ) (xs : List (Option Value)) (k : ℕ) (v : Value) → All (FitsLocal n) xs → slot_in k xs ≡ Some v → Fits n v
+slot_fits : (n : ℕ) (xs : List (Option Value)) (k : ℕ) (v : Value) → All (FitsBound n) xs → slot_in k xs ≡ Some v → Fits n v
 slot_fits n [] k v h e = cc
 slot_fits n (None ∷ xs) zero v h e = cc
 slot_fits n (Some u ∷ xs) zero v h e =
     let same : u ≡ v = cc in
     let P : Value → Type 0 = λ x. Fits n x in
-    subst P same (All-head (FitsLocal n) (Some u) xs h)
-slot_fits n (x ∷ xs) (suc k) v h e = slot_fits n xs k v (All-tail (FitsLocal n) x xs h) e
+    subst P same (All-head (FitsBound n) (Some u) xs h)
+slot_fits n (x ∷ xs) (suc k) v h e = slot_fits n xs k v (All-tail (FitsBound n) x xs h) e
 
 -- the line that loads a local, by what its slot has
-load_line : (x : pure.Text) (k : ℕ) (o : Option Value) (s : State) → slot_in k s.slots.here ≡ o → line_of (LoadLocal x k) s ≡ yields_on (load_local x (local_of s.texts o) (world_of s)) s s.operands.here
-load_line x k o s is = ap (λ p. yields_on (load_local x p (world_of s)) s s.operands.here) (slot_seen s.texts s.slots.here k ∙ ap (local_of s.texts) is)
+load_line : (x : pure.Text) (k : ℕ) (o : Option Value) (s : State) → slot_in k s.slots.here ≡ o → line_of (LoadLocal x k) s ≡ yields_on (load_local x (bound_of s.texts o) (world_of s)) s s.operands.here
+load_line x k o s is = ap (λ p. yields_on (load_local x p (world_of s)) s s.operands.here) (slot_seen s.texts s.slots.here k ∙ ap (bound_of s.texts) is)
 
 pub local_did : (x : pure.Text) (k : ℕ) (v : Value) (old new : State) (r : Step) → IsSound old → old.standing ≡ standing.Running → slot_in k old.slots.here ≡ Some v → IsPushed v old new r → Did (line_of (LoadLocal x k) old) old new r
 local_did x k v old new r h run is e =
@@ -156,27 +148,34 @@ unbound_local_did j k old new r h is e =
     let P : Line → Type 0 = λ l. Did l old new r in
     subst P (sym (load_line (text_at names j) k None old is ∙ ap (λ f. yields_on f old old.operands.here) (load_unbound names j (world_of old)))) (raised_did (not_bound_cause names j) old.operands.here old new r h e)
 
--- a slot is bound to the topmost operand
-pub store_local_did : (k : ℕ) (v : Value) (rest : List Value) (old new : State) → IsSound old → old.standing ≡ standing.Running → old.operands.here ≡ v ∷ rest → new ≡ record (moved (old.pc + 1) rest old) { slots = record old.slots { here = slice_set old.slots.here k (Some v) } } → Did (line_of (StoreLocal k) old) old new Local
-store_local_did k v rest old new h run top e =
-    let F = Fits (length old.texts) in
-    let L = FitsLocal (length old.texts) in
-    let A : List Value → Type 0 = λ vs. All F vs in
-    let ops : All F (v ∷ rest) = subst A top h.stacks.here in
-    let slots : SlotsSeen = record old.slots { here = slice_set old.slots.here k (Some v) } in
+-- a slot is set, with operands that fit the texts
+local_set : (k : ℕ) (o : Option Value) (rest : List Value) (old new : State) → IsSound old → old.standing ≡ standing.Running → FitsBound (length old.texts) o → All (Fits (length old.texts)) rest → new ≡ record (moved (old.pc + 1) rest old) { slots = record old.slots { here = slice_set old.slots.here k o } } → Did (goes (At (old.pc + 1) (map (value_of old.texts) rest) (slice_set (slots_of old) k (bound_of old.texts o)) (blocks_of old)) (world_of old)) old new Local
+local_set k o rest old new h run fits below e =
+    let L = FitsBound (length old.texts) in
+    let slots : SlotsSeen = record old.slots { here = slice_set old.slots.here k o } in
     let stacks : AreSound (length old.texts) (with_operands rest old.operands) slots old.blocks = record {
-      here = All-tail F v rest ops;
+      here = below;
       below = h.stacks.below;
-      locals = All-set L old.slots.here k (Some v) (All-head F v rest ops) h.stacks.locals;
+      locals = All-set L old.slots.here k o fits h.stacks.locals;
       callers = h.stacks.callers;
       operands_each = h.stacks.operands_each;
       locals_each = h.stacks.locals_each;
     } in
+    let P : List (Option pure.Value) → Type 0 = λ xs. Did (goes (At (old.pc + 1) (map (value_of old.texts) rest) xs (blocks_of old)) (world_of old)) old new Local in
+    subst P (map-set (bound_of old.texts) old.slots.here k o) (placed_did (old.pc + 1) (with_operands rest old.operands) slots old.blocks old new h run stacks h.blocks e)
+
+-- a slot is bound to the topmost operand
+pub store_local_did : (k : ℕ) (v : Value) (rest : List Value) (old new : State) → IsSound old → old.standing ≡ standing.Running → old.operands.here ≡ v ∷ rest → new ≡ record (moved (old.pc + 1) rest old) { slots = record old.slots { here = slice_set old.slots.here k (Some v) } } → Did (line_of (StoreLocal k) old) old new Local
+store_local_did k v rest old new h run top e =
+    let F = Fits (length old.texts) in
+    let A : List Value → Type 0 = λ vs. All F vs in
+    let ops : All F (v ∷ rest) = subst A top h.stacks.here in
     let P : Line → Type 0 = λ l. Did l old new Local in
-    let line : line_of (StoreLocal k) old ≡ goes (At (old.pc + 1) (map (value_of old.texts) rest) (map (local_of old.texts) slots.here) (blocks_of old)) (world_of old) =
-    ap (line_on (StoreLocal k) old) top
-    ∙ ap (λ xs. goes (At (old.pc + 1) (map (value_of old.texts) rest) xs (blocks_of old)) (world_of old)) (sym (map-set (local_of old.texts) old.slots.here k (Some v))) in
-    subst P (sym line) (placed_did (old.pc + 1) (with_operands rest old.operands) slots old.blocks old new h run stacks e)
+    subst P (sym (ap (line_on (StoreLocal k) old) top)) (local_set k (Some v) rest old new h run (All-head F v rest ops) (All-tail F v rest ops) e)
+
+-- a slot is unbound
+pub unbind_local_did : (k : ℕ) (old new : State) → IsSound old → old.standing ≡ standing.Running → new ≡ record old { pc = old.pc + 1; slots = record old.slots { here = slice_set old.slots.here k None } } → Did (line_of (UnbindLocal k) old) old new Local
+unbind_local_did k old new h run e = local_set k None old.operands.here old new h run tt h.stacks.here e
 
 pub store_local_lacks : (k : ℕ) (s : State) → s.operands.here ≡ [] → IsOpen (line_of (StoreLocal k) s) → ⊥
 store_local_lacks k s none h = h (ap (λ vs. (line_on (StoreLocal k) s vs).place) none)
@@ -204,7 +203,7 @@ named_lacks n s few h =
 -- ---- returns
 
 -- the callers that are there, behind the innermost
-callers_left : {A : Type 0} (n : ℕ) (lists : List (List A)) → length lists ≡ n + 1 → (0 < length lists) × (length (drop 1 lists) ≡ n)
+pub callers_left : {A : Type 0} (n : ℕ) (lists : List (List A)) → length lists ≡ n + 1 → (0 < length lists) × (length (drop 1 lists) ≡ n)
 callers_left n [] e = absurd (let no : ⊥ = omega (arith, e) in no)
 callers_left n (xs ∷ lists) e = (omega arith, omega (arith, e))
 
@@ -212,15 +211,19 @@ back_operands : (v : Value) (lists : List (List Value)) → 0 < length lists →
 back_operands v [] h = absurd (let no : ⊥ = omega (arith, h) in no)
 back_operands v (vs ∷ lists) h = refl
 
-back_slots : (lists : List (List (Option Value))) → 0 < length lists → back lists ≡ record { here = innermost lists; below = drop 1 lists }
+pub left_operands : (lists : List (List Value)) → 0 < length lists → left_by lists ≡ record { here = innermost lists; below = drop 1 lists }
+left_operands [] h = absurd (let no : ⊥ = omega (arith, h) in no)
+left_operands (vs ∷ lists) h = refl
+
+pub back_slots : (lists : List (List (Option Value))) → 0 < length lists → back lists ≡ record { here = innermost lists; below = drop 1 lists }
 back_slots [] h = absurd (let no : ⊥ = omega (arith, h) in no)
 back_slots (xs ∷ lists) h = refl
 
 -- back in the caller, with a value
-pub back_did : (after : ℕ) (v : Value) (bs : List Block) (old new : State) → IsSound old → old.standing ≡ standing.Running → Fits (length old.texts) v → calls_in old.blocks ≡ calls_in bs + 1 → new ≡ record (back_at after v old) { blocks = bs } → Did (goes (At after (value_of old.texts v ∷ map (value_of old.texts) (innermost old.operands.below)) (map (local_of old.texts) (innermost old.slots.below)) (blocks_with old.texts bs (drop 1 old.operands.below) (drop 1 old.slots.below))) (world_of old)) old new Local
-back_did after v bs old new h run fits one e =
+pub back_did : (after : ℕ) (v : Value) (bs : List Block) (old new : State) → IsSound old → old.standing ≡ standing.Running → Fits (length old.texts) v → All (FitsBlock old.texts) bs → calls_in old.blocks ≡ calls_in bs + 1 → new ≡ record (back_at after v old) { blocks = bs } → Did (goes (At after (value_of old.texts v ∷ map (value_of old.texts) (innermost old.operands.below)) (map (bound_of old.texts) (innermost old.slots.below)) (blocks_with old.texts bs (drop 1 old.operands.below) (drop 1 old.slots.below))) (world_of old)) old new Local
+back_did after v bs old new h run fits blocks one e =
     let F = Fits (length old.texts) in
-    let L = FitsLocal (length old.texts) in
+    let L = FitsBound (length old.texts) in
     let k = h.stacks in
     let ops = callers_left (calls_in bs) old.operands.below (k.operands_each ∙ one) in
     let locals = callers_left (calls_in bs) old.slots.below (k.locals_each ∙ one) in
@@ -235,79 +238,29 @@ back_did after v bs old new h run fits one e =
       locals_each = locals.1;
     } in
     let make : OperandsSeen → SlotsSeen → State = λ o x. record old { pc = after; operands = o; slots = x; blocks = bs } in
-    placed_did after new_ops new_slots bs old new h run stacks
+    placed_did after new_ops new_slots bs old new h run stacks blocks
     (e ∙ ap (λ o. make o (back old.slots.below)) (back_operands v old.operands.below ops.0) ∙ ap (make new_ops) (back_slots old.slots.below locals.0))
 
 -- there are callers where a call is under way
 pub caller_there : (s : State) (bs : List Block) → IsSound s → calls_in s.blocks ≡ calls_in bs + 1 → (0 < length s.operands.below) × (0 < length s.slots.below)
 caller_there s bs h one = (omega (arith, h.stacks.operands_each, one), omega (arith, h.stacks.locals_each, one))
 
--- what is behind a call is told once
-behind_same : (a b : ℕ) (xs ys : List Block) → (let p : Option (ℕ × List Block) = Some (a, xs) in p) ≡ Some (b, ys) → (a ≡ b) × (xs ≡ ys)
-behind_same a b xs ys e =
-    let fall : ℕ × List Block = (a, xs) in
-    let at : Option (ℕ × List Block) → ℕ × List Block = λ o. elim o [ None ↦ fall | Some p ↦ p ] in
-    (ap (λ o. (at o).0) e, ap (λ o. (at o).1) e)
-
--- a return leaves the innermost call, or ends the run
-return_place : (texts : List pure.Text) (v : pure.Value) (w : World) (here : List (Option pure.Value)) (bs : List Block) (after : ℕ) (rest : List Block) (ops : List (List Value)) (slots : List (List (Option Value))) → behind_call bs ≡ Some (after, rest) → leave (Returns v) w here (blocks_with texts bs ops slots) ≡ At after (v ∷ map (value_of texts) (innermost ops)) (map (local_of texts) (innermost slots)) (blocks_with texts rest (drop 1 ops) (drop 1 slots))
-return_place texts v w here [] after rest ops slots e = cc
-return_place texts v w here (block.Loop start end ∷ bs) after rest ops slots e = return_place texts v w here bs after rest ops slots e
-return_place texts v w here (block.Frame to ∷ bs) after rest ops slots e =
-    let make : ℕ → List Block → Place = λ n l. At n (v ∷ map (value_of texts) (innermost ops)) (map (local_of texts) (innermost slots)) (blocks_with texts l (drop 1 ops) (drop 1 slots)) in
-    let same = behind_same to after bs rest e in
-    ap (λ n. make n bs) same.0 ∙ ap (make after) same.1
-
-return_ends_place : (texts : List pure.Text) (v : pure.Value) (w : World) (here : List (Option pure.Value)) (bs : List Block) (ops : List (List Value)) (slots : List (List (Option Value))) → behind_call bs ≡ None → leave (Returns v) w here (blocks_with texts bs ops slots) ≡ Ending life.Returned
-return_ends_place texts v w here [] ops slots e = refl
-return_ends_place texts v w here (block.Loop start end ∷ bs) ops slots e = return_ends_place texts v w here bs ops slots e
-return_ends_place texts v w here (block.Frame to ∷ bs) ops slots e = cc
-
-pub one_call : (bs : List Block) (after : ℕ) (rest : List Block) → behind_call bs ≡ Some (after, rest) → calls_in bs ≡ calls_in rest + 1
-one_call [] after rest e = cc
-one_call (block.Loop start end ∷ bs) after rest e = one_call bs after rest e
-one_call (block.Frame to ∷ bs) after rest e = ap (λ l. calls_in l + 1) (behind_same to after bs rest e).1
-
-return_line : (v : Value) (ops : List Value) (s : State) → s.operands.here ≡ v ∷ ops → line_of DoReturn s ≡ goes (leave (Returns (value_of s.texts v)) (world_of s) (slots_of s) (blocks_of s)) (world_of s)
+pub return_line : (v : Value) (ops : List Value) (s : State) → s.operands.here ≡ v ∷ ops → line_of DoReturn s ≡ goes (leave (Returns (value_of s.texts v)) (world_of s) (slots_of s) (blocks_of s)) (world_of s)
 return_line v ops s top = ap (line_on DoReturn s) top
-
-pub return_did : (after : ℕ) (v : Value) (ops : List Value) (rest : List Block) (old new : State) → IsSound old → old.standing ≡ standing.Running → old.operands.here ≡ v ∷ ops → behind_call old.blocks ≡ Some (after, rest) → new ≡ record (back_at after v old) { blocks = rest } → Did (line_of DoReturn old) old new Local
-return_did after v ops rest old new h run top is e =
-    let F = Fits (length old.texts) in
-    let A : List Value → Type 0 = λ vs. All F vs in
-    let P : Line → Type 0 = λ l. Did l old new Local in
-    let w = world_of old in
-    let line = return_line v ops old top ∙ ap (λ p. goes p w) (return_place old.texts (value_of old.texts v) w (slots_of old) old.blocks after rest old.operands.below old.slots.below is) in
-    subst P (sym line) (back_did after v rest old new h run (All-head F v ops (subst A top h.stacks.here)) (one_call old.blocks after rest is) e)
-
-pub return_ends : (v : Value) (ops : List Value) (old new : State) → IsSound old → old.operands.here ≡ v ∷ ops → behind_call old.blocks ≡ None → new ≡ at_rest Returned old → Did (line_of DoReturn old) old new Ended
-return_ends v ops old new h top is e =
-    let P : Line → Type 0 = λ l. Did l old new Ended in
-    let w = world_of old in
-    let line = return_line v ops old top ∙ ap (λ p. goes p w) (return_ends_place old.texts (value_of old.texts v) w (slots_of old) old.blocks old.operands.below old.slots.below is) in
-    subst P (sym line) (finished_did old new h e)
 
 pub return_lacks : (s : State) → s.operands.here ≡ [] → IsOpen (line_of DoReturn s) → ⊥
 return_lacks s none h = h (ap (λ vs. (line_on DoReturn s vs).place) none)
-
--- a `break` or `continue` in a call, outside a loop, gives None to the caller
-pub break_back : (after : ℕ) (rest : List Block) (old new : State) → IsSound old → old.standing ≡ standing.Running → old.blocks ≡ block.Frame after ∷ rest → new ≡ record (back_at after value.None old) { blocks = rest } → Did (line_of DoBreak old) old new Local
-break_back after rest old new h run top e =
-    let P : Line → Type 0 = λ l. Did l old new Local in
-    let line = ap (λ bs. goes (leave Breaks (world_of old) (slots_of old) (blocks_with old.texts bs old.operands.below old.slots.below)) (world_of old)) top in
-    subst P (sym line) (back_did after value.None rest old new h run tt (ap calls_in top) e)
-
-pub continue_back : (after : ℕ) (rest : List Block) (old new : State) → IsSound old → old.standing ≡ standing.Running → old.blocks ≡ block.Frame after ∷ rest → new ≡ record (back_at after value.None old) { blocks = rest } → Did (line_of DoContinue old) old new Local
-continue_back after rest old new h run top e =
-    let P : Line → Type 0 = λ l. Did l old new Local in
-    let line = ap (λ bs. goes (leave Continues (world_of old) (slots_of old) (blocks_with old.texts bs old.operands.below old.slots.below)) (world_of old)) top in
-    subst P (sym line) (back_did after value.None rest old new h run tt (ap calls_in top) e)
 
 -- ---- calls of functions
 
 depth_is : (texts : List pure.Text) (bs : List Block) (ops : List (List Value)) (slots : List (List (Option Value))) → depth (blocks_with texts bs ops slots) ≡ calls_in bs
 depth_is texts [] ops slots = refl
 depth_is texts (block.Loop start after ∷ bs) ops slots = depth_is texts bs ops slots
+depth_is texts (block.Each items ∷ bs) ops slots = depth_is texts bs ops slots
+depth_is texts (block.Catch clauses ∷ bs) ops slots = depth_is texts bs ops slots
+depth_is texts (block.Final suite ∷ bs) ops slots = depth_is texts bs ops slots
+depth_is texts (block.Pending p ∷ bs) ops slots = depth_is texts bs ops slots
+depth_is texts (block.Handling x ∷ bs) ops slots = depth_is texts bs ops slots
 depth_is texts (block.Frame after ∷ bs) ops slots = ap (λ n. n + 1) (depth_is texts bs (drop 1 ops) (drop 1 slots))
 
 -- the line of a call of a function, by its number's routine
@@ -363,35 +316,35 @@ depth_raises number n f old new r h callee is fits has e =
     subst P (sym (entered_line number callee.0 n f true false old h callee.1 is (eq-eqb n f.parameters fits) (le-ltb (length old.operands.below) max_calls has))) (raised_did TooDeep (drop (n + 1) old.operands.here) old new r h e)
 
 -- the locals of a function as it begins
-unbound_seen : (texts : List pure.Text) (n : ℕ) → map (local_of texts) (unbound n) ≡ meaning.unbound n
+unbound_seen : (texts : List pure.Text) (n : ℕ) → map (bound_of texts) (unbound n) ≡ meaning.unbound n
 unbound_seen texts zero = refl
 unbound_seen texts (suc n) = ap (λ l. None ∷ l) (unbound_seen texts n)
 
-passed_seen : (texts : List pure.Text) (vs : List Value) → map (local_of texts) (passed vs) ≡ meaning.passed (map (value_of texts) vs)
+passed_seen : (texts : List pure.Text) (vs : List Value) → map (bound_of texts) (passed vs) ≡ meaning.passed (map (value_of texts) vs)
 passed_seen texts [] = refl
 passed_seen texts (v ∷ vs) = ap (λ l. Some (value_of texts v) ∷ l) (passed_seen texts vs)
 
-entered_seen : (texts : List pure.Text) (locals : ℕ) (vs : List Value) → map (local_of texts) (entered locals vs) ≡ meaning.entered locals (map (value_of texts) vs)
+entered_seen : (texts : List pure.Text) (locals : ℕ) (vs : List Value) → map (bound_of texts) (entered locals vs) ≡ meaning.entered locals (map (value_of texts) vs)
 entered_seen texts locals vs =
-    map-append (local_of texts) (passed vs) (unbound (locals - length vs))
-    ∙ ap (λ l. l ++ map (local_of texts) (unbound (locals - length vs))) (passed_seen texts vs)
+    map-append (bound_of texts) (passed vs) (unbound (locals - length vs))
+    ∙ ap (λ l. l ++ map (bound_of texts) (unbound (locals - length vs))) (passed_seen texts vs)
     ∙ ap (λ l. meaning.passed (map (value_of texts) vs) ++ l) (unbound_seen texts (locals - length vs))
     ∙ ap (λ n. meaning.passed (map (value_of texts) vs) ++ meaning.unbound (locals - n)) (sym (length-map vs (value_of texts)))
 
-unbound_fit : (n k : ℕ) → All (FitsLocal n) (unbound k)
-unbound_fit n zero = All-nil (FitsLocal n)
-unbound_fit n (suc k) = All-cons (FitsLocal n) None (unbound k) tt (unbound_fit n k)
+unbound_fit : (n k : ℕ) → All (FitsBound n) (unbound k)
+unbound_fit n zero = All-nil (FitsBound n)
+unbound_fit n (suc k) = All-cons (FitsBound n) None (unbound k) tt (unbound_fit n k)
 
-entered_fit : (n : ℕ) (vs : List Value) (more : ℕ) → All (Fits n) vs → All (FitsLocal n) (passed vs ++ unbound more)
+entered_fit : (n : ℕ) (vs : List Value) (more : ℕ) → All (Fits n) vs → All (FitsBound n) (passed vs ++ unbound more)
 entered_fit n [] more h = unbound_fit n more
-entered_fit n (v ∷ vs) more h = All-cons (FitsLocal n) (Some v) (passed vs ++ unbound more) (All-head (Fits n) v vs h) (entered_fit n vs more (All-tail (Fits n) v vs h))
+entered_fit n (v ∷ vs) more h = All-cons (FitsBound n) (Some v) (passed vs ++ unbound more) (All-head (Fits n) v vs h) (entered_fit n vs more (All-tail (Fits n) v vs h))
 
 pub entered_did : (number n : ℕ) (f : Routine) (old new : State) (r : Step) → IsSound old → old.standing ≡ standing.Running → IsCallee number n old.operands.here → slice_get old.table.routines number ≡ Some f → n ≡ f.parameters → length old.operands.below < max_calls → IsEntered f n old new r → Did (line_of (CallTop n) old) old new r
 entered_did number n f old new Ended h run callee is fits has e = absurd e
 entered_did number n f old new Starved h run callee is fits has e = starved_did (line_of (CallTop n) old) old new e
 entered_did number n f old new Local h run callee is fits has e =
     let F = Fits (length old.texts) in
-    let L = FitsLocal (length old.texts) in
+    let L = FitsBound (length old.texts) in
     let k = h.stacks in
     let args = reverse (take n old.operands.here) in
     let rest = drop (n + 1) old.operands.here in
@@ -412,4 +365,4 @@ entered_did number n f old new Local h run callee is fits has e =
     let line =
     entered_line number callee.0 n f true true old h callee.1 is (eq-eqb n f.parameters fits) (lt-ltb (length old.operands.below) max_calls has)
     ∙ ap (λ xs. goes (At f.at [] xs (machine.Frame (old.pc + 1) (map (value_of old.texts) rest) (slots_of old) ∷ blocks_of old)) (world_of old)) (sym (entered_seen old.texts f.locals args)) in
-    subst P (sym line) (placed_did f.at ops slots bs old new h run stacks e)
+    subst P (sym line) (placed_did f.at ops slots bs old new h run stacks (All-cons (FitsBlock old.texts) (block.Frame (old.pc + 1)) old.blocks tt h.blocks) e)

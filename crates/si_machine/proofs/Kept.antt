@@ -1,5 +1,5 @@
 -- What holds of a machine, call after call.
-use Rattle.std.proofs.Common.{◌≡◌, ◌<◌, ◌^◌, arith, ℕ, zero, suc, List, [], ◌++◌, length, take, All, Option, Some, None, true, string_bytes, refl, sym, ap, subst, ◌∙◌, append-nil}
+use Rattle.std.proofs.Common.{◌≡◌, ◌<◌, ◌^◌, arith, ℕ, zero, suc, List, [], ◌++◌, length, take, map, All, Option, Some, None, true, string_bytes, refl, sym, ap, subst, ◌∙◌, append-nil}
 use Rattle.std.specs.Prelude.{encode_utf8_all}
 use Rattle.si_semantics.specs.Value as pure
 use Rattle.si_semantics.specs.World.{World}
@@ -17,10 +17,12 @@ use Rattle.si_machine.specs.declared.step.Outcome.TheVariants.{Returned}
 use Rattle.si_machine.specs.declared.step.Step.TheVariants.{Local, Ended, Starved}
 use Rattle.std.proofs.lemmas.List.Elements.{All-nil}
 use Rattle.si_code.specs.Contents.{no_code}
-use Rattle.si_machine.specs.Values.{Fits, FitsGlobal, AllSuit}
+use Rattle.si_machine.specs.Values.{Fits, FitsBound, FitsObject, AreBuiltIn}
+use Rattle.si_machine.specs.Causes.{object_of}
+use Rattle.si_machine.specs.declared.value.Object.{Object}
 use Rattle.si_machine.specs.Outcomes.{outcome_of}
 use Rattle.si_machine.specs.Machines.{Seen, moment_of, from_here, IsAt, printed_of, Steps}
-use Rattle.si_machine.specs.States.{AreSound, IsSound, IsKept, IsOpen, Moves, Did, FitsLocal, bytes_of, is_starved, no_operands, no_slots, place_in, place_of, blocks_of, operands_of, slots_of, world_of, next_line, seen}
+use Rattle.si_machine.specs.States.{AreSound, IsSound, IsKept, IsOpen, Moves, Did, FitsBlock, bytes_of, is_starved, no_operands, no_slots, place_in, place_of, blocks_of, operands_of, slots_of, world_of, next_line, seen}
 
 -- ---- courses
 
@@ -78,8 +80,19 @@ line_is s run = ap (λ st. on compiled (place_in st s.pc (operands_of s) (slots_
 pub open_next : (s : State) → IsKept s → s.standing ≡ standing.Running → IsOpen (next_line s)
 open_next s h run e = h.never 1 (ap (λ c. c.place) (line_is s run) ∙ e)
 
-sound_starved : (old new : State) → IsSound old → new ≡ record old { standing = standing.Starved; line = new.line; printed = new.printed } → IsSound new
-sound_starved old new h e = subst IsSound (sym e) (record { stacks = h.stacks; globals = h.globals; literals = h.literals; slots = h.slots; short = h.short })
+sound_starved : (old new : State) → IsSound old → new ≡ record old { standing = standing.Starved; line = new.line; printed = new.printed; store = new.store } → new.store.items ≡ old.store.items → IsSound new
+sound_starved old new h e same =
+    let S : List Object → Type 0 = λ os. All (FitsObject (length old.texts)) os in
+    subst IsSound (sym e) (record {
+      stacks = h.stacks;
+      blocks = h.blocks;
+      globals = h.globals;
+      store = subst S (sym same) h.store;
+      literals = h.literals;
+      slots = h.slots;
+      built_ins = h.built_ins;
+      short = h.short;
+    })
 
 -- a course whose next line led to a place, with its world
 moment_next : (l : Line) (p : Place) (old new : State) → Moves l p old new → from_here (record (after l (moment_of (seen old))) { place = place_of new }) ≡ moment_of (seen new)
@@ -94,10 +107,12 @@ bytes_printed (Some t) n = ap encode_utf8_all (append-nil t)
 
 starved_seen : (old new : State) → old.standing ≡ standing.Running → Did (next_line old) old new Starved → seen new ≡ record (seen old) { starved = true }
 starved_seen old new run did =
-    let make : Place → List ℕ → Seen = λ p b. record (seen old) { place = p; printed = b; starved = true } in
+    let make : Place → List ℕ → List Object → Seen = λ p b os. record (seen old) { place = p; printed = b; starved = true; store = map (object_of old.texts old.table.names) os } in
+    let here = At old.pc (operands_of old) (slots_of old) (blocks_of old) in
     ap seen did.0
-    ∙ ap (make (At old.pc (operands_of old) (slots_of old) (blocks_of old))) did.1
-    ∙ ap (λ st. make (place_in st old.pc (operands_of old) (slots_of old) (blocks_of old)) (string_bytes old.printed)) (sym run)
+    ∙ ap (λ b. make here b new.store.items) did.1
+    ∙ ap (make here (string_bytes old.printed)) did.2
+    ∙ ap (λ st. make (place_in st old.pc (operands_of old) (slots_of old) (blocks_of old)) (string_bytes old.printed) old.store.items) (sym run)
 
 -- a machine that is idle waits
 idle_waits : (s : State) → s.standing ≡ standing.Idle → place_of s ≡ Taking
@@ -139,15 +154,15 @@ keeps old new Local h run did = record {
 }
 keeps old new Ended h run did = record { sound = did.0.sound; never = never_taking (moment_of (seen new)) refl (idle_waits new did.1) }
 keeps old new Starved h run did = record {
-  sound = sound_starved old new h.sound did.0;
+  sound = sound_starved old new h.sound did.0 did.2;
   never = subst (λ s. NeverCloses (moment_of s)) (sym (starved_seen old new run did)) h.never;
 }
 
 -- it holds of a machine without code
-pub blank_kept : (s : State) → s.standing ≡ standing.Idle → s.table ≡ no_code → s.operands ≡ no_operands → s.slots ≡ no_slots → s.blocks ≡ [] → s.globals.items ≡ [] → IsKept s
-blank_kept s idle code ops slots bs gs =
+pub blank_kept : (s : State) → s.standing ≡ standing.Idle → s.table ≡ no_code → s.operands ≡ no_operands → s.slots ≡ no_slots → s.blocks ≡ [] → s.globals.items ≡ [] → s.built_ins.items ≡ [] → s.store.items ≡ [] → IsKept s
+blank_kept s idle code ops slots bs gs vs os =
     let F = Fits (length s.texts) in
-    let L = FitsLocal (length s.texts) in
+    let L = FitsBound (length s.texts) in
     let none : AreSound (length s.texts) no_operands no_slots [] =
     record { here = All-nil F; below = All-nil (λ vs. All F vs); locals = All-nil L; callers = All-nil (λ xs. All L xs); operands_each = refl; locals_each = refl } in
     record {
@@ -155,9 +170,12 @@ blank_kept s idle code ops slots bs gs =
         stacks =
             subst (λ o. AreSound (length s.texts) o s.slots s.blocks) (sym ops)
             (subst (λ x. AreSound (length s.texts) no_operands x s.blocks) (sym slots) (subst (λ b. AreSound (length s.texts) no_operands no_slots b) (sym bs) none));
-        globals = subst (All (FitsGlobal (length s.texts))) (sym gs) (All-nil (FitsGlobal (length s.texts)));
+        blocks = subst (All (FitsBlock s.texts)) (sym bs) (All-nil (FitsBlock s.texts));
+        globals = subst (All (FitsBound (length s.texts))) (sym gs) (All-nil (FitsBound (length s.texts)));
+        store = subst (All (FitsObject (length s.texts))) (sym os) (All-nil (FitsObject (length s.texts)));
         literals = subst (λ t. take (length t.literals) s.texts ≡ t.literals) (sym code) refl;
-        slots = subst (λ t. AllSuit t.names s.globals.items) (sym code) (subst (AllSuit []) (sym gs) tt);
+        slots = ap length gs ∙ sym (ap (λ t. length t.names) code);
+        built_ins = subst (λ t. AreBuiltIn t.names s.built_ins.items) (sym code) (subst (AreBuiltIn []) (sym vs) tt);
         short = subst (λ t. length t.lines < 2 ^ 63) (sym code) (omega arith);
       };
       never = never_taking (moment_of (seen s)) refl (idle_waits s idle);
@@ -166,6 +184,15 @@ blank_kept s idle code ops slots bs gs =
 -- and it holds still once the outcome is taken
 pub taken_kept : (s : State) → IsKept s → IsKept (record s { outcome = Returned })
 taken_kept s h = record {
-  sound = record { stacks = h.sound.stacks; globals = h.sound.globals; literals = h.sound.literals; slots = h.sound.slots; short = h.sound.short };
+  sound = record {
+    stacks = h.sound.stacks;
+    blocks = h.sound.blocks;
+    globals = h.sound.globals;
+    store = h.sound.store;
+    literals = h.sound.literals;
+    slots = h.sound.slots;
+    built_ins = h.sound.built_ins;
+    short = h.sound.short;
+  };
   never = h.never;
 }

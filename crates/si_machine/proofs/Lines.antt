@@ -1,40 +1,38 @@
 -- What a step prints, and which line it does.
 use Rattle.std.proofs.Common.{◌≡◌, ◌≢◌, ℕ, zero, suc, ◌+◌, ◌<◌, ◌≤◌, List, [], ◌∷◌, ◌++◌, length, map, take, get_or, Option, Some, None, All, AllPairs, string_bytes, refl, sym, ap, subst, ◌∙◌, arith, append-nil, Bool, true, false, cond, slice_get, slice_set, nat_lt, Ok}
 use mathlib.Core.Path.{fun_ext}
-use Rattle.std.proofs.lemmas.List.{get_or-take, take-append-le, length-take, map-set, length-map}
+use Rattle.std.proofs.lemmas.List.{get_or-take, take-append-le, length-take, map-set, length-map, length-set}
+use Rattle.std.specs.Prelude.{codes, option_map}
+use Rattle.si_plain.specs.declared.kind.Kind.{Kind}
 use Rattle.std.proofs.lemmas.Option.{slice_get_within, slice_get-get_or, get_or_from_slice_get}
 use Rattle.std.proofs.lemmas.List.Elements.{All-nil, All-cons, All-tail, All-head, All-weaker, All-set, All-get_or}
 use Rattle.si_semantics.specs.Value as pure
 use Rattle.si_semantics.specs.Text.{same_text, max_length}
 use Rattle.si_semantics.specs.Tree as tree
-use Rattle.si_semantics.specs.World.{World, Ran, bind, set_global}
+use Rattle.si_semantics.specs.World.{World, Ran, set_global, unset_global}
 use Rattle.si_semantics.specs.Life as life
-use Rattle.si_semantics.specs.Operations.{operate, operate_unary, gave, refused, too_long, found, or_else, load_global, built_in}
-use Rattle.si_semantics.specs.Meaning.{Raises}
+use Rattle.si_semantics.specs.Operations.{operate, operate_unary, gave, refused, too_long, found, or_else, load_global, built_in, built_in_kinds, kind_named}
 use Rattle.si_semantics.specs.Machine as machine
-use Rattle.si_semantics.specs.Machine.{Instr, leave, Push, LoadGlobal, StoreGlobal, ApplyUnary, ApplyBinary, Discard, At, Ending, Closed, Line, act, goes, yields}
+use Rattle.si_semantics.specs.Machine.{Instr, Push, LoadGlobal, StoreGlobal, UnbindGlobal, ApplyUnary, ApplyBinary, Discard, At, Ending, Closed, Line, act, goes, yields}
 use Rattle.si_semantics.proofs.Names.{same_is, same_self, other_is}
 use Rattle.si_code.specs.Views.{text_at, entries_of}
 use Rattle.si_machine.specs.declared.value.Value.{Value}
 use Rattle.si_machine.specs.declared.value.Value.TheVariants as value
-use Rattle.si_machine.specs.declared.value.Global.{Global}
-use Rattle.si_machine.specs.declared.value.Global.TheVariants.{Unbound, Provided, Bound}
 use Rattle.si_machine.specs.declared.blocks.Block.{Block}
 use Rattle.si_machine.specs.declared.cause.Cause.{Cause}
 use Rattle.si_machine.specs.declared.cause.Cause.TheVariants.{TooLong, NotDefined}
 use Rattle.si_plain.specs.declared.kind.Kind.TheVariants.{NameError}
-use Rattle.si_machine.specs.declared.value.BuiltIn.{BuiltIn}
 use Rattle.si_machine.specs.declared.state.Standing.TheVariants as standing
 use Rattle.si_machine.specs.declared.state.State.{State}
 use Rattle.si_machine.specs.declared.step.Outcome.{Outcome}
 use Rattle.si_machine.specs.declared.step.Outcome.TheVariants.{Returned, Raised}
 use Rattle.si_machine.specs.declared.step.Step.{Step}
 use Rattle.si_machine.specs.declared.step.Step.TheVariants.{Local, Ended, Starved}
-use Rattle.si_machine.specs.Values.{built_in_of, value_of, cell_of, globals_of, Fits, FitsGlobal, Suits, AllSuit}
-use Rattle.si_machine.specs.Causes.{Runs, kind_of, message_in, threw, not_defined, not_defined_cause}
+use Rattle.si_machine.specs.Values.{value_of, bound_of, globals_of, Fits, FitsBound, FitsObject, AreBuiltIn}
+use Rattle.si_machine.specs.Causes.{Runs, object_of, threw, not_defined, not_defined_cause}
 use Rattle.si_machine.specs.Stacks.{OperandsSeen, SlotsSeen}
-use Rattle.si_machine.specs.States.{AreSound, IsSound, IsOpen, Did, place_in, local_of, blocks_with, blocks_of, operands_of, slots_of, world_of, line_of, FitsLocal, with_operands, at_rest, IsRaised, IsPushed}
-use Rattle.si_machine.proofs.Growth.{values_stay, locals_stay, blocks_stay, cells_stay, fits_more, global_fits_more, stacks_more}
+use Rattle.si_machine.specs.States.{AreSound, IsSound, IsOpen, Did, place_in, blocks_with, blocks_of, operands_of, slots_of, world_of, line_of, FitsBlock, calls_in, with_operands, at_rest, IsRaised, IsPushed}
+use Rattle.si_machine.proofs.Growth.{values_stay, locals_stay, blocks_stay, objects_stay, fits_more, local_fits_more, block_fits_more, object_fits_more, stacks_more}
 
 -- the line of an instruction on these operands
 abbrev pub line_on : Instr → State → List Value → Line
@@ -64,27 +62,32 @@ popped v old new e = (ap (λ o. o.here) e, ap (λ l. let o : OperandsSeen = reco
 pub starved_did : (l : Line) (old new : State) → new ≡ record old { standing = standing.Starved } → Did l old new Starved
 starved_did l old new e =
     let P : State → Type 0 = λ s. Did l old s Starved in
-    subst P (sym e) (refl, refl)
+    subst P (sym e) (refl, refl, refl)
+
+-- where only the store was asked for room
+pub starved_store : (l : Line) (old new : State) → new ≡ record old { standing = standing.Starved; store = new.store } → new.store.items ≡ old.store.items → Did l old new Starved
+starved_store l old new e same =
+    (e ∙ ap (λ x. let s : State = record old { standing = standing.Starved; line = x; store = new.store } in s) (sym (ap (λ (s : State). s.line) e)) ∙ ap (λ x. let s : State = record old { standing = standing.Starved; line = new.line; printed = x; store = new.store } in s) (sym (ap (λ (s : State). s.printed) e)), ap (λ (s : State). string_bytes s.printed) e, same)
 
 -- the run goes on at a place, with sound stacks
-pub placed_did : (next : ℕ) (ops : OperandsSeen) (slots : SlotsSeen) (bs : List Block) (old new : State) → IsSound old → old.standing ≡ standing.Running → AreSound (length old.texts) ops slots bs → new ≡ record old { pc = next; operands = ops; slots = slots; blocks = bs } → Did (goes (At next (map (value_of old.texts) ops.here) (map (local_of old.texts) slots.here) (blocks_with old.texts bs ops.below slots.below)) (world_of old)) old new Local
-placed_did next ops slots bs old new h run stacks e =
-    let l = goes (At next (map (value_of old.texts) ops.here) (map (local_of old.texts) slots.here) (blocks_with old.texts bs ops.below slots.below)) (world_of old) in
+pub placed_did : (next : ℕ) (ops : OperandsSeen) (slots : SlotsSeen) (bs : List Block) (old new : State) → IsSound old → old.standing ≡ standing.Running → AreSound (length old.texts) ops slots bs → All (FitsBlock old.texts) bs → new ≡ record old { pc = next; operands = ops; slots = slots; blocks = bs } → Did (goes (At next (map (value_of old.texts) ops.here) (map (bound_of old.texts) slots.here) (blocks_with old.texts bs ops.below slots.below)) (world_of old)) old new Local
+placed_did next ops slots bs old new h run stacks fits e =
+    let l = goes (At next (map (value_of old.texts) ops.here) (map (bound_of old.texts) slots.here) (blocks_with old.texts bs ops.below slots.below)) (world_of old) in
     let P : State → Type 0 = λ s. Did l old s Local in
     subst P (sym e) (
       record {
-        place = ap (λ st. place_in st next (map (value_of old.texts) ops.here) (map (local_of old.texts) slots.here) (blocks_with old.texts bs ops.below slots.below)) (sym run);
+        place = ap (λ st. place_in st next (map (value_of old.texts) ops.here) (map (bound_of old.texts) slots.here) (blocks_with old.texts bs ops.below slots.below)) (sym run);
         world = refl;
         printed = sym (append-nil (string_bytes old.printed));
         code = refl;
-        sound = record { stacks = stacks; globals = h.globals; literals = h.literals; slots = h.slots; short = h.short };
+        sound = record { stacks = stacks; blocks = fits; globals = h.globals; store = h.store; literals = h.literals; slots = h.slots; built_ins = h.built_ins; short = h.short };
       },
       run,
     )
 
 -- the run goes on at a place, with operands that were there, or fit the texts
 pub moved_did : (next : ℕ) (rest : List Value) (old new : State) → IsSound old → old.standing ≡ standing.Running → All (Fits (length old.texts)) rest → new ≡ moved next rest old → Did (at_line next rest old) old new Local
-moved_did next rest old new h run fits e = placed_did next (with_operands rest old.operands) old.slots old.blocks old new h run (with_here (length old.texts) rest old h.stacks fits) e
+moved_did next rest old new h run fits e = placed_did next (with_operands rest old.operands) old.slots old.blocks old new h run (with_here (length old.texts) rest old h.stacks fits) h.blocks e
 
 -- a value more on the operands that are left
 pub advanced_did : (u : pure.Value) (v : Value) (rest : List Value) (old new : State) → IsSound old → old.standing ≡ standing.Running → All (Fits (length old.texts)) rest → Fits (length old.texts) v → value_of old.texts v ≡ u → new ≡ moved (old.pc + 1) (v ∷ rest) old → Did (goes (At (old.pc + 1) (u ∷ map (value_of old.texts) rest) (slots_of old) (blocks_of old)) (world_of old)) old new Local
@@ -97,43 +100,25 @@ pushed_did u v old new Local h run fits same e = advanced_did u v old.operands.h
 pushed_did u v old new Ended h run fits same e = absurd e
 pushed_did u v old new Starved h run fits same e = starved_did (goes (At (old.pc + 1) (u ∷ operands_of old) (slots_of old) (blocks_of old)) (world_of old)) old new e
 
--- an exception leaves all loops and calls
-raises_out : (x : pure.Exception) (w : World) (slots : List (Option pure.Value)) (bs : List machine.Block) → leave (Raises x) w slots bs ≡ Ending (life.outcome_of (Raises x) w)
-raises_out x w slots [] = refl
-raises_out x w slots (machine.Loop start after ∷ bs) = raises_out x w slots bs
-raises_out x w slots (machine.Frame after ops old ∷ bs) = raises_out x w old bs
-
 -- as the run ends, nothing is under way
-rest_sound : (o : Outcome) (s : State) → IsSound s → IsSound (at_rest o s)
+pub rest_sound : (o : Outcome) (s : State) → IsSound s → IsSound (at_rest o s)
 rest_sound o s h =
     let F = Fits (length s.texts) in
-    let L = FitsLocal (length s.texts) in
+    let L = FitsBound (length s.texts) in
     record {
       stacks = record { here = All-nil F; below = All-nil (λ vs. All F vs); locals = All-nil L; callers = All-nil (λ xs. All L xs); operands_each = refl; locals_each = refl };
+      blocks = All-nil (FitsBlock s.texts);
       globals = h.globals;
+      store = h.store;
       literals = h.literals;
       slots = h.slots;
+      built_ins = h.built_ins;
       short = h.short;
     }
 
--- an exception leaves the run
+-- an operation raises an exception
 pub raised_did : (cause : Cause) (rest : List Value) (old new : State) (r : Step) → IsSound old → IsRaised cause old new r → Did (yields_on (threw old.table.names cause (world_of old)) old rest) old new r
-raised_did cause rest old new Local h e = absurd e
-raised_did cause rest old new Ended h e =
-    let l = yields_on (threw old.table.names cause (world_of old)) old rest in
-    let P : State → Type 0 = λ s. Did l old s Ended in
-    subst P (sym e) (
-      record {
-        place = raises_out (pure.Thrown (kind_of cause) (Some (pure.Str (message_in old.table.names cause)))) (world_of old) (slots_of old) (blocks_of old);
-        world = refl;
-        printed = sym (append-nil (string_bytes old.printed));
-        code = refl;
-        sound = rest_sound (Raised (kind_of cause) (message_in old.table.names cause)) old h;
-      },
-      refl,
-      refl,
-    )
-raised_did cause rest old new Starved h e = starved_did (yields_on (threw old.table.names cause (world_of old)) old rest) old new e
+raised_did cause rest old new r h e = e
 
 -- the run comes to its end
 pub finished_did : (old new : State) → IsSound old → new ≡ at_rest Returned old → Did (goes (Ending life.Returned) (world_of old)) old new Ended
@@ -161,36 +146,57 @@ discarded_did v rest old new h run top e =
 literals_fit : (c : ℕ) (literals texts : List pure.Text) → take (length literals) texts ≡ literals → length literals ≤ length texts
 literals_fit c literals texts e = omega (arith, ap length e, length-take (length literals) texts)
 
--- more texts, and a value in place of operands
-pub grown_did : (v : Value) (rest : List Value) (more : List pure.Text) (old new : State) → IsSound old → old.standing ≡ standing.Running → All (Fits (length old.texts)) rest → Fits (length (old.texts ++ more)) v → new ≡ record (moved (old.pc + 1) (v ∷ rest) old) { texts = old.texts ++ more } → Did (goes (At (old.pc + 1) (value_of (old.texts ++ more) v ∷ map (value_of old.texts) rest) (slots_of old) (blocks_of old)) (world_of old)) old new Local
-grown_did v rest more old new h run below fits e =
+-- stacks with other blocks, as many calls
+stacks_over : (n : ℕ) (ops : OperandsSeen) (slots : SlotsSeen) (bs cs : List Block) → calls_in bs ≡ calls_in cs → AreSound n ops slots bs → AreSound n ops slots cs
+stacks_over n ops slots bs cs e h = record { here = h.here; below = h.below; locals = h.locals; callers = h.callers; operands_each = h.operands_each ∙ e; locals_each = h.locals_each ∙ e }
+
+-- more texts, a value in place of operands, and other blocks
+grown_at : (v : Value) (rest : List Value) (more : List pure.Text) (bs : List Block) (old new : State) → IsSound old → old.standing ≡ standing.Running → All (Fits (length old.texts)) rest → Fits (length (old.texts ++ more)) v → All (FitsBlock (old.texts ++ more)) bs → calls_in old.blocks ≡ calls_in bs → new ≡ record (moved (old.pc + 1) (v ∷ rest) old) { texts = old.texts ++ more; blocks = bs } → Did (goes (At (old.pc + 1) (value_of (old.texts ++ more) v ∷ map (value_of old.texts) rest) (slots_of old) (blocks_with (old.texts ++ more) bs old.operands.below old.slots.below)) (world_of old)) old new Local
+grown_at v rest more bs old new h run below fits blocks count e =
     let texts = old.texts ++ more in
-    let l = goes (At (old.pc + 1) (value_of texts v ∷ map (value_of old.texts) rest) (slots_of old) (blocks_of old)) (world_of old) in
+    let names = old.table.names in
+    let all = blocks_with texts bs old.operands.below old.slots.below in
+    let l = goes (At (old.pc + 1) (value_of texts v ∷ map (value_of old.texts) rest) (slots_of old) all) (world_of old) in
     let P : State → Type 0 = λ s. Did l old s Local in
     let short : length old.table.literals ≤ length old.texts = literals_fit 0 old.table.literals old.texts h.literals in
-    let slots = map (local_of texts) old.slots.here in
-    let bs = blocks_with texts old.blocks old.operands.below old.slots.below in
+    let slots = map (bound_of texts) old.slots.here in
     let weaker : All (Fits (length texts)) rest = All-weaker (Fits (length old.texts)) (Fits (length texts)) (λ x k. fits_more old.texts more x k) rest below in
     subst P (sym e) (
       record {
         place =
-            ap (λ vs. At (old.pc + 1) (value_of texts v ∷ vs) (slots_of old) (blocks_of old)) (sym (values_stay old.texts more rest below))
-            ∙ ap (λ xs. At (old.pc + 1) (map (value_of texts) (v ∷ rest)) xs (blocks_of old)) (sym (locals_stay old.texts more old.slots.here h.stacks.locals))
-            ∙ ap (At (old.pc + 1) (map (value_of texts) (v ∷ rest)) slots) (sym (blocks_stay old.texts more old.blocks old.operands.below old.slots.below h.stacks.below h.stacks.callers))
-            ∙ ap (λ st. place_in st (old.pc + 1) (map (value_of texts) (v ∷ rest)) slots bs) (sym run);
-        world = ap (λ cells. let w : World = record { globals = globals_of old.table.names cells; store = [] } in w) (sym (cells_stay old.texts more old.globals.items h.globals));
+            ap (λ vs. At (old.pc + 1) (value_of texts v ∷ vs) (slots_of old) all) (sym (values_stay old.texts more rest below))
+            ∙ ap (λ xs. At (old.pc + 1) (map (value_of texts) (v ∷ rest)) xs all) (sym (locals_stay old.texts more old.slots.here h.stacks.locals))
+            ∙ ap (λ st. place_in st (old.pc + 1) (map (value_of texts) (v ∷ rest)) slots all) (sym run);
+        world =
+            ap (λ cells. let w : World = record { globals = globals_of names cells; store = map (object_of old.texts names) old.store.items } in w) (sym (locals_stay old.texts more old.globals.items h.globals))
+            ∙ ap (λ os. let w : World = record { globals = globals_of names (map (bound_of texts) old.globals.items); store = os } in w) (sym (objects_stay old.texts more names old.store.items h.store));
         printed = sym (append-nil (string_bytes old.printed));
         code = refl;
         sound = record {
-          stacks = stacks_more old.texts more (v ∷ rest) old.operands old.slots old.blocks (All-cons (Fits (length texts)) v rest fits weaker) h.stacks;
-          globals = All-weaker (FitsGlobal (length old.texts)) (FitsGlobal (length texts)) (λ x k. global_fits_more old.texts more x k) old.globals.items h.globals;
+          stacks = stacks_over (length texts) (with_operands (v ∷ rest) old.operands) old.slots old.blocks bs count (stacks_more old.texts more (v ∷ rest) old.operands old.slots old.blocks (All-cons (Fits (length texts)) v rest fits weaker) h.stacks);
+          blocks = blocks;
+          globals = All-weaker (FitsBound (length old.texts)) (FitsBound (length texts)) (λ x k. local_fits_more old.texts more x k) old.globals.items h.globals;
+          store = All-weaker (FitsObject (length old.texts)) (FitsObject (length texts)) (λ o k. object_fits_more old.texts more o k) old.store.items h.store;
           literals = take-append-le (length old.table.literals) old.texts more short ∙ h.literals;
           slots = h.slots;
+          built_ins = h.built_ins;
           short = h.short;
         };
       },
       run,
     )
+
+pub grown_did : (v : Value) (rest : List Value) (more : List pure.Text) (old new : State) → IsSound old → old.standing ≡ standing.Running → All (Fits (length old.texts)) rest → Fits (length (old.texts ++ more)) v → new ≡ record (moved (old.pc + 1) (v ∷ rest) old) { texts = old.texts ++ more } → Did (goes (At (old.pc + 1) (value_of (old.texts ++ more) v ∷ map (value_of old.texts) rest) (slots_of old) (blocks_of old)) (world_of old)) old new Local
+grown_did v rest more old new h run below fits e =
+    let texts = old.texts ++ more in
+    let P : List machine.Block → Type 0 = λ l. Did (goes (At (old.pc + 1) (value_of texts v ∷ map (value_of old.texts) rest) (slots_of old) l) (world_of old)) old new Local in
+    subst P (blocks_stay old.texts more old.blocks old.operands.below old.slots.below h.blocks h.stacks.below h.stacks.callers)
+    (grown_at v rest more old.blocks old new h run below fits (All-weaker (FitsBlock old.texts) (FitsBlock texts) (λ b k. block_fits_more old.texts more b k) old.blocks h.blocks) refl e)
+
+pub grown_with : (v : Value) (rest : List Value) (more : List pure.Text) (b : Block) (bs : List Block) (old new : State) → IsSound old → old.standing ≡ standing.Running → All (Fits (length old.texts)) rest → Fits (length (old.texts ++ more)) v → FitsBlock (old.texts ++ more) b → All (FitsBlock old.texts) bs → calls_in old.blocks ≡ calls_in (b ∷ bs) → new ≡ record (moved (old.pc + 1) (v ∷ rest) old) { texts = old.texts ++ more; blocks = b ∷ bs } → Did (goes (At (old.pc + 1) (value_of (old.texts ++ more) v ∷ map (value_of old.texts) rest) (slots_of old) (blocks_with (old.texts ++ more) (b ∷ bs) old.operands.below old.slots.below)) (world_of old)) old new Local
+grown_with v rest more b bs old new h run below fits top blocks count e =
+    let texts = old.texts ++ more in
+    grown_at v rest more (b ∷ bs) old new h run below fits (All-cons (FitsBlock texts) b bs top (All-weaker (FitsBlock old.texts) (FitsBlock texts) (λ c k. block_fits_more old.texts more c k) bs blocks)) count e
 
 rest_distinct : (x : pure.Text) (names : List pure.Text) → AllPairs (λ x y. x ≢ y) (x ∷ names) → AllPairs (λ x y. x ≢ y) names
 rest_distinct x names h = λ i j d p q. h (suc i) (suc j) d (omega arith) (omega arith)
@@ -198,88 +204,113 @@ rest_distinct x names h = λ i j d p q. h (suc i) (suc j) d (omega arith) (omega
 first_distinct : (x : pure.Text) (names : List pure.Text) (k : ℕ) → AllPairs (λ x y. x ≢ y) (x ∷ names) → k < length names → x ≢ text_at names k
 first_distinct x names k h p = h 0 (suc k) [] (omega arith) (omega arith)
 
-pub suit_length : (names : List pure.Text) (globals : List Global) → AllSuit names globals → length names ≡ length globals
-suit_length [] [] s = refl
-suit_length [] (h ∷ hs) s = absurd s
-suit_length (x ∷ names) [] s = absurd s
-suit_length (x ∷ names) (h ∷ hs) s = ap suc (suit_length names hs s.1)
-
 -- what a slot has is what its name has
-pub slot_read : (names : List pure.Text) (globals : List Global) (texts : List pure.Text) (k : ℕ) (g : Global) → AllPairs (λ x y. x ≢ y) names → AllSuit names globals → slice_get globals k ≡ Some g → (globals_of names (map (cell_of texts) globals) (text_at names k) ≡ cell_of texts g) × Suits (text_at names k) g
+slot_read : (names : List pure.Text) (globals : List (Option Value)) (texts : List pure.Text) (k : ℕ) (g : Option Value) → AllPairs (λ x y. x ≢ y) names → length globals ≡ length names → slice_get globals k ≡ Some g → globals_of names (map (bound_of texts) globals) (text_at names k) ≡ bound_of texts g
 slot_read [] [] texts k g d s e = cc
-slot_read [] (h ∷ hs) texts k g d s e = absurd s
-slot_read (x ∷ names) [] texts k g d s e = absurd s
+slot_read [] (h ∷ hs) texts k g d s e = absurd (omega (arith, s))
+slot_read (x ∷ names) [] texts k g d s e = absurd (omega (arith, s))
 slot_read (x ∷ names) (h ∷ hs) texts zero g d s e =
     let same : h ≡ g = cc in
-    let P : Global → Type 0 = λ v. Suits x v in (
-      ap (λ b. cond b (cell_of texts h) (globals_of names (map (cell_of texts) hs) x)) (same_self x) ∙ ap (cell_of texts) same,
-      subst P same s.0,
-    )
+    ap (λ b. cond b (bound_of texts h) (globals_of names (map (bound_of texts) hs) x)) (same_self x) ∙ ap (bound_of texts) same
 slot_read (x ∷ names) (h ∷ hs) texts (suc k) g d s e =
-    let r = slot_read names hs texts k g (rest_distinct x names d) s.1 e in
-    let p : k < length names = omega (arith, slice_get_within hs k g e, suit_length names hs s.1) in (
-      ap (λ b. cond b (cell_of texts h) (globals_of names (map (cell_of texts) hs) (text_at names k))) (other_is x (text_at names k) (first_distinct x names k d p)) ∙ r.0,
-      r.1,
-    )
+    let p : k < length names = omega (arith, slice_get_within hs k g e, s) in
+    ap (λ b. cond b (bound_of texts h) (globals_of names (map (bound_of texts) hs) (text_at names k))) (other_is x (text_at names k) (first_distinct x names k d p))
+    ∙ slot_read names hs texts k g (rest_distinct x names d) (omega (arith, s)) e
 
--- a slot that is bound binds its name
-slot_bound : (names : List pure.Text) (cells : List (Option pure.Value)) (k : ℕ) (u : pure.Value) (y : pure.Text) → AllPairs (λ x y. x ≢ y) names → length names ≡ length cells → k < length cells → globals_of names (slice_set cells k (Some u)) y ≡ bind (text_at names k) u (globals_of names cells) y
-slot_bound [] cells k u y d e p = absurd (omega arith)
-slot_bound (x ∷ names) [] k u y d e p = absurd (omega arith)
-slot_bound (x ∷ names) (c ∷ cells) zero u y d e p =
-    elim (same_text x y) as (λ b. cond b (Some u) (globals_of names cells y) ≡ cond b (Some u) (cond b c (globals_of names cells y))) [ true ↦ refl | false ↦ refl ]
-slot_bound (x ∷ names) (c ∷ cells) (suc k) u y d e p =
+-- the built-in value of a slot is that of its name
+built_in_read : (names : List pure.Text) (vs : List (Option Value)) (k : ℕ) (v : Option Value) → AreBuiltIn names vs → slice_get vs k ≡ Some v → built_in (text_at names k) ≡ bound_of [] v
+built_in_read [] [] k v s e = cc
+built_in_read [] (u ∷ vs) k v s e = absurd s
+built_in_read (x ∷ names) [] k v s e = absurd s
+built_in_read (x ∷ names) (u ∷ vs) zero v s e = let same : u ≡ v = cc in s.0 ∙ ap (bound_of []) same
+built_in_read (x ∷ names) (u ∷ vs) (suc k) v s e = built_in_read names vs k v s.1 e
+
+-- a built-in value speaks of no text
+abbrev IsBuilt : Option pure.Value → Type 0
+IsBuilt None = Unit {0}
+IsBuilt (Some (pure.Provided b)) = Unit {0}
+IsBuilt (Some (pure.Class k)) = Unit {0}
+IsBuilt (Some v) = ⊥
+
+either_built : (b : Bool) (o p : Option pure.Value) → IsBuilt o → IsBuilt p → IsBuilt (cond b o p)
+either_built true o p h k = h
+either_built false o p h k = k
+
+class_built : (o : Option Kind) → IsBuilt (option_map pure.Class o)
+class_built None = tt
+class_built (Some k) = tt
+
+all_built : (x : pure.Text) → IsBuilt (built_in x)
+all_built x =
+    either_built (same_text x (codes "print")) _ _ tt
+    (either_built (same_text x (codes "range")) _ _ tt
+    (either_built (same_text x (codes "str")) _ _ tt (either_built (same_text x (codes "repr")) _ _ tt (class_built (kind_named x built_in_kinds)))))
+
+built_alone : (v : Value) → IsBuilt (Some (value_of [] v)) → ((texts : List pure.Text) → value_of texts v ≡ value_of [] v) × ((n : ℕ) → Fits n v)
+built_alone value.None h = absurd h
+built_alone (value.Truth b) h = absurd h
+built_alone (value.Int n) h = absurd h
+built_alone (value.Str place) h = absurd h
+built_alone (value.BuiltIn b) h = ((λ texts. refl), (λ n. tt))
+built_alone (value.Function number name) h = absurd h
+built_alone (value.Range a b c) h = absurd h
+built_alone (value.Kind k) h = ((λ texts. refl), (λ n. tt))
+built_alone (value.Exception x) h = absurd h
+
+-- what a slot is set to, its name has
+slot_set : (names : List pure.Text) (cells : List (Option pure.Value)) (k : ℕ) (o : Option pure.Value) (y : pure.Text) → AllPairs (λ x y. x ≢ y) names → length names ≡ length cells → k < length cells → globals_of names (slice_set cells k o) y ≡ cond (same_text (text_at names k) y) o (globals_of names cells y)
+slot_set [] cells k o y d e p = absurd (omega arith)
+slot_set (x ∷ names) [] k o y d e p = absurd (omega arith)
+slot_set (x ∷ names) (c ∷ cells) zero o y d e p =
+    elim (same_text x y) as (λ b. cond b o (globals_of names cells y) ≡ cond b o (cond b c (globals_of names cells y))) [ true ↦ refl | false ↦ refl ]
+slot_set (x ∷ names) (c ∷ cells) (suc k) o y d e p =
     let z = text_at names k in
     let g = globals_of names cells y in
-    let tail = slot_bound names cells k u y (rest_distinct x names d) (omega arith) (omega arith) in
+    let tail = slot_set names cells k o y (rest_distinct x names d) (omega arith) (omega arith) in
     let apart : (same_text x y ≡ true) → same_text z y ≡ false =
     (λ q. ap (same_text z) (sym (same_is x y q)) ∙ other_is z x (λ r. first_distinct x names k d (omega arith) (sym r))) in
-    ap (λ t. cond (same_text x y) c t) tail ∙ swap (same_text x y) (same_text z y) c (Some u) g apart
+    ap (λ t. cond (same_text x y) c t) tail ∙ swap (same_text x y) (same_text z y) c o g apart
   where
     swap : {A : Type 0} (a b : Bool) (c u g : A) → ((a ≡ true) → b ≡ false) → cond a c (cond b u g) ≡ cond b u (cond a c g)
     swap true b c u g h = ap (λ v. cond v u c) (sym (h refl))
     swap false b c u g h = refl
-
-suits_set : (names : List pure.Text) (globals : List Global) (k : ℕ) (v : Value) → AllSuit names globals → AllSuit names (slice_set globals k (Bound v))
-suits_set [] [] k v s = s
-suits_set [] (h ∷ hs) k v s = absurd s
-suits_set (x ∷ names) [] k v s = absurd s
-suits_set (x ∷ names) (h ∷ hs) zero v s = (tt, s.1)
-suits_set (x ∷ names) (h ∷ hs) (suc k) v s = (s.0, suits_set names hs k v s.1)
 
 get_fits : {A : Type 0} (P : A → Type 0) (xs : List A) (k : ℕ) (x : A) → All P xs → slice_get xs k ≡ Some x → P x
 get_fits P xs k x h e =
     let Q : _ → Type 0 = P in
     subst Q (get_or_from_slice_get xs k x x e) (All-get_or P xs k x (slice_get_within xs k x e) h)
 
--- a slot is bound to the topmost operand
-pub stored_did : (k : ℕ) (v : Value) (rest : List Value) (old new : State) → IsSound old → AllPairs (λ x y. x ≢ y) old.table.names → old.standing ≡ standing.Running → k < length old.globals.items → old.operands.here ≡ v ∷ rest → new.globals.items ≡ slice_set old.globals.items k (Bound v) → new ≡ record (moved (old.pc + 1) rest old) { globals = new.globals } → Did (goes (At (old.pc + 1) (map (value_of old.texts) rest) (slots_of old) (blocks_of old)) (set_global (text_at old.table.names k) (value_of old.texts v) (world_of old))) old new Local
-stored_did k v rest old new h d run p top items e =
-    let F = Fits (length old.texts) in
-    let A : List Value → Type 0 = λ vs. All F vs in
-    let ops : All F (v ∷ rest) = subst A top h.stacks.here in
+-- a world where the name of a slot has this, or nothing
+abbrev rebound : ℕ → Option pure.Value → State → World
+rebound k o s = record (world_of s) { globals = λ y. cond (same_text (text_at s.table.names k) y) o ((world_of s).globals y) }
+
+-- a slot is set, with operands that fit the texts
+rebound_did : (k : ℕ) (o : Option Value) (rest : List Value) (old new : State) → IsSound old → AllPairs (λ x y. x ≢ y) old.table.names → old.standing ≡ standing.Running → k < length old.globals.items → FitsBound (length old.texts) o → All (Fits (length old.texts)) rest → new.globals.items ≡ slice_set old.globals.items k o → new ≡ record (moved (old.pc + 1) rest old) { globals = new.globals } → Did (goes (At (old.pc + 1) (map (value_of old.texts) rest) (slots_of old) (blocks_of old)) (rebound k (bound_of old.texts o) old)) old new Local
+rebound_did k o rest old new h d run p fits below items e =
     let names = old.table.names in
-    let cells = map (cell_of old.texts) old.globals.items in
-    let l = goes (At (old.pc + 1) (map (value_of old.texts) rest) (slots_of old) (blocks_of old)) (set_global (text_at names k) (value_of old.texts v) (world_of old)) in
-    let is : map (cell_of old.texts) new.globals.items ≡ slice_set cells k (Some (value_of old.texts v)) = ap (map (cell_of old.texts)) items ∙ map-set (cell_of old.texts) old.globals.items k (Bound v) in
-    let long : length names ≡ length cells = suit_length names old.globals.items h.slots ∙ sym (length-map old.globals.items (cell_of old.texts)) in
-    let within : k < length cells = omega (arith, p, length-map old.globals.items (cell_of old.texts)) in
-    let all : globals_of names (map (cell_of old.texts) new.globals.items) ≡ bind (text_at names k) (value_of old.texts v) (globals_of names cells) =
-    ap (globals_of names) is ∙ fun_ext (λ y. slot_bound names cells k (value_of old.texts v) y d long within) in
+    let cells = map (bound_of old.texts) old.globals.items in
+    let l = goes (At (old.pc + 1) (map (value_of old.texts) rest) (slots_of old) (blocks_of old)) (rebound k (bound_of old.texts o) old) in
+    let is : map (bound_of old.texts) new.globals.items ≡ slice_set cells k (bound_of old.texts o) = ap (map (bound_of old.texts)) items ∙ map-set (bound_of old.texts) old.globals.items k o in
+    let long : length names ≡ length cells = sym h.slots ∙ sym (length-map old.globals.items (bound_of old.texts)) in
+    let within : k < length cells = omega (arith, p, length-map old.globals.items (bound_of old.texts)) in
+    let all : globals_of names (map (bound_of old.texts) new.globals.items) ≡ (λ y. cond (same_text (text_at names k) y) (bound_of old.texts o) (globals_of names cells y)) =
+    ap (globals_of names) is ∙ fun_ext (λ y. slot_set names cells k (bound_of old.texts o) y d long within) in
     let P : State → Type 0 = λ s. Did l old s Local in
-    let G : List Global → Type 0 = λ gs. All (FitsGlobal (length old.texts)) gs in
-    let S : List Global → Type 0 = λ gs. AllSuit names gs in
+    let G : List (Option Value) → Type 0 = λ gs. All (FitsBound (length old.texts)) gs in
     subst P (sym e) (
       record {
         place = ap (λ st. place_in st (old.pc + 1) (map (value_of old.texts) rest) (slots_of old) (blocks_of old)) (sym run);
-        world = ap (λ g. let w : World = record { globals = g; store = [] } in w) (sym all);
+        world = ap (λ g. let w : World = record { globals = g; store = map (object_of old.texts names) old.store.items } in w) (sym all);
         printed = sym (append-nil (string_bytes old.printed));
         code = refl;
         sound = record {
-          stacks = with_here (length old.texts) rest old h.stacks (All-tail F v rest ops);
-          globals = subst G (sym items) (All-set (FitsGlobal (length old.texts)) old.globals.items k (Bound v) (All-head F v rest ops) h.globals);
+          stacks = with_here (length old.texts) rest old h.stacks below;
+          blocks = h.blocks;
+          globals = subst G (sym items) (All-set (FitsBound (length old.texts)) old.globals.items k o fits h.globals);
+          store = h.store;
           literals = h.literals;
-          slots = subst S (sym items) (suits_set names old.globals.items k v h.slots);
+          slots = ap length items ∙ length-set old.globals.items k o ∙ h.slots;
+          built_ins = h.built_ins;
           short = h.short;
         };
       },
@@ -302,28 +333,29 @@ load_none names k w e f =
     pick true = refl
     pick false = refl
 
-pub bound_did : (k : ℕ) (v : Value) (old new : State) (r : Step) → IsSound old → AllPairs (λ x y. x ≢ y) old.table.names → old.standing ≡ standing.Running → slice_get old.globals.items k ≡ Some (Bound v) → IsPushed v old new r → Did (line_of (LoadGlobal (text_at old.table.names k)) old) old new r
+pub bound_did : (k : ℕ) (v : Value) (old new : State) (r : Step) → IsSound old → AllPairs (λ x y. x ≢ y) old.table.names → old.standing ≡ standing.Running → slice_get old.globals.items k ≡ Some (Some v) → IsPushed v old new r → Did (line_of (LoadGlobal (text_at old.table.names k)) old) old new r
 bound_did k v old new r h d run at e =
     let w = world_of old in
     let x = text_at old.table.names k in
     let P : Ran → Type 0 = λ f. Did (yields f (old.pc + 1) (operands_of old) (slots_of old) (blocks_of old)) old new r in
-    let fits : Fits (length old.texts) v = get_fits (FitsGlobal (length old.texts)) old.globals.items k (Bound v) h.globals at in
-    subst P (sym (load_found x (value_of old.texts v) w (slot_read old.table.names old.globals.items old.texts k (Bound v) d h.slots at).0)) (pushed_did (value_of old.texts v) v old new r h run fits refl e)
+    let fits : Fits (length old.texts) v = get_fits (FitsBound (length old.texts)) old.globals.items k (Some v) h.globals at in
+    subst P (sym (load_found x (value_of old.texts v) w (slot_read old.table.names old.globals.items old.texts k (Some v) d h.slots at))) (pushed_did (value_of old.texts v) v old new r h run fits refl e)
 
-pub provided_did : (k : ℕ) (b : BuiltIn) (old new : State) (r : Step) → IsSound old → AllPairs (λ x y. x ≢ y) old.table.names → old.standing ≡ standing.Running → slice_get old.globals.items k ≡ Some (Provided b) → IsPushed (value.BuiltIn b) old new r → Did (line_of (LoadGlobal (text_at old.table.names k)) old) old new r
-provided_did k b old new r h d run at e =
+pub provided_did : (k : ℕ) (v : Value) (old new : State) (r : Step) → IsSound old → AllPairs (λ x y. x ≢ y) old.table.names → old.standing ≡ standing.Running → slice_get old.globals.items k ≡ Some None → slice_get old.built_ins.items k ≡ Some (Some v) → IsPushed v old new r → Did (line_of (LoadGlobal (text_at old.table.names k)) old) old new r
+provided_did k v old new r h d run at has e =
     let w = world_of old in
     let x = text_at old.table.names k in
     let P : Ran → Type 0 = λ f. Did (yields f (old.pc + 1) (operands_of old) (slots_of old) (blocks_of old)) old new r in
-    let read = slot_read old.table.names old.globals.items old.texts k (Provided b) d h.slots at in
-    subst P (sym (load_built_in x (pure.Provided (built_in_of b)) w read.0 read.1)) (pushed_did (pure.Provided (built_in_of b)) (value.BuiltIn b) old new r h run tt refl e)
+    let read = built_in_read old.table.names old.built_ins.items k (Some v) h.built_ins has in
+    let alone = built_alone v (subst IsBuilt read (all_built x)) in
+    subst P (sym (load_built_in x (value_of [] v) w (slot_read old.table.names old.globals.items old.texts k None d h.slots at) read)) (pushed_did (value_of [] v) v old new r h run (alone.1 (length old.texts)) (alone.0 old.texts) e)
 
-pub unbound_did : (k : ℕ) (old new : State) (r : Step) → IsSound old → AllPairs (λ x y. x ≢ y) old.table.names → slice_get old.globals.items k ≡ Some Unbound → IsRaised (not_defined_cause old.table.names k) old new r → Did (line_of (LoadGlobal (text_at old.table.names k)) old) old new r
-unbound_did k old new r h d at e =
+pub unbound_did : (k : ℕ) (old new : State) (r : Step) → IsSound old → AllPairs (λ x y. x ≢ y) old.table.names → slice_get old.globals.items k ≡ Some None → slice_get old.built_ins.items k ≡ Some None → IsRaised (not_defined_cause old.table.names k) old new r → Did (line_of (LoadGlobal (text_at old.table.names k)) old) old new r
+unbound_did k old new r h d at has e =
     let w = world_of old in
     let P : Ran → Type 0 = λ f. Did (yields f (old.pc + 1) (operands_of old) (slots_of old) (blocks_of old)) old new r in
-    let read = slot_read old.table.names old.globals.items old.texts k Unbound d h.slots at in
-    subst P (sym (load_none old.table.names k w read.0 read.1)) (raised_did (not_defined_cause old.table.names k) old.operands.here old new r h e)
+    let read = built_in_read old.table.names old.built_ins.items k None h.built_ins has in
+    subst P (sym (load_none old.table.names k w (slot_read old.table.names old.globals.items old.texts k None d h.slots at) read)) (raised_did (not_defined_cause old.table.names k) old.operands.here old new r h e)
 
 -- an operand gives way to what an operator gives for it
 pub unary_did : (o : tree.UnaryOperator) (x v : Value) (rest : List Value) (old new : State) → IsSound old → old.standing ≡ standing.Running → old.operands.here ≡ x ∷ rest → ((names : List pure.Text) (w : World) → operate_unary o (value_of old.texts x) w ≡ gave (value_of old.texts v) w) → ((n : ℕ) → Fits n v) → new ≡ moved (old.pc + 1) (v ∷ rest) old → Did (line_of (ApplyUnary o) old) old new Local
@@ -391,10 +423,16 @@ discard_did v rest old new h run top e =
 pub discard_lacks : (s : State) → s.operands.here ≡ [] → IsOpen (line_of Discard s) → ⊥
 discard_lacks s none h = h (ap (λ vs. (line_on Discard s vs).place) none)
 
-pub store_did : (k : ℕ) (v : Value) (rest : List Value) (old new : State) → IsSound old → AllPairs (λ x y. x ≢ y) old.table.names → old.standing ≡ standing.Running → k < length old.globals.items → old.operands.here ≡ v ∷ rest → new.globals.items ≡ slice_set old.globals.items k (Bound v) → new ≡ record (moved (old.pc + 1) rest old) { globals = new.globals } → Did (line_of (StoreGlobal (text_at old.table.names k)) old) old new Local
+pub store_did : (k : ℕ) (v : Value) (rest : List Value) (old new : State) → IsSound old → AllPairs (λ x y. x ≢ y) old.table.names → old.standing ≡ standing.Running → k < length old.globals.items → old.operands.here ≡ v ∷ rest → new.globals.items ≡ slice_set old.globals.items k (Some v) → new ≡ record (moved (old.pc + 1) rest old) { globals = new.globals } → Did (line_of (StoreGlobal (text_at old.table.names k)) old) old new Local
 store_did k v rest old new h d run p top items e =
+    let F = Fits (length old.texts) in
+    let A : List Value → Type 0 = λ vs. All F vs in
+    let ops : All F (v ∷ rest) = subst A top h.stacks.here in
     let P : Line → Type 0 = λ l. Did l old new Local in
-    subst P (sym (ap (line_on (StoreGlobal (text_at old.table.names k)) old) top)) (stored_did k v rest old new h d run p top items e)
+    subst P (sym (ap (line_on (StoreGlobal (text_at old.table.names k)) old) top)) (rebound_did k (Some v) rest old new h d run p (All-head F v rest ops) (All-tail F v rest ops) items e)
+
+pub unbind_did : (k : ℕ) (old new : State) → IsSound old → AllPairs (λ x y. x ≢ y) old.table.names → old.standing ≡ standing.Running → k < length old.globals.items → new.globals.items ≡ slice_set old.globals.items k None → new ≡ record old { pc = old.pc + 1; globals = new.globals } → Did (line_of (UnbindGlobal (text_at old.table.names k)) old) old new Local
+unbind_did k old new h d run p items e = rebound_did k None old.operands.here old new h d run p tt h.stacks.here items e
 
 pub store_lacks : (x : pure.Text) (s : State) → s.operands.here ≡ [] → IsOpen (line_of (StoreGlobal x) s) → ⊥
 store_lacks x s none h = h (ap (λ vs. (line_on (StoreGlobal x) s vs).place) none)
@@ -426,12 +464,23 @@ ended l old new r e h =
     let P : Step → Type 0 = λ x. Did l old new x in
     subst P (sym e) h
 
--- a slot has its global
+-- a slot has its global, and its built-in value
 pub slot_there : (s : State) (k : ℕ) → IsSound s → k < length s.table.names → k < length s.globals.items
-slot_there s k h p = omega (arith, suit_length s.table.names s.globals.items h.slots)
+slot_there s k h p = omega (arith, h.slots)
+
+missing : {A B : Type 0} (d : A) (xs : List A) (k : ℕ) → k < length xs → slice_get xs k ≡ None → B
+missing d xs k lt e =
+    let at = slice_get-get_or xs k d lt in
+    absurd (let no : ⊥ = cc in no)
 
 pub slot_missing : {A : Type 0} (s : State) (k : ℕ) → IsSound s → k < length s.table.names → slice_get s.globals.items k ≡ None → A
-slot_missing s k h p e =
-    let lt = slot_there s k h p in
-    let at = slice_get-get_or s.globals.items k Unbound lt in
-    absurd (let no : ⊥ = cc in no)
+slot_missing s k h p e = missing None s.globals.items k (slot_there s k h p) e
+
+built_ins_each : (names : List pure.Text) (vs : List (Option Value)) → AreBuiltIn names vs → length names ≡ length vs
+built_ins_each [] [] s = refl
+built_ins_each [] (v ∷ vs) s = absurd s
+built_ins_each (x ∷ names) [] s = absurd s
+built_ins_each (x ∷ names) (v ∷ vs) s = ap suc (built_ins_each names vs s.1)
+
+pub built_in_missing : {A : Type 0} (s : State) (k : ℕ) → IsSound s → k < length s.table.names → slice_get s.built_ins.items k ≡ None → A
+built_in_missing s k h p e = missing None s.built_ins.items k (omega (arith, built_ins_each s.table.names s.built_ins.items h.built_ins)) e

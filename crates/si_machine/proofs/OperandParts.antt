@@ -1,9 +1,9 @@
 -- Operands of all calls in one list, and what is seen of them.
-use Rattle.std.proofs.Common.{◌≡◌, ℕ, ◌+◌, ◌-◌, ◌<◌, ◌≤◌, List, [], ◌∷◌, ◌++◌, length, take, drop, get_or, suc, sym, ap, subst, ◌∙◌, arith}
+use Rattle.std.proofs.Common.{◌≡◌, ℕ, ◌+◌, ◌-◌, ◌<◌, ◌≤◌, List, [], ◌∷◌, ◌++◌, length, take, drop, get_or, suc, refl, sym, ap, subst, ◌∙◌, arith}
 use Rattle.std.specs.Prelude.{reverse, slice_set, map}
 use Rattle.std.proofs.lemmas.List.{take-take, take-append-le, drop-append-le, drop-drop, drop_all, length-append, length-reverse, length-take-le, length-drop, length-map, get_or-drop, reverse-append, take_rest, set_split}
 use Rattle.si_machine.specs.declared.value.Value.{Value}
-use Rattle.si_machine.specs.Stacks.{OperandsSeen, operands_seen, parts, Ascends, back_with}
+use Rattle.si_machine.specs.Stacks.{OperandsSeen, operands_seen, parts, Ascends, back_with, left_by}
 use Rattle.si_machine.proofs.Tops.{inserted, top_is, call_at}
 use Rattle.si_machine.proofs.Parts.{parts_same, length-parts, behind_base, without_top}
 
@@ -109,6 +109,17 @@ closed xs v base b bases rest now e within order view =
     closed_to xs v base b (reverse rest) within (let P : List ℕ → Type 0 = Ascends 1 base in subst P turned order)
     ∙ ap (λ l. back_with v (callers xs base l)) (sym turned)
     ∙ ap (λ s. back_with v s.below) view
+
+-- a call is left without a value
+abandoned_to : (xs : List Value) (base b : ℕ) (bases : List ℕ) → Ascends 1 base (b ∷ bases) → operands_seen (take (base - 1) xs) b bases ≡ left_by (callers xs base (b ∷ bases))
+abandoned_to xs base b bases order = seen_same _ _ _ _ refl (callers_cut xs b (base - 1) bases order.1 (omega (arith, order.0)))
+
+pub abandoned : (xs : List Value) (base b : ℕ) (bases rest : List ℕ) (now : OperandsSeen) → bases ≡ rest ++ b ∷ [] → base ≤ length xs → Ascends 1 base (reverse bases) → operands_seen xs base (reverse bases) ≡ now → operands_seen (take (base - 1) xs) b (reverse rest) ≡ left_by now.below
+abandoned xs base b bases rest now e within order view =
+    let turned : reverse bases ≡ b ∷ reverse rest = ap reverse e ∙ reverse-append rest (b ∷ []) in
+    abandoned_to xs base b (reverse rest) (let P : List ℕ → Type 0 = Ascends 1 base in subst P turned order)
+    ∙ ap (λ l. left_by (callers xs base l)) (sym turned)
+    ∙ ap (λ s. left_by s.below) view
 
 pub depth_is : (xs : List Value) (base : ℕ) (bases : List ℕ) (now : OperandsSeen) → operands_seen xs base (reverse bases) ≡ now → length bases ≡ length now.below
 depth_is xs base bases now view =

@@ -6,11 +6,9 @@ use Rattle.std.proofs.lemmas.Str.{encodes-append}
 use Rattle.std.proofs.lemmas.Option.{unwrap_or-slice_get}
 use Rattle.si_semantics.specs.Value as pure
 use Rattle.si_semantics.specs.World.{World, Ran}
-use Rattle.si_semantics.specs.Text.{max_length, str_of, line_of}
+use Rattle.si_semantics.specs.Text.{max_length}
 use Rattle.si_semantics.specs.Operations.{times, repeated, gave, too_long, within}
 use Rattle.si_code.specs.Views.{text_at}
-use Rattle.si_machine.specs.Values.{spaced, value_of}
-use Rattle.si_machine.specs.declared.value.Value.{Value}
 use Rattle.si_machine.specs.Causes.{repeated_text, copies_of, Adds, Runs, threw}
 use Rattle.si_machine.specs.declared.value.Value.TheVariants as value
 use Rattle.si_machine.specs.declared.cause.Fault.{Fault}
@@ -93,54 +91,8 @@ none_at texts place e = sym (unwrap_or-slice_get texts place []) ∙ ap (λ o. u
 pub some_at : (texts : List pure.Text) (place : ℕ) (t : pure.Text) → slice_get texts place ≡ Some t → t ≡ text_at texts place
 some_at texts place t e = ap (λ o. unwrap_or o []) (sym e) ∙ unwrap_or-slice_get texts place []
 
--- one more value, with its space
-pub spaced_more : (vs : List pure.Value) (v : pure.Value) → spaced (vs ++ v ∷ []) ≡ spaced vs ++ 32 ∷ str_of v
-spaced_more [] v = ap (λ t. 32 ∷ t) (append-nil (str_of v))
-spaced_more (u ∷ vs) v = ap (λ t. 32 ∷ (str_of u ++ t)) (spaced_more vs v) ∙ ap (λ t. 32 ∷ t) (sym (append_assoc (str_of u) (spaced vs) (32 ∷ str_of v)))
-
--- a line is its first value and the others, each with a space
-pub line_is : (v : pure.Value) (vs : List pure.Value) → line_of (v ∷ vs) ≡ str_of v ++ (spaced vs ++ 10 ∷ [])
-line_is v [] = refl
-line_is v (u ∷ vs) = ap (λ t. str_of v ++ 32 ∷ t) (line_is u vs ∙ sym (append_assoc (str_of u) (spaced vs) (10 ∷ [])))
-
--- one more value is written, with its space
-pub others_step : (texts : List pure.Text) (values : List Value) (i : ℕ) (d : Value) (b0 b b1 b2 : List ℕ) → i < length values → b ≡ b0 ++ encode_utf8_all (spaced (map (value_of texts) (take i values))) → b1 ≡ b ++ 32 ∷ [] → b2 ≡ b1 ++ encode_utf8_all (str_of (value_of texts (get_or values i d))) → b2 ≡ b0 ++ encode_utf8_all (spaced (map (value_of texts) (take (i + 1) values)))
-unfolding lib.Utf8.encode
-others_step texts values i d b0 b b1 b2 lt e e1 e2 =
-    let f = value_of texts in
-    let v = get_or values i d in
-    let old = spaced (map f (take i values)) in
-    let line : spaced (map f (take (i + 1) values)) ≡ old ++ 32 ∷ str_of (f v) = ap (λ l. spaced (map f l)) (take_more values i d lt) ∙ ap spaced (map-append f (take i values) (v ∷ [])) ∙ spaced_more (map f (take i values)) (f v) in
-    e2 ∙ ap (λ l. l ++ encode_utf8_all (str_of (f v))) (e1 ∙ ap (λ l. l ++ 32 ∷ []) e)
-    ∙ append_assoc (b0 ++ encode_utf8_all old) (32 ∷ []) (encode_utf8_all (str_of (f v)))
-    ∙ append_assoc b0 (encode_utf8_all old) (32 ∷ encode_utf8_all (str_of (f v)))
-    ∙ ap (λ l. b0 ++ l) (sym (encodes-append old (32 ∷ str_of (f v))) ∙ ap encode_utf8_all (sym line))
-
--- a whole line is written
-pub line_written : (f : Value → pure.Value) (all others : List Value) (v : Value) (b0 b1 b2 b3 : List ℕ) → all ≡ v ∷ others → b1 ≡ b0 ++ encode_utf8_all (str_of (f v)) → b2 ≡ b1 ++ encode_utf8_all (spaced (map f others)) → b3 ≡ b2 ++ 10 ∷ [] → b3 ≡ b0 ++ encode_utf8_all (line_of (map f all))
-unfolding lib.Utf8.encode
-line_written f all others v b0 b1 b2 b3 e e1 e2 e3 =
-    let x = str_of (f v) in
-    let y = spaced (map f others) in
-    e3 ∙ ap (λ l. l ++ 10 ∷ []) (e2 ∙ ap (λ l. l ++ encode_utf8_all y) e1)
-    ∙ append_assoc (b0 ++ encode_utf8_all x) (encode_utf8_all y) (10 ∷ [])
-    ∙ append_assoc b0 (encode_utf8_all x) (encode_utf8_all y ++ 10 ∷ [])
-    ∙ ap (λ l. b0 ++ (encode_utf8_all x ++ l)) (sym (encodes-append y (10 ∷ [])))
-    ∙ ap (λ l. b0 ++ l) (sym (encodes-append x (y ++ 10 ∷ [])))
-    ∙ ap (λ l. b0 ++ encode_utf8_all l) (sym (line_is (f v) (map f others)) ∙ ap (λ l. line_of (map f l)) (sym e))
-
--- a function is written by its name
-pub function_written : (name : pure.Text) (b0 b1 b2 b3 : List ℕ) → b1 ≡ b0 ++ codes "<function " → b2 ≡ b1 ++ encode_utf8_all name → b3 ≡ b2 ++ 62 ∷ [] → b3 ≡ b0 ++ encode_utf8_all (codes "<function " ++ (name ++ codes ">"))
-unfolding lib.Utf8.encode
-function_written name b0 b1 b2 b3 e1 e2 e3 =
-    let x = codes "<function " in
-    e3 ∙ ap (λ l. l ++ 62 ∷ []) (e2 ∙ ap (λ l. l ++ encode_utf8_all name) e1)
-    ∙ append_assoc (b0 ++ x) (encode_utf8_all name) (62 ∷ [])
-    ∙ append_assoc b0 x (encode_utf8_all name ++ 62 ∷ [])
-    ∙ ap (λ l. b0 ++ (x ++ l)) (sym (encodes-append name (62 ∷ [])))
-
 -- a text that was added is what an operation gives
-added : (t : pure.Text) (old new : List pure.Text) (place : ℕ) → place ≡ length old → new ≡ old ++ t ∷ [] → text_at new place ≡ t
+pub added : (t : pure.Text) (old new : List pure.Text) (place : ℕ) → place ≡ length old → new ≡ old ++ t ∷ [] → text_at new place ≡ t
 added t old new place e h = ap (λ l. text_at l place) h ∙ added_at old t place e
 
 pub placed_runs : (f : World → Ran) (t : pure.Text) (old new : List pure.Text) (place : ℕ) → ((w : World) → nat_lt max_length (length t) ≡ false → f w ≡ gave (pure.Str t) w) → Adds t old new (Ok place) → Runs f old new (Ok (value.Str place))

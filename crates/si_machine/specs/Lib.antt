@@ -1,4 +1,5 @@
 pub mod Stacks
+pub mod Blocks
 pub mod Values
 pub mod Causes
 pub mod Outcomes

@@ -1,7 +1,7 @@
 -- What is seen of a machine, and what its calls make of that.
 use Rattle.std.specs.Prelude.{◌≡◌, ℕ, List, [], ◌++◌, Option, Bool, true, false, encode_utf8_all}
 use Rattle.si_semantics.specs.Tree.{Function, Module}
-use Rattle.si_semantics.specs.Value.{Text, Value}
+use Rattle.si_semantics.specs.Value.{Text, Value, Object}
 use Rattle.si_semantics.specs.World.{World}
 use Rattle.si_semantics.specs.Life.{Outcome}
 use Rattle.si_semantics.specs.Machine.{Place, At, Calling, Taking, Ending, Closed, Table, Course, next}
@@ -12,20 +12,21 @@ use Rattle.si_machine.specs.declared.step.Step.{Step}
 use Rattle.si_machine.specs.declared.step.Step.TheVariants.{Local, Ended, Starved}
 use Rattle.si_machine.specs.Values.{globals_of}
 
--- its code, where it stands (waiting for a text where nothing runs), the names that its code speaks of and what is bound to each, what
+-- its code, where it stands (waiting for a text where nothing runs), the names that its code speaks of and what is bound to each, its objects, what
 -- it has printed in UTF-8, how the last run ended (at its end, where that was told, or none has ended), and whether it was refused memory
 pub record Seen : Type 0 where
   pub table : Table
   pub place : Place
   pub names : List Text
   pub values : List (Option Value)
+  pub store : List Object
   pub printed : List ℕ
   pub outcome : Outcome
   pub starved : Bool
 
 -- the world of a machine's scripts
 abbrev pub world_in : Seen → World
-world_in s = record { globals = globals_of s.names s.values; store = [] }
+world_in s = record { globals = globals_of s.names s.values; store = s.store }
 
 -- a machine is at a moment of a course, with no answer to come; its lines aren't counted, and what it has printed is told apart
 abbrev pub moment_of : Seen → Course

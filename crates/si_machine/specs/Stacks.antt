@@ -1,8 +1,6 @@
 -- The stacks of the calls that are under way, each of which lies in one list: the part of each call begins at its base.
 use Rattle.std.specs.Prelude.{ℕ, zero, suc, ◌+◌, ◌-◌, ◌≤◌, List, [], ◌∷◌, ◌++◌, length, map, take, drop, reverse, Option, Some, None, slice_get}
 use Rattle.si_machine.specs.declared.value.Value.{Value}
-use Rattle.si_machine.specs.declared.blocks.Block.{Block}
-use Rattle.si_machine.specs.declared.blocks.Block.TheVariants.{Loop, Frame}
 
 -- the operands of the call that runs, the topmost first, and those of its callers, the innermost first
 pub record OperandsSeen : Type 0 where
@@ -38,6 +36,11 @@ abbrev pub back_with : Value → List (List Value) → OperandsSeen
 back_with v [] = record { here = []; below = [] }
 back_with v (here ∷ below) = record { here = v ∷ here; below = below }
 
+-- a call is left without a value: its caller has its operands again
+abbrev pub left_by : List (List Value) → OperandsSeen
+left_by [] = record { here = []; below = [] }
+left_by (here ∷ below) = record { here = here; below = below }
+
 -- a call has ended: its caller has its slots again
 abbrev pub back : List (List (Option Value)) → SlotsSeen
 back [] = record { here = []; below = [] }
@@ -60,9 +63,3 @@ passed (v ∷ vs) = Some v ∷ passed vs
 -- the slots of a call as it begins, so many: the first ones have the arguments
 abbrev pub entered : ℕ → List Value → List (Option Value)
 entered locals vs = passed vs ++ unbound (locals - length vs)
-
--- where the innermost call goes on when it is left, and the blocks behind it: the loops within it are left with it; none where no call is under way
-abbrev pub behind_call : List Block → Option (ℕ × List Block)
-behind_call [] = None
-behind_call (Loop start after ∷ blocks) = behind_call blocks
-behind_call (Frame after ∷ blocks) = Some (after, blocks)

@@ -1,9 +1,9 @@
 -- What a machine's state stands for, and what an instruction makes of it.
-use Rattle.std.specs.Prelude.{Bool, true, false, ◌≡◌, ◌≢◌, ℕ, ◌+◌, ◌<◌, ◌^◌, List, [], ◌∷◌, ◌++◌, length, map, take, drop, reverse, Option, Some, None, All, slice_get, string_bytes, encode_utf8_all}
+use Rattle.std.specs.Prelude.{Bool, true, false, ◌≡◌, ◌≢◌, ℕ, ◌+◌, ◌<◌, ◌^◌, List, [], ◌∷◌, ◌++◌, length, map, take, drop, reverse, Option, Some, None, option_map, All, slice_get, string_bytes, encode_utf8_all}
 use Rattle.si_semantics.specs.Value as pure
 use Rattle.si_semantics.specs.World.{World}
 use Rattle.si_semantics.specs.Machine as machine
-use Rattle.si_semantics.specs.Machine.{Instr, Loop, Frame, Place, At, Taking, Ending, Closed, Line, act, fetched}
+use Rattle.si_semantics.specs.Machine.{Instr, Loop, Each, Catch, Final, Pending, Handling, Frame, Place, At, Taking, Ending, Closed, Line, act, fetched, goes, raises, leave}
 use Rattle.si_code.specs.Views.{code_of, entries_of, table_of}
 use Rattle.si_code.specs.declared.routine.Routine.{Routine}
 use Rattle.si_compile.specs.Correct.{NeverCloses}
@@ -11,16 +11,19 @@ use Rattle.si_machine.specs.declared.value.Value.{Value}
 use Rattle.si_machine.specs.declared.value.Value.TheVariants as value
 use Rattle.si_machine.specs.declared.blocks.Block.{Block}
 use Rattle.si_machine.specs.declared.blocks.Block.TheVariants as block
+use Rattle.si_machine.specs.declared.blocks.Leaving.{Leaving}
+use Rattle.si_machine.specs.declared.blocks.Leaving.TheVariants.{Raises}
+use Rattle.si_machine.specs.declared.value.Object.{Object}
+use Rattle.si_machine.specs.declared.value.Object.TheVariants.{Caused}
 use Rattle.si_machine.specs.declared.cause.Cause.{Cause}
 use Rattle.si_machine.specs.declared.state.Standing.{Standing}
 use Rattle.si_machine.specs.declared.state.Standing.TheVariants as standing
 use Rattle.si_machine.specs.declared.state.State.{State}
-use Rattle.si_machine.specs.declared.step.Outcome.TheVariants.{Raised}
 use Rattle.si_machine.specs.declared.step.Outcome.{Outcome}
 use Rattle.si_machine.specs.declared.step.Step.{Step}
 use Rattle.si_machine.specs.declared.step.Step.TheVariants.{Local, Ended, Starved}
-use Rattle.si_machine.specs.Values.{value_of, cell_of, globals_of, Fits, FitsGlobal, AllSuit}
-use Rattle.si_machine.specs.Causes.{kind_of, message_in}
+use Rattle.si_machine.specs.Values.{value_of, bound_of, items_of, leaving_of, globals_of, Fits, FitsBound, FitsItems, FitsLeaving, FitsObject, AreBuiltIn}
+use Rattle.si_machine.specs.Causes.{object_of}
 use Rattle.si_machine.specs.Outcomes.{outcome_of}
 use Rattle.si_machine.specs.Stacks.{OperandsSeen, SlotsSeen, back_with, back, entered}
 use Rattle.si_machine.specs.Machines.{Seen, moment_of}
@@ -29,18 +32,13 @@ use Rattle.si_machine.specs.Machines.{Seen, moment_of}
 abbrev pub operands_of : State → List pure.Value
 operands_of s = map (value_of s.texts) s.operands.here
 
--- a local's value, where it is bound
-abbrev pub local_of : List pure.Text → Option Value → Option pure.Value
-local_of texts None = None
-local_of texts (Some v) = Some (value_of texts v)
-
 -- the locals of the call that runs
 abbrev pub slots_of : State → List (Option pure.Value)
-slots_of s = map (local_of s.texts) s.slots.here
+slots_of s = map (bound_of s.texts) s.slots.here
 
--- the world: the values of the slots, each under its name
+-- the world: the values of the slots, each under its name, and the objects of the store
 abbrev pub world_of : State → World
-world_of s = record { globals = globals_of s.table.names (map (cell_of s.texts) s.globals.items); store = [] }
+world_of s = record { globals = globals_of s.table.names (map (bound_of s.texts) s.globals.items); store = map (object_of s.texts s.table.names) s.store.items }
 
 -- the innermost of the callers' lists, where there is one
 abbrev pub innermost : {A : Type 0} → List (List A) → List A
@@ -52,8 +50,13 @@ innermost (xs ∷ rest) = xs
 abbrev pub blocks_with : List pure.Text → List Block → List (List Value) → List (List (Option Value)) → List machine.Block
 blocks_with texts [] ops slots = []
 blocks_with texts (block.Loop start after ∷ bs) ops slots = Loop start after ∷ blocks_with texts bs ops slots
+blocks_with texts (block.Each items ∷ bs) ops slots = Each (items_of texts items) ∷ blocks_with texts bs ops slots
+blocks_with texts (block.Catch clauses ∷ bs) ops slots = Catch clauses ∷ blocks_with texts bs ops slots
+blocks_with texts (block.Final suite ∷ bs) ops slots = Final suite ∷ blocks_with texts bs ops slots
+blocks_with texts (block.Pending leaving ∷ bs) ops slots = Pending (option_map (leaving_of texts) leaving) ∷ blocks_with texts bs ops slots
+blocks_with texts (block.Handling x ∷ bs) ops slots = Handling x ∷ blocks_with texts bs ops slots
 blocks_with texts (block.Frame after ∷ bs) ops slots =
-    Frame after (map (value_of texts) (innermost ops)) (map (local_of texts) (innermost slots)) ∷ blocks_with texts bs (drop 1 ops) (drop 1 slots)
+    Frame after (map (value_of texts) (innermost ops)) (map (bound_of texts) (innermost slots)) ∷ blocks_with texts bs (drop 1 ops) (drop 1 slots)
 
 -- the bodies of loops and the calls that were entered, the innermost first
 abbrev pub blocks_of : State → List machine.Block
@@ -79,7 +82,8 @@ seen s = record {
   table = table_of s.table;
   place = place_of s;
   names = s.table.names;
-  values = map (cell_of s.texts) s.globals.items;
+  values = map (bound_of s.texts) s.globals.items;
+  store = map (object_of s.texts s.table.names) s.store.items;
   printed = string_bytes s.printed;
   outcome = outcome_of s.outcome;
   starved = is_starved s.standing;
@@ -98,33 +102,38 @@ line_of i s = act (entries_of s.table) i (s.pc + 1) (operands_of s) (slots_of s)
 abbrev pub next_line : State → Line
 next_line s = fetched (entries_of s.table) (slice_get (code_of s.table) s.pc) s.pc (operands_of s) (slots_of s) (blocks_of s) (world_of s)
 
--- a bound local's text is there
-abbrev pub FitsLocal : ℕ → Option Value → Type 0
-FitsLocal n None = Unit {0}
-FitsLocal n (Some v) = Fits n v
-
 -- how many calls there are among blocks
 abbrev pub calls_in : List Block → ℕ
 calls_in [] = 0
-calls_in (block.Loop start after ∷ bs) = calls_in bs
 calls_in (block.Frame after ∷ bs) = calls_in bs + 1
+calls_in (b ∷ bs) = calls_in bs
+
+-- the texts that a block speaks of are there
+abbrev pub FitsBlock : List pure.Text → Block → Type 0
+FitsBlock texts (block.Each items) = FitsItems texts items
+FitsBlock texts (block.Pending (Some leaving)) = FitsLeaving (length texts) leaving
+FitsBlock texts b = Unit {0}
 
 -- the text of each value, also of the callers', is one of n, and each call has the operands and the locals of its caller
 pub record AreSound (n : ℕ) (ops : OperandsSeen) (slots : SlotsSeen) (bs : List Block) : Type 0 where
   pub here : All (Fits n) ops.here
   pub below : All (λ vs. All (Fits n) vs) ops.below
-  pub locals : All (FitsLocal n) slots.here
-  pub callers : All (λ xs. All (FitsLocal n) xs) slots.below
+  pub locals : All (FitsBound n) slots.here
+  pub callers : All (λ xs. All (FitsBound n) xs) slots.below
   pub operands_each : length ops.below ≡ calls_in bs
   pub locals_each : length slots.below ≡ calls_in bs
 
--- the stacks are sound, the texts of globals are there, the literals come first among the texts, each slot's global suits its name, and the
+-- the stacks are sound, the texts that blocks, globals and objects speak of are there, the literals come first among the texts, there is a
+-- global and a built-in value for each slot, and the
 -- code has few enough instructions for the place of each to be told, and that of a jump's end
 pub record IsSound (s : State) : Type 0 where
   pub stacks : AreSound (length s.texts) s.operands s.slots s.blocks
-  pub globals : All (FitsGlobal (length s.texts)) s.globals.items
+  pub blocks : All (FitsBlock s.texts) s.blocks
+  pub globals : All (FitsBound (length s.texts)) s.globals.items
+  pub store : All (FitsObject (length s.texts)) s.store.items
   pub literals : take (length s.table.literals) s.texts ≡ s.table.literals
-  pub slots : AllSuit s.table.names s.globals.items
+  pub slots : length s.globals.items ≡ length s.table.names
+  pub built_ins : AreBuiltIn s.table.names s.built_ins.items
   pub short : length s.table.lines < 2 ^ 63
 
 -- a line leads to where there is more to do, or the run ends: it lacks nothing
@@ -153,7 +162,10 @@ pub record Moves (l : Line) (p : Place) (old new : State) : Type 0 where
 abbrev pub Did : Line → State → State → Step → Type 0
 Did l old new Local = Moves l (place_of new) old new × (new.standing ≡ standing.Running)
 Did l old new Ended = Moves l (Ending (outcome_of new.outcome)) old new × (new.standing ≡ standing.Idle) × (string_bytes new.printed ≡ string_bytes old.printed)
-Did l old new Starved = (new ≡ record old { standing = standing.Starved; line = new.line; printed = new.printed }) × (string_bytes new.printed ≡ string_bytes old.printed)
+Did l old new Starved =
+    (new ≡ record old { standing = standing.Starved; line = new.line; printed = new.printed; store = new.store })
+    × (string_bytes new.printed ≡ string_bytes old.printed)
+    × (new.store.items ≡ old.store.items)
 
 -- no operands, and no callers
 abbrev pub no_operands : OperandsSeen
@@ -167,11 +179,25 @@ no_slots = record { here = []; below = [] }
 abbrev pub at_rest : Outcome → State → State
 at_rest o s = record s { standing = standing.Idle; outcome = o; operands = no_operands; slots = no_slots; blocks = [] }
 
--- an exception leaves the run
+-- an exception more in the store is raised
+abbrev pub raised_line : Object → State → Line
+raised_line o s =
+    let w = world_of s in
+    raises (length w.store, record w { store = w.store ++ object_of s.texts s.table.names o ∷ [] }) (slots_of s) (blocks_of s)
+
+-- an operation raises an exception
 abbrev pub IsRaised : Cause → State → State → Step → Type 0
-IsRaised cause old new Local = ⊥
-IsRaised cause old new Ended = new ≡ at_rest (Raised (kind_of cause) (message_in old.table.names cause)) old
-IsRaised cause old new Starved = new ≡ record old { standing = standing.Starved }
+IsRaised cause old new r = Did (raised_line (Caused cause) old) old new r
+
+-- what was entered is left
+abbrev pub leave_line : Leaving → State → Line
+leave_line p s = goes (leave (leaving_of s.texts p) (world_of s) (slots_of s) (blocks_of s)) (world_of s)
+
+-- an exception has left some calls: it goes where it went before
+pub record Unwinds (place : ℕ) (old new : State) : Type 0 where
+  pub state : new ≡ record old { operands = new.operands; slots = new.slots; blocks = new.blocks }
+  pub sound : IsSound new
+  pub goes : (leave_line (Raises place) new).place ≡ (leave_line (Raises place) old).place
 
 -- the operands of the call that runs become these
 abbrev pub with_operands : List Value → OperandsSeen → OperandsSeen
@@ -182,6 +208,20 @@ abbrev pub IsPushed : Value → State → State → Step → Type 0
 IsPushed v old new Local = new ≡ record old { pc = old.pc + 1; operands = with_operands (v ∷ old.operands.here) old.operands }
 IsPushed v old new Ended = ⊥
 IsPushed v old new Starved = new ≡ record old { standing = standing.Starved }
+
+-- a block was entered
+abbrev pub IsWithin : Block → State → State → Step → Type 0
+IsWithin b old new Local = new ≡ record old { pc = old.pc + 1; blocks = b ∷ old.blocks }
+IsWithin b old new Ended = ⊥
+IsWithin b old new Starved = new ≡ record old { standing = standing.Starved }
+
+-- a new object in place of a call
+abbrev pub IsMade : Object → ℕ → State → State → Step → Type 0
+IsMade o count old new Local =
+    (new ≡ record old { pc = old.pc + 1; operands = with_operands (value.Exception (length old.store.items) ∷ drop (count + 1) old.operands.here) old.operands; store = new.store })
+    × (new.store.items ≡ old.store.items ++ o ∷ [])
+IsMade o count old new Ended = ⊥
+IsMade o count old new Starved = (new ≡ record old { standing = standing.Starved; store = new.store }) × (new.store.items ≡ old.store.items)
 
 -- the line is printed, which gives None in place of a call
 abbrev pub IsPrinted : ℕ → State → State → Step → Type 0

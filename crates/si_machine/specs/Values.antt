@@ -1,19 +1,29 @@
 -- What a machine's values and globals stand for.
-use Rattle.std.specs.Prelude.{◌≡◌, ℕ, ℤ, ◌<◌, List, [], ◌∷◌, ◌++◌, Option, Some, None, if◌then◌else◌}
+use Rattle.std.specs.Prelude.{◌≡◌, ℕ, ℤ, ◌<◌, List, [], ◌∷◌, ◌++◌, take, drop, length, encode_utf8_all, Option, Some, None, Result, Ok, Err, if◌then◌else◌}
 use Rattle.si_semantics.specs.Value as pure
 use Rattle.si_semantics.specs.World.{Globals, first_world}
-use Rattle.si_semantics.specs.Text.{same_text, str_of}
+use Rattle.si_semantics.specs.Text.{same_text}
 use Rattle.si_semantics.specs.Operations.{built_in, int_of_truth}
 use Rattle.si_code.specs.Views.{text_at}
 use Rattle.si_machine.specs.declared.value.BuiltIn.{BuiltIn}
-use Rattle.si_machine.specs.declared.value.BuiltIn.TheVariants.{Print}
+use Rattle.si_machine.specs.declared.value.BuiltIn.TheVariants as built
 use Rattle.si_machine.specs.declared.value.Value.{Value}
 use Rattle.si_machine.specs.declared.value.Value.TheVariants as value
-use Rattle.si_machine.specs.declared.value.Global.{Global}
-use Rattle.si_machine.specs.declared.value.Global.TheVariants.{Unbound, Provided, Bound}
+use Rattle.si_semantics.specs.Operations.{Iterator, next_item}
+use Rattle.si_semantics.specs.Operations as operations
+use Rattle.si_semantics.specs.Meaning as meaning
+use Rattle.si_machine.specs.declared.value.Object.{Object}
+use Rattle.si_machine.specs.declared.items.Items.{Items}
+use Rattle.si_machine.specs.declared.items.Items.TheVariants.{Numbers, Characters, NoMore}
+use Rattle.si_machine.specs.declared.blocks.Leaving.{Leaving}
+use Rattle.si_machine.specs.declared.blocks.Leaving.TheVariants.{Raises, Returns, Breaks, Continues}
+use Rattle.si_machine.specs.declared.value.Object.TheVariants.{Caused, Made}
 
 abbrev pub built_in_of : BuiltIn → pure.BuiltIn
-built_in_of Print = pure.Print
+built_in_of built.Print = pure.Print
+built_in_of built.Range = pure.MakeRange
+built_in_of built.Str = pure.MakeStr
+built_in_of built.Repr = pure.Repr
 
 -- a value; a str is the text at its place, and a function's name the text at the name's place
 abbrev pub value_of : List pure.Text → Value → pure.Value
@@ -23,12 +33,27 @@ value_of texts (value.Int n) = pure.Int n
 value_of texts (value.Str place) = pure.Str (text_at texts place)
 value_of texts (value.BuiltIn b) = pure.Provided (built_in_of b)
 value_of texts (value.Function number name) = pure.Function (text_at texts name) number
+value_of texts (value.Range a b c) = pure.Range a b c
+value_of texts (value.Kind k) = pure.Class k
+value_of texts (value.Exception x) = pure.Address x
 
--- the value of a global, where one is bound
-abbrev pub cell_of : List pure.Text → Global → Option pure.Value
-cell_of texts Unbound = None
-cell_of texts (Provided b) = None
-cell_of texts (Bound v) = Some (value_of texts v)
+-- a name's value, where it is bound
+abbrev pub bound_of : List pure.Text → Option Value → Option pure.Value
+bound_of texts None = None
+bound_of texts (Some v) = Some (value_of texts v)
+
+-- what a `for` still has to give
+abbrev pub items_of : List pure.Text → Items → Iterator
+items_of texts (Numbers at stop step) = operations.Numbers at stop step
+items_of texts (Characters place given bytes) = operations.Characters (drop given (text_at texts place))
+items_of texts NoMore = operations.NoMore
+
+-- how a suite is left
+abbrev pub leaving_of : List pure.Text → Leaving → meaning.Leave
+leaving_of texts (Raises x) = meaning.Raises x
+leaving_of texts (Returns v) = meaning.Returns (value_of texts v)
+leaving_of texts Breaks = meaning.Breaks
+leaving_of texts Continues = meaning.Continues
 
 -- the globals, by the names of the slots and what is bound at each; a name without a slot is as at first
 abbrev pub globals_of : List pure.Text → List (Option pure.Value) → Globals
@@ -44,32 +69,54 @@ Fits n (value.Int i) = Unit {0}
 Fits n (value.Str place) = place < n
 Fits n (value.BuiltIn b) = Unit {0}
 Fits n (value.Function number name) = name < n
+Fits n (value.Range a b c) = Unit {0}
+Fits n (value.Kind k) = Unit {0}
+Fits n (value.Exception x) = Unit {0}
 
-abbrev pub FitsGlobal : ℕ → Global → Type 0
-FitsGlobal n Unbound = Unit {0}
-FitsGlobal n (Provided b) = Unit {0}
-FitsGlobal n (Bound v) = Fits n v
+-- the texts of a name's value, where it is bound, are there
+abbrev pub FitsBound : ℕ → Option Value → Type 0
+FitsBound n None = Unit {0}
+FitsBound n (Some v) = Fits n v
 
--- what is not bound is the built-in of its name, or nothing
-abbrev pub Suits : pure.Text → Global → Type 0
-Suits x Unbound = built_in x ≡ None
-Suits x (Provided b) = built_in x ≡ Some (pure.Provided (built_in_of b))
-Suits x (Bound v) = Unit {0}
+-- the text of items is there, and the bytes are those of the characters that were given
+abbrev pub FitsItems : List pure.Text → Items → Type 0
+FitsItems texts (Numbers at stop step) = Unit {0}
+FitsItems texts (Characters place given bytes) = (place < length texts) × (bytes ≡ length (encode_utf8_all (take given (text_at texts place))))
+FitsItems texts NoMore = Unit {0}
 
--- each slot's global suits its name
-abbrev pub AllSuit : List pure.Text → List Global → Type 0
-AllSuit [] [] = Unit {0}
-AllSuit [] (g ∷ globals) = ⊥
-AllSuit (x ∷ names) [] = ⊥
-AllSuit (x ∷ names) (g ∷ globals) = Suits x g × AllSuit names globals
+-- the next item, which fits the texts, and what is left, where there is one, with the texts that may have grown
+abbrev pub GivesNext : List pure.Text → List pure.Text → Items → Option (Value × Items) → Type 0
+GivesNext old new items None = (next_item (items_of old items) ≡ None) × (new ≡ old)
+GivesNext old new items (Some p) =
+    (next_item (items_of old items) ≡ Some (value_of new p.0, items_of new p.1)) × Fits (length new) p.0 × FitsItems new p.1
+    × ((more : List pure.Text) × (new ≡ old ++ more))
+
+-- the same; or memory is refused and the texts are as they were
+abbrev pub GivesItem : {E : Type 0} → List pure.Text → List pure.Text → Items → Result (Option (Value × Items)) E → Type 0
+GivesItem old new items (Ok next) = GivesNext old new items next
+GivesItem old new items (Err e) = new ≡ old
+
+-- the texts of a value that is returned are there
+abbrev pub FitsLeaving : ℕ → Leaving → Type 0
+FitsLeaving n (Raises x) = Unit {0}
+FitsLeaving n (Returns v) = Fits n v
+FitsLeaving n Breaks = Unit {0}
+FitsLeaving n Continues = Unit {0}
+
+-- the texts of an object's argument are there
+abbrev pub FitsObject : ℕ → Object → Type 0
+FitsObject n (Caused cause) = Unit {0}
+FitsObject n (Made kind v) = FitsBound n v
+
+-- the built-in values, by the names of the slots
+abbrev pub AreBuiltIn : List pure.Text → List (Option Value) → Type 0
+AreBuiltIn [] [] = Unit {0}
+AreBuiltIn [] (v ∷ vs) = ⊥
+AreBuiltIn (x ∷ names) [] = ⊥
+AreBuiltIn (x ∷ names) (v ∷ vs) = (built_in x ≡ bound_of [] v) × AreBuiltIn names vs
 
 -- an integer, or what True and False count as, and nothing else
 abbrev pub integer_of : Value → Option ℤ
 integer_of (value.Truth b) = Some (int_of_truth b)
 integer_of (value.Int i) = Some i
 integer_of _ = None
-
--- the str of values, each with a space before it
-abbrev pub spaced : List pure.Value → pure.Text
-spaced [] = []
-spaced (v ∷ vs) = 32 ∷ (str_of v ++ spaced vs)

@@ -1,10 +1,60 @@
-// What was entered and not left: bodies of loops, and calls.
-ghost use Rattle.std.specs.Prelude.{◌≡◌, List, [], ◌∷◌, Some, None, OnOk, OnErr, MatchOption};
-ghost use Rattle.si_machine.specs.Stacks.{behind_call};
+// What was entered and not left: bodies of loops, calls, the suites of a `try`.
+ghost use Rattle.std.specs.Prelude.{◌≡◌, ◌<◌, List, [], ◌∷◌, length, drop, OnOk, OnErr, MatchOption};
+ghost use Rattle.si_machine.specs.Blocks.{concerns, reached, handles, is_handled, active_in, active_of, LeavesFrame, left_with, left_to};
 
+use crate::items::Items;
+use crate::value::Value;
 use si_plain::NoMemory;
 use std::alloc::Global;
 use std::marker::Model;
+
+/// How a suite is left other than at its end.
+#[derive(Clone, Copy, Debug, PartialEq, Eq)]
+pub enum Leaving {
+    /// By the exception at this place of the store.
+    Raises(usize),
+    /// By `return` with this value.
+    Returns(Value),
+    Breaks,
+    Continues,
+}
+
+impl Leaving {
+    /// Whether this does not pass a block: a finally suite, a call, and what it goes to.
+    pub fn concerns(self, block: Block) -> bool
+        ensures { result ≡ concerns self block }
+    {
+        match block {
+            Block::Final(_) => true,
+            Block::Frame { .. } => true,
+            Block::Catch(_) => matches!(self, Leaving::Raises(_)),
+            Block::Loop { .. } => matches!(self, Leaving::Breaks | Leaving::Continues),
+            Block::Each(_) => false,
+            Block::Pending(_) => false,
+            Block::Handling(_) => false,
+        }
+    }
+
+    /// The value of a call that is left so.
+    pub fn value(self) -> Value
+        ensures { result ≡ left_with self }
+    {
+        match self {
+            Leaving::Returns(value) => value,
+            _ => Value::None,
+        }
+    }
+
+    /// The place to which a loop is left so.
+    pub fn place(self, start: usize, after: usize) -> usize
+        ensures { result ≡ left_to self start after }
+    {
+        match self {
+            Leaving::Continues => start,
+            _ => after,
+        }
+    }
+}
 
 /// What was entered.
 #[derive(Clone, Copy, Debug, PartialEq, Eq)]
@@ -16,11 +66,41 @@ pub enum Block {
         /// The place of the instruction behind the loop.
         after: usize,
     },
+    /// What a `for` still has to give.
+    Each(Items),
+    /// The suite of a `try`, with the place of its except clauses.
+    Catch(usize),
+    /// What stands in front of a finally suite, with the place of that suite.
+    Final(usize),
+    /// A finally suite, and what is left at its end.
+    Pending(Option<Leaving>),
+    /// Except clauses, with the place in the store of the exception that has come to them.
+    Handling(usize),
     /// The body of a function.
     Frame {
         /// The place of the instruction behind the call.
         after: usize,
     },
+}
+
+impl Block {
+    /// Whether an exception goes to this.
+    pub fn handles(self) -> bool
+        ensures { result ≡ handles self }
+    {
+        matches!(self, Block::Catch(_) | Block::Final(_))
+    }
+
+    /// The exception that is active in this, by its place in the store.
+    pub fn active(self) -> Option<usize>
+        ensures { result ≡ active_in self }
+    {
+        match self {
+            Block::Handling(place) => Some(place),
+            Block::Pending(Some(Leaving::Raises(place))) => Some(place),
+            _ => None,
+        }
+    }
 }
 
 /// What was entered and not left, which contracts see from the innermost on.
@@ -61,22 +141,79 @@ impl Blocks {
         Ok(())
     }
 
-    /// The innermost, which is left.
-    pub fn leave(&mut self) -> Option<Block>
-        ensures { MatchOption result ((self.old ≡ []) × (self.new ≡ [])) (λ b. self.old ≡ b ∷ self.new) }
+    /// The innermost.
+    pub fn innermost(&self) -> Option<Block>
+        ensures { MatchOption result (self.now ≡ []) (λ b. self.now ≡ b ∷ drop 1 self.now) }
     {
-        self.items.pop()
+        self.items.last().copied()
     }
 
-    /// The place behind the innermost call, which is left with all that was entered within it; None where no call is
-    /// under way: then all is left.
-    pub fn leave_call(&mut self) -> Option<usize>
-        ensures { MatchOption result ((behind_call self.old ≡ None) × (self.new ≡ [])) (λ after. behind_call self.old ≡ Some (after, self.new)) }
+    /// The innermost is left, where there is one.
+    pub fn discard(&mut self)
+        ensures { self.new ≡ drop 1 self.old }
     {
-        while let Some(block) = self.leave() {
-            match block {
-                Block::Loop { .. } => {}
-                Block::Frame { after } => return Some(after),
+        let _ = self.items.pop();
+    }
+
+    /// Another in place of the innermost.
+    pub fn replace(&mut self, block: Block)
+        requires { 0 < length self.old }
+        ensures { self.new ≡ block ∷ drop 1 self.old }
+    {
+        let last = self.items.len() - 1;
+        self.items[last] = block;
+    }
+
+    /// All that such leaving passes is left.
+    pub fn pass(&mut self, leaving: Leaving)
+        ensures { self.new ≡ reached leaving self.old }
+    {
+        while let Some(block) = self.innermost() {
+            if leaving.concerns(block) {
+                return;
+            }
+            self.discard();
+        }
+    }
+
+    /// The innermost call is left with all that was entered within it, as an exception leaves it; except clauses and a
+    /// finally suite within it stop that. Whether a call was left.
+    pub fn leave_frame(&mut self) -> bool
+        ensures { LeavesFrame self.old self.new result }
+    {
+        self.pass(Leaving::Raises(0));
+        match self.innermost() {
+            Some(Block::Frame { .. }) => {
+                self.discard();
+                true
+            }
+            _ => false,
+        }
+    }
+
+    /// Whether an exception goes to one of these.
+    pub fn is_handled(&self) -> bool
+        ensures { result ≡ is_handled self.now }
+    {
+        let mut left = self.items.len();
+        while left > 0 {
+            left -= 1;
+            if self.items[left].handles() {
+                return true;
+            }
+        }
+        false
+    }
+
+    /// The innermost active exception, by its place in the store.
+    pub fn active(&self) -> Option<usize>
+        ensures { result ≡ active_of self.now }
+    {
+        let mut left = self.items.len();
+        while left > 0 {
+            left -= 1;
+            if let Some(place) = self.items[left].active() {
+                return Some(place);
             }
         }
         None
@@ -96,7 +233,7 @@ mod tests {
     use std::test::Fail;
 
     #[test]
-    fn a_call_is_left_with_its_loops(rt: HostRuntime) -> Result<(), Fail> {
+    fn leaving_passes_what_does_not_stop_it(rt: HostRuntime) -> Result<(), Fail> {
         let mut blocks = Blocks::new(rt.alloc());
         let outer = Block::Loop { start: 1, after: 9 };
         let inner = Block::Loop {
@@ -104,17 +241,28 @@ mod tests {
             after: 30,
         };
         blocks.enter(outer)?;
+        blocks.enter(Block::Final(40))?;
         blocks.enter(Block::Frame { after: 5 })?;
         blocks.enter(inner)?;
-        blocks.enter(inner)?;
-        assert_eq!(rt; blocks.leave_call(), Some(5));
-        assert_eq!(rt; blocks.leave(), Some(outer));
-        blocks.enter(outer)?;
-        assert_eq!(rt; blocks.leave_call(), None);
-        assert_eq!(rt; blocks.leave(), None);
+        blocks.enter(Block::Handling(3))?;
+        assert!(rt; blocks.is_handled());
+        assert_eq!(rt; blocks.active(), Some(3));
+        blocks.pass(Leaving::Breaks);
+        assert_eq!(rt; blocks.innermost(), Some(inner));
+        assert!(rt; blocks.leave_frame());
+        assert!(rt; !blocks.leave_frame());
+        assert_eq!(rt; blocks.innermost(), Some(Block::Final(40)));
+        assert_eq!(rt; blocks.active(), None);
+        blocks.replace(Block::Pending(Some(Leaving::Raises(6))));
+        assert_eq!(rt; blocks.active(), Some(6));
+        assert!(rt; !blocks.is_handled());
+        blocks.pass(Leaving::Continues);
+        assert_eq!(rt; blocks.innermost(), Some(outer));
+        blocks.pass(Leaving::Returns(Value::None));
+        assert_eq!(rt; blocks.innermost(), None);
         blocks.enter(inner)?;
         blocks.clear();
-        assert_eq!(rt; blocks.leave(), None);
+        assert_eq!(rt; blocks.innermost(), None);
         Ok(())
     }
 }

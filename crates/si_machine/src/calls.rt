@@ -1,22 +1,23 @@
 // What calls make of a state: a call, the return from it, and the locals of the call that runs.
-ghost use Rattle.std.specs.Prelude.{◌≡◌, ◌+◌, ◌<◌, ◌^◌, ◌∷◌, List, ℕ, length, OnOk, OnErr};
+ghost use Rattle.std.specs.Prelude.{◌≡◌, ◌≢◌, ◌+◌, ◌<◌, ◌^◌, ◌∷◌, drop, List, ℕ, length, OnOk, OnErr};
 ghost use Rattle.si_semantics.specs.Machine as machine;
 ghost use Rattle.si_semantics.specs.World.{World};
 ghost use Rattle.si_semantics.specs.Operations as operations;
 ghost use Rattle.si_code.specs.Views.{text_at};
 ghost use Rattle.si_machine.specs.Values.{value_of};
 ghost use Rattle.si_machine.specs.Causes.{threw};
-ghost use Rattle.si_machine.specs.States.{IsReady, IsOpen, IsPrinted, IsCallee, IsEntered, Did, line_of, entered_operands, back_at};
+ghost use Rattle.si_machine.specs.States.{IsReady, IsOpen, IsPrinted, IsCallee, IsEntered, IsMade, Did, line_of, entered_operands};
 
-use crate::blocks::Block;
-use crate::cause::Cause;
-use crate::operations::write_line;
+use crate::blocks::{Block, Leaving};
+use crate::cause::{Cause, Fault};
+use crate::print::write_line;
+use crate::provided::call_built_in;
 use crate::state::State;
 use crate::step::Step;
-use crate::value::{BuiltIn, Value};
+use crate::value::{BuiltIn, Object, Value};
 use si_code::Routine;
-use si_plain::NoMemory;
 use si_plain::limits::MAX_CALLS;
+use si_plain::{Kind, NoMemory};
 
 impl State {
     pub fn load_local(&mut self, place: u32, slot: u32) -> Step
@@ -39,7 +40,16 @@ impl State {
         let Some(value) = self.operands.pop() else {
             unreachable!();
         };
-        self.slots.set(place, value);
+        self.slots.set(place, Some(value));
+        self.advance()
+    }
+
+    pub fn unbind_local(&mut self, place: u32) -> Step
+        requires next { self.old.pc + 1 < 2 ^ 64 }
+        requires ready { IsReady self.old }
+        ensures { Did (line_of (machine.UnbindLocal place) self.old) self.old self.new result }
+    {
+        self.slots.set(place, None);
         self.advance()
     }
 
@@ -50,20 +60,120 @@ impl State {
         ensures { Did (line_of (machine.CallTop count) self.old) self.old self.new result }
     {
         let count = count as usize;
-        match self.operands.call(count) {
-            Some((Value::Function(number, _), _)) => self.call_function(number, count),
-            Some((Value::BuiltIn(BuiltIn::Print), arguments)) => {
-                self.line.clear();
-                match write_line(&mut self.line, &self.texts, arguments) {
-                    Ok(()) => self.print(count),
-                    Err(_) => self.starve(),
-                }
+        let Some((callee, _)) = self.operands.call(count) else {
+            unreachable!();
+        };
+        match callee {
+            Value::Function(number, _) => self.call_function(number, count),
+            Value::BuiltIn(function) => self.call_provided(function, count),
+            Value::Kind(kind) => self.call_kind(kind, count),
+            Value::None => self.raise(Cause::NotCallable),
+            Value::Truth(_) => self.raise(Cause::NotCallable),
+            Value::Int(_) => self.raise(Cause::NotCallable),
+            Value::Str(_) => self.raise(Cause::NotCallable),
+            Value::Range(_, _, _) => self.raise(Cause::NotCallable),
+            Value::Exception(_) => self.raise(Cause::NotCallable),
+        }
+    }
+
+    // A call of a built-in.
+    fn call_provided(&mut self, function: BuiltIn, count: usize) -> Step
+        requires next { self.old.pc + 1 < 2 ^ 64 }
+        requires ready { IsReady self.old }
+        requires callee { drop count self.old.operands.here ≡ Value.BuiltIn function ∷ drop (count + 1) self.old.operands.here }
+        ensures { Did (line_of (machine.CallTop count) self.old) self.old self.new result }
+    {
+        match function {
+            BuiltIn::Print => self.call_print(count),
+            BuiltIn::Range => self.call_built_in(function, count),
+            BuiltIn::Str => self.call_built_in(function, count),
+            BuiltIn::Repr => self.call_built_in(function, count),
+        }
+    }
+
+    // A call of `print`: what it prints is written aside first.
+    fn call_print(&mut self, count: usize) -> Step
+        requires next { self.old.pc + 1 < 2 ^ 64 }
+        requires ready { IsReady self.old }
+        requires callee { drop count self.old.operands.here ≡ Value.BuiltIn BuiltIn.Print ∷ drop (count + 1) self.old.operands.here }
+        ensures { Did (line_of (machine.CallTop count) self.old) self.old self.new result }
+    {
+        let Some((_, arguments)) = self.operands.call(count) else {
+            unreachable!();
+        };
+        self.line.clear();
+        match write_line(
+            &mut self.line,
+            &self.texts,
+            &self.store,
+            &self.table,
+            arguments,
+        ) {
+            Ok(()) => self.print(count),
+            Err(Fault::Raises(cause)) => self.raise(cause),
+            Err(Fault::NoMemory) => self.starve(),
+        }
+    }
+
+    // A call of any other built-in.
+    fn call_built_in(&mut self, function: BuiltIn, count: usize) -> Step
+        requires next { self.old.pc + 1 < 2 ^ 64 }
+        requires ready { IsReady self.old }
+        requires other { function ≢ BuiltIn.Print }
+        requires callee { drop count self.old.operands.here ≡ Value.BuiltIn function ∷ drop (count + 1) self.old.operands.here }
+        ensures { Did (line_of (machine.CallTop count) self.old) self.old self.new result }
+    {
+        let Some((_, arguments)) = self.operands.call(count) else {
+            unreachable!();
+        };
+        match call_built_in(
+            &mut self.texts,
+            &self.store,
+            &self.table,
+            function,
+            arguments,
+        ) {
+            Ok(value) => {
+                self.operands.replace(count, value);
+                self.advance()
             }
-            Some((Value::None, _)) => self.raise(Cause::NotCallable),
-            Some((Value::Truth(_), _)) => self.raise(Cause::NotCallable),
-            Some((Value::Int(_), _)) => self.raise(Cause::NotCallable),
-            Some((Value::Str(_), _)) => self.raise(Cause::NotCallable),
-            None => unreachable!(),
+            Err(Fault::Raises(cause)) => self.raise(cause),
+            Err(Fault::NoMemory) => self.starve(),
+        }
+    }
+
+    // A call of a kind: a new exception with an argument, or without one.
+    fn call_kind(&mut self, kind: Kind, count: usize) -> Step
+        requires next { self.old.pc + 1 < 2 ^ 64 }
+        requires ready { IsReady self.old }
+        requires callee { drop count self.old.operands.here ≡ Value.Kind kind ∷ drop (count + 1) self.old.operands.here }
+        ensures { Did (line_of (machine.CallTop count) self.old) self.old self.new result }
+    {
+        if count == 0 {
+            self.make(Object::Made(kind, None), count)
+        } else if count == 1 {
+            let Some(argument) = self.operands.top() else {
+                unreachable!();
+            };
+            self.make(Object::Made(kind, Some(argument)), count)
+        } else {
+            self.raise(Cause::WrongArguments)
+        }
+    }
+
+    // A new object in place of a call.
+    fn make(&mut self, object: Object, count: usize) -> Step
+        requires next { self.old.pc + 1 < 2 ^ 64 }
+        requires call { count < length self.old.operands.here }
+        ensures { IsMade object count self.old self.new result }
+    {
+        let place = self.store.len();
+        match self.store.push(object) {
+            Ok(()) => {
+                self.operands.replace(count, Value::Exception(place));
+                self.advance()
+            }
+            Err(_) => self.starve(),
         }
     }
 
@@ -83,26 +193,16 @@ impl State {
         requires open_line { IsOpen (line_of machine.DoReturn self.old) }
         ensures { Did (line_of machine.DoReturn self.old) self.old self.new result }
     {
-        let Some(value) = self.operands.pop() else {
+        let Some(value) = self.operands.top() else {
             unreachable!();
         };
-        match self.blocks.leave_call() {
-            Some(after) => self.back(after, value),
-            None => self.end(),
+        match self.blocks.innermost() {
+            Some(Block::Frame { after }) => {
+                self.blocks.discard();
+                self.back(after, value)
+            }
+            _ => self.leave_suite(Leaving::Returns(value)),
         }
-    }
-
-    // Back in the caller, behind the call, with its value.
-    pub fn back(&mut self, after: usize, value: Value) -> Step
-        requires operands { 0 < length self.old.operands.below }
-        requires slots { 0 < length self.old.slots.below }
-        ensures step { result ≡ Step.Local }
-        ensures state { self.new ≡ back_at after value self.old }
-    {
-        self.operands.close(value);
-        self.slots.close();
-        self.pc = after;
-        Step::Local
     }
 
     // A call of the function of a number, with the topmost operands.
@@ -158,7 +258,7 @@ impl State {
         match self.operands.open(count) {
             Ok(()) => Ok(()),
             Err(refused) => {
-                let _ = self.blocks.leave();
+                self.blocks.discard();
                 Err(refused)
             }
         }
@@ -191,5 +291,8 @@ fn cause_by_name(callee: Value) -> Cause
         Value::Truth(_) => Cause::NotCallable,
         Value::Int(_) => Cause::NotCallable,
         Value::Str(_) => Cause::NotCallable,
+        Value::Range(_, _, _) => Cause::NotCallable,
+        Value::Exception(_) => Cause::NotCallable,
+        Value::Kind(_) => Cause::WrongArguments,
     }
 }

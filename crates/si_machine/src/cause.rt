@@ -21,6 +21,8 @@ pub enum Cause {
     WrongArguments,
     /// One call of own functions too many within each other (this project's own).
     TooDeep,
+    /// A bare `raise` where no exception is active (Python Language Reference 3.14, 7.8).
+    NoneActive,
     /// No value is bound to the global at this slot.
     NotDefined(u32),
     /// No value is bound to the local whose name is at this slot (Python Language Reference 3.14, 4.2.2).
@@ -57,6 +59,7 @@ impl Cause {
             Cause::NotCallable => Kind::TypeError,
             Cause::WrongArguments => Kind::TypeError,
             Cause::TooDeep => Kind::RecursionError,
+            Cause::NoneActive => Kind::RuntimeError,
             Cause::NotDefined(_) => Kind::NameError,
             Cause::NotBound(_) => Kind::UnboundLocalError,
         }
@@ -76,6 +79,7 @@ impl Cause {
             Cause::NotCallable => ascii(alloc, "not callable"),
             Cause::WrongArguments => ascii(alloc, "wrong arguments"),
             Cause::TooDeep => ascii(alloc, "too deep"),
+            Cause::NoneActive => ascii(alloc, "no active exception"),
             Cause::NotDefined(slot) => name_is_not_defined(alloc, name_at(table, slot)),
             Cause::NotBound(slot) => local_is_not_bound(alloc, name_at(table, slot)),
         }
@@ -133,7 +137,8 @@ pub fn ascii(alloc: Global, text: &str) -> Result<Text, NoMemory>
     Ok(all)
 }
 
-fn push_ascii(text: &mut Text, ascii: &str) -> Result<(), NoMemory>
+/// Adds an ASCII text.
+pub fn push_ascii(text: &mut Text, ascii: &str) -> Result<(), NoMemory>
     ensures { OnOk result (text.new ≡ text.old ++ ascii.now) }
 {
     for byte in ascii.as_bytes() {

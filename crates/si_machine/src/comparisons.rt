@@ -7,12 +7,13 @@ ghost use Rattle.si_semantics.specs.Operations as operations;
 ghost use Rattle.si_semantics.specs.Text.{same_text};
 ghost use Rattle.si_code.specs.Views.{text_at};
 ghost use Rattle.si_syntax.specs.Trees.{comparison_of, boolean_of};
-ghost use Rattle.si_machine.specs.Values.{value_of};
+ghost use Rattle.si_machine.specs.Values.{value_of, built_in_of};
 ghost use Rattle.si_machine.specs.Causes.{compared};
 
 use crate::cause::Cause;
+use crate::ranges::{is_item, is_same_range};
 use crate::texts::Texts;
-use crate::value::Value;
+use crate::value::{BuiltIn, Value};
 use si_syntax::{BooleanOperator, ComparisonOperator};
 
 /// True counts as 1 and False as 0 (Python Language Reference 3.14, 3.2).
@@ -33,6 +34,9 @@ pub fn is_true(texts: &Texts, value: Value) -> bool
         Value::Str(place) => !texts.at(place).is_empty(),
         Value::BuiltIn(_) => true,
         Value::Function(_, _) => true,
+        Value::Range(at, stop, step) => is_item(at, stop, step),
+        Value::Kind(_) => true,
+        Value::Exception(_) => true,
     }
 }
 
@@ -137,9 +141,25 @@ fn are_equal(texts: &Texts, x: Value, y: Value) -> Option<bool>
         (Value::Truth(a), Value::Truth(b)) => Some(a == b),
         (Value::Str(a), Value::Str(b)) => Some(are_same(texts, a, b)),
         (Value::None, Value::None) => Some(true),
-        (Value::BuiltIn(a), Value::BuiltIn(b)) => Some(a == b),
+        (Value::BuiltIn(a), Value::BuiltIn(b)) => Some(is_same_built_in(a, b)),
         (Value::Function(_, _), Value::Function(_, _)) => None,
+        (Value::Range(a, b, c), Value::Range(d, e, f)) => Some(is_same_range(a, b, c, d, e, f)),
+        (Value::Kind(a), Value::Kind(b)) => Some(a.is_same(b)),
+        (Value::Exception(a), Value::Exception(b)) => Some(a == b),
         _ => Some(false),
+    }
+}
+
+// Whether two built-ins have one name.
+fn is_same_built_in(x: BuiltIn, y: BuiltIn) -> bool
+    ensures { result ≡ operations.same_built_in (built_in_of x) (built_in_of y) }
+{
+    match (x, y) {
+        (BuiltIn::Print, BuiltIn::Print) => true,
+        (BuiltIn::Range, BuiltIn::Range) => true,
+        (BuiltIn::Str, BuiltIn::Str) => true,
+        (BuiltIn::Repr, BuiltIn::Repr) => true,
+        _ => false,
     }
 }
 
@@ -164,7 +184,7 @@ fn is_same(x: Value, y: Value) -> bool
 #[cfg(test)]
 mod tests {
     use super::*;
-    use crate::value::BuiltIn;
+    use si_plain::Kind;
     use std::test::Fail;
 
     #[test]
@@ -180,6 +200,9 @@ mod tests {
             Value::Int(0),
             Value::Truth(true),
             Value::BuiltIn(BuiltIn::Print),
+            Value::Range(0, 1, 1),
+            Value::Kind(Kind::KeyError),
+            Value::Exception(0),
         ] {
             assert_eq!(rt;
                 compare(&texts, ComparisonOperator::Equal, f, other),
@@ -195,6 +218,50 @@ mod tests {
             );
         }
         assert!(rt; is_true(&texts, f));
+        Ok(())
+    }
+
+    #[test]
+    fn ranges_kinds_and_exceptions_are_compared(rt: HostRuntime) -> Result<(), Fail> {
+        let texts = Texts::new(rt.alloc());
+        let cases = [
+            (Value::Range(0, 3, 2), Value::Range(0, 4, 2), true),
+            (Value::Range(0, 3, 2), Value::Range(0, 5, 2), false),
+            (Value::Range(3, 3, 1), Value::Range(9, 0, 1), true),
+            (Value::Range(7, 8, 1), Value::Range(7, 0, -7), true),
+            (Value::Range(7, 9, 1), Value::Range(8, 9, 1), false),
+            (
+                Value::Kind(Kind::KeyError),
+                Value::Kind(Kind::KeyError),
+                true,
+            ),
+            (
+                Value::Kind(Kind::KeyError),
+                Value::Kind(Kind::LookupError),
+                false,
+            ),
+            (Value::Exception(3), Value::Exception(3), true),
+            (Value::Exception(3), Value::Exception(4), false),
+            (
+                Value::BuiltIn(BuiltIn::Str),
+                Value::BuiltIn(BuiltIn::Str),
+                true,
+            ),
+            (
+                Value::BuiltIn(BuiltIn::Str),
+                Value::BuiltIn(BuiltIn::Repr),
+                false,
+            ),
+        ];
+        for (x, y, same) in cases {
+            assert_eq!(rt; compare(&texts, ComparisonOperator::Equal, x, y), Ok(same));
+            assert_eq!(rt;
+                compare(&texts, ComparisonOperator::Less, x, y),
+                Err(Cause::WrongType)
+            );
+        }
+        assert!(rt; !is_true(&texts, Value::Range(2, 2, 1)));
+        assert!(rt; is_true(&texts, Value::Range(2, 1, -1)));
         Ok(())
     }
 }

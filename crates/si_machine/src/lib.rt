@@ -5,30 +5,39 @@
 // the machine stands still, with nothing changed. Code that the compiler made never lacks an operand nor an
 // instruction, so there is no answer for that. A machine owns its code, its values and what was printed; two machines
 // share nothing. Values are small and are copied; texts lie in a vector of the machine's own and are named by their
-// places. What was entered and not left, bodies of loops and calls of functions, lies on a stack of its own, each with
-// where it goes on, where `continue`, `break` and `return` find it; an exception leaves all. The operands and the locals
-// of all calls lie in one vector each.
+// places, and so do exceptions, which are never taken off again. What was entered and not left, bodies of loops, calls of
+// functions, the suites of a `try` and the items of a `for`, lies on a stack of its own, where `continue`, `break`,
+// `return` and an exception find where they go. The operands and the locals of all calls lie in one vector each.
 //
 // In reading order: `value` (values and globals), `cause` (why an exception was raised), `texts` (where the texts
 // lie), `operations` (operators and `str`), `comparisons` (truth and comparisons), `operands`, `slots` and `blocks` (the
 // three stacks), `first` (what a run knows as it begins), `step` (what a step did), `state` (what each instruction does),
-// `flow` (those of branches and loops), `calls` (those of calls and locals), `machine` (loading and stepping).
+// `flow` (those of branches and loops), `calls` (those of calls and locals), `leaving` (how what was entered is left),
+// `tries` (the instructions of `try`, `raise` and `for`), `machine` (loading and stepping).
 #![tactic(auto)]
 
+mod atoms;
 mod blocks;
 mod calls;
 mod cause;
 mod comparisons;
 mod first;
 mod flow;
+mod items;
+mod leaving;
 pub mod machine;
 mod operands;
 mod operations;
+mod print;
+mod provided;
+mod ranges;
 mod slots;
 mod state;
 pub mod step;
 mod texts;
+mod tries;
 mod value;
+mod written;
 
 pub use machine::Machine;
 pub use step::{Outcome, Step};

@@ -1,6 +1,6 @@
 // The operands of all calls that are under way, each call's with its topmost first in contracts.
 ghost use Rattle.std.specs.Prelude.{◌≡◌, ◌+◌, ◌<◌, ◌≤◌, List, [], ◌∷◌, ◌++◌, length, drop, take, reverse, OnOk, OnErr, MatchOption};
-ghost use Rattle.si_machine.specs.Stacks.{back_with};
+ghost use Rattle.si_machine.specs.Stacks.{back_with, left_by};
 
 use crate::value::Value;
 use si_plain::NoMemory;
@@ -164,6 +164,18 @@ impl Operands {
         }
     }
 
+    /// The call that runs is left without a value: its caller's operands are those below the callee.
+    pub fn abandon(&mut self)
+        requires { 0 < length self.old.below }
+        ensures { self.new ≡ left_by self.old.below }
+    {
+        self.items.truncate(self.base - 1);
+        match self.bases.pop() {
+            Some(base) => self.base = base,
+            None => unreachable!(),
+        }
+    }
+
     /// How many callers there are.
     pub fn depth(&self) -> usize
         ensures { result ≡ length self.now.below }
@@ -239,6 +251,11 @@ mod tests {
         operands.push(Value::Str(0))?;
         operands.open(0)?;
         operands.push(Value::Int(2))?;
+        operands.open(0)?;
+        operands.push(Value::Int(3))?;
+        operands.abandon();
+        assert_eq!(rt; operands.depth(), 1);
+        operands.push(Value::Int(4))?;
         operands.clear();
         operands.discard();
         assert_eq!(rt; operands.top(), None);

@@ -1,23 +1,20 @@
-// Operators, and the `str` of a value.
+// Operators.
 ghost use Rattle.std.specs.Prelude.{codes, ◌≡◌, ◌++◌, ◌<◌, ◌^◌, ℕ, List, [], ◌∷◌, length, map, All, Some, None, IfOk, IfErr, OnOk, Result, encode_utf8_all, string_bytes};
 ghost use Rattle.si_semantics.specs.World.{World};
 ghost use Rattle.si_semantics.specs.Value.{Text as Characters, Int, Str};
-ghost use Rattle.si_semantics.specs.Text.{str_of, line_of};
 ghost use Rattle.si_semantics.specs.Operations.{integer, operate_integers, operate_truths, operate, operate_unary, within, repeated};
 ghost use Rattle.si_code.specs.Views.{text_at};
 ghost use Rattle.si_syntax.specs.Trees.{binary_of, unary_of};
-ghost use Rattle.si_machine.specs.Values.{value_of, Fits, integer_of, spaced};
+ghost use Rattle.si_machine.specs.Values.{value_of, Fits, integer_of};
 ghost use Rattle.si_machine.specs.Causes.{ran, Runs};
 ghost use Rattle.si_machine.specs.declared.cause.Cause.TheVariants.{WrongType};
-ghost use Rattle.std.specs.Fmt.{signed_decimal};
 
 use crate::cause::{Cause, Fault};
 use crate::comparisons::{int_of_truth, is_true};
 use crate::texts::Texts;
-use crate::value::{BuiltIn, Value};
+use crate::value::Value;
 use si_plain::{
-    Kind, NoMemory, Text, add, bit_and, bit_or, bit_xor, floordiv, invert, modulo, mul, neg, power,
-    shl, shr, sub,
+    Kind, add, bit_and, bit_or, bit_xor, floordiv, invert, modulo, mul, neg, power, shl, shr, sub,
 };
 use si_syntax::{BinaryOperator, UnaryOperator};
 
@@ -134,8 +131,8 @@ pub fn unary(texts: &Texts, operator: UnaryOperator, x: Value) -> Result<Value, 
     }
 }
 
-// An integer, or what True and False count as.
-fn integer_in(x: Value) -> Result<i64, Cause>
+/// An integer, or what True and False count as.
+pub fn integer_in(x: Value) -> Result<i64, Cause>
     ensures ok { IfOk result (λ n. integer_of x ≡ Some n) }
     ensures err { IfErr result (λ cause. (integer_of x ≡ None) × (cause ≡ WrongType)) }
 {
@@ -146,87 +143,10 @@ fn integer_in(x: Value) -> Result<i64, Cause>
     }
 }
 
-/// Adds the `str` of a value to a line.
-pub fn write_str(line: &mut String, texts: &Texts, value: Value) -> Result<(), NoMemory>
-    ensures { OnOk result (string_bytes line.new ≡ string_bytes line.old ++ encode_utf8_all (str_of (value_of texts.now value))) }
-{
-    match value {
-        Value::None => line.push_str("None"),
-        Value::Truth(true) => line.push_str("True"),
-        Value::Truth(false) => line.push_str("False"),
-        Value::Int(n) => write_int(line, n),
-        Value::Str(place) => line.push_str(texts.at(place).as_str()),
-        Value::BuiltIn(BuiltIn::Print) => line.push_str("<built-in print>"),
-        Value::Function(_, name) => write_function(line, texts.at(name as usize)),
-    }
-}
-
-fn write_function(line: &mut String, name: &Text) -> Result<(), NoMemory>
-    ensures { OnOk result (string_bytes line.new ≡ string_bytes line.old ++ encode_utf8_all (codes "<function " ++ name.now ++ codes ">")) }
-{
-    line.push_str("<function ")?;
-    line.push_str(name.as_str())?;
-    line.push('>')?;
-    Ok(())
-}
-
-fn write_int(line: &mut String, n: i64) -> Result<(), NoMemory>
-    ensures { OnOk result (string_bytes line.new ≡ string_bytes line.old ++ encode_utf8_all (signed_decimal n)) }
-{
-    write!(line, "{n}")
-}
-
-/// Adds what `print` prints of its arguments to a line: their `str`, joined by spaces, and a newline.
-pub fn write_line(line: &mut String, texts: &Texts, arguments: &[Value]) -> Result<(), NoMemory>
-    ensures { OnOk result (string_bytes line.new ≡ string_bytes line.old ++ encode_utf8_all (line_of (map (value_of texts.now) arguments.now))) }
-{
-    match arguments.split_first() {
-        Some((first, others)) => {
-            write_str(line, texts, *first)?;
-            write_others(line, texts, others)?;
-            line.push('\n')?;
-            Ok(())
-        }
-        None => {
-            line.push('\n')?;
-            Ok(())
-        }
-    }
-}
-
-// Adds the `str` of each value, with a space before it.
-fn write_others(line: &mut String, texts: &Texts, values: &[Value]) -> Result<(), NoMemory>
-    ensures { OnOk result (string_bytes line.new ≡ string_bytes line.old ++ encode_utf8_all (spaced (map (value_of texts.now) values.now))) }
-{
-    for value in values {
-        line.push(' ')?;
-        write_str(line, texts, *value)?;
-    }
-    Ok(())
-}
-
 #[cfg(test)]
 mod tests {
     use super::*;
     use std::test::Fail;
-
-    #[test]
-    fn values_are_printed_by_their_str(rt: HostRuntime) -> Result<(), Fail> {
-        let mut texts = Texts::new(rt.alloc());
-        texts.add(Text::from_str(rt.alloc(), "it's")?)?;
-        texts.add(Text::from_str(rt.alloc(), "fib")?)?;
-        let values = [
-            Value::Function(7, 1),
-            Value::Str(0),
-            Value::Int(-3),
-            Value::None,
-            Value::Truth(false),
-        ];
-        let mut line = String::new(rt.alloc());
-        write_line(&mut line, &texts, &values)?;
-        assert_eq!(rt; line.as_str(), "<function fib> it's -3 None False\n");
-        Ok(())
-    }
 
     #[test]
     fn functions_have_no_operators(rt: HostRuntime) -> Result<(), Fail> {

@@ -51,13 +51,13 @@ impl Slots {
         }
     }
 
-    /// A slot is bound to a value, where there is such a slot.
-    pub fn set(&mut self, slot: u32, value: Value)
-        ensures { self.new ≡ record self.old { here = slice_set self.old.here slot (Some value) } }
+    /// A slot is bound to a value, or unbound, where there is such a slot.
+    pub fn set(&mut self, slot: u32, value: Option<Value>)
+        ensures { self.new ≡ record self.old { here = slice_set self.old.here slot value } }
     {
         let place = self.base + slot as usize;
         if place < self.items.len() {
-            self.items[place] = Some(value);
+            self.items[place] = value;
         }
     }
 
@@ -136,12 +136,14 @@ mod tests {
         assert_eq!(rt; slots.get(0), Some(Value::Int(1)));
         assert_eq!(rt; slots.get(1), Some(Value::Int(2)));
         assert_eq!(rt; slots.get(2), None);
-        slots.set(2, Value::Truth(true));
-        slots.set(3, Value::Truth(false));
+        slots.set(2, Some(Value::Truth(true)));
+        slots.set(3, Some(Value::Truth(false)));
         assert_eq!(rt; slots.get(3), None);
         slots.open(&[Value::Int(7)], 1)?;
-        slots.set(0, Value::Int(8));
+        slots.set(0, Some(Value::Int(8)));
         assert_eq!(rt; slots.get(0), Some(Value::Int(8)));
+        slots.set(0, None);
+        assert_eq!(rt; slots.get(0), None);
         assert_eq!(rt; slots.get(1), None);
         slots.close();
         assert_eq!(rt; slots.get(0), Some(Value::Int(1)));

@@ -2,7 +2,7 @@
 ghost use Rattle.std.specs.Prelude.{◌≡◌, ◌≤◌, ◌<◌, ℕ, List, [], ◌∷◌, ◌++◌, length, IfOk, OnErr, encode_utf8_all};
 ghost use Rattle.si_code.specs.Views.{text_at};
 ghost use Rattle.si_semantics.specs.Operations.{times};
-ghost use Rattle.si_machine.specs.Causes.{Adds, repeated_text, copies_of};
+ghost use Rattle.si_machine.specs.Causes.{Adds, IsAdded, repeated_text, copies_of};
 
 use crate::cause::{Cause, Fault};
 use si_plain::limits::MAX_STR_LENGTH;
@@ -69,6 +69,21 @@ impl Texts {
         let place = self.items.len();
         self.items.push(text)?;
         Ok(place)
+    }
+
+    /// One more text, of this character, and its place.
+    pub fn add_character(&mut self, character: char) -> Result<usize, NoMemory>
+        ensures place { IfOk result (λ place. IsAdded (character ∷ []) self.old self.new place) }
+        ensures err { OnErr result (self.new ≡ self.old) }
+    {
+        let mut text = Text::with_capacity(self.alloc, character.len_utf8())?;
+        text.push(character)?;
+        self.add(text)
+    }
+
+    /// What they take memory from.
+    pub fn allocator(&self) -> Global {
+        self.alloc
     }
 
     /// The text at x, then the text at y, as one more text.

@@ -1,9 +1,16 @@
-// Values and the states of globals.
+// Values, and the objects of the store.
+ghost use Rattle.std.specs.Prelude.{◌≡◌, slice_get};
 
-/// A function that is there without a definition.
+use crate::cause::Cause;
+use si_plain::Kind;
+
+/// A function that is there without a definition, or a type that is called like a function.
 #[derive(Clone, Copy, Debug, PartialEq, Eq)]
 pub enum BuiltIn {
     Print,
+    Range,
+    Str,
+    Repr,
 }
 
 /// A value (Python Language Reference 3.14, 3.2).
@@ -19,16 +26,44 @@ pub enum Value {
     /// A function of a script, by its number among those that its interpreter has read, and the place
     /// of its name among the machine's texts.
     Function(u32, u32),
+    /// A range: its start, its stop, and its step, which is not 0.
+    Range(i64, i64, i64),
+    /// A kind of exception.
+    Kind(Kind),
+    /// An exception, by its place in the store.
+    Exception(usize),
 }
 
-/// The state of a global (Python Language Reference 3.14, 4.2.2): its own value, else the built-in of
-/// its name, else nothing.
+/// An object of the store: an exception.
 #[derive(Clone, Copy, Debug, PartialEq, Eq)]
-pub enum Global {
-    Unbound,
-    Provided(BuiltIn),
-    Bound(Value),
+pub enum Object {
+    /// What an operation raised: its kind and its message follow from the cause.
+    Caused(Cause),
+    /// An exception that a script made of its kind, with its argument where it has one.
+    Made(Kind, Option<Value>),
 }
 
-// A value is small, since values are copied.
-const _: () = prove!(size_of::<Value>() <= 16);
+impl Object {
+    ghost use Rattle.std.specs.Prelude.{◌≡◌};
+    ghost use Rattle.si_machine.specs.Causes.{kind_in};
+
+    /// The kind of the exception.
+    pub fn kind(self) -> Kind
+        ensures { result ≡ kind_in self }
+    {
+        match self {
+            Object::Caused(cause) => cause.kind(),
+            Object::Made(kind, _) => kind,
+        }
+    }
+}
+
+/// The object at a place of the store, where there is one.
+pub fn object_at(store: &[Object], place: usize) -> Option<Object>
+    ensures { result ≡ slice_get store.now place }
+{
+    store.get(place).copied()
+}
+
+// Values are copied, and so they are small.
+const _: () = prove!(size_of::<Value>() <= 32);

@@ -1,0 +1,559 @@
+-- Leaving what was entered: which line a step does.
+use Rattle.std.proofs.Common.{◌≡◌, ◌≢◌, ℕ, zero, suc, ◌+◌, ◌<◌, ◌≤◌, List, [], ◌∷◌, ◌++◌, length, map, take, drop, get_or, Option, Some, None, All, string_bytes, refl, sym, ap, subst, ◌∙◌, arith, append-nil, Bool, true, false, cond, slice_get}
+use Rattle.std.specs.Prelude.{reverse, ◌||◌}
+use Rattle.std.proofs.lemmas.List.{map-append, length-map, length-append, reverse-append, take_more, take_at}
+use Rattle.std.proofs.lemmas.List.Elements.{All-nil, All-cons, All-append, All-drop, All-tail, All-head}
+use Rattle.si_semantics.specs.Value as pure
+use Rattle.si_semantics.specs.World.{World}
+use Rattle.si_semantics.specs.Life as life
+use Rattle.si_semantics.specs.Meaning as meaning
+use Rattle.si_semantics.specs.Text.{str_in, message_of}
+use Rattle.si_semantics.specs.Machine as machine
+use Rattle.si_semantics.specs.Machine.{leave, active_among, At, Ending, Line, Place, goes}
+use Rattle.si_plain.specs.declared.kind.Kind.{Kind}
+use Rattle.si_machine.specs.declared.value.Value.{Value}
+use Rattle.si_machine.specs.declared.value.Value.TheVariants as value
+use Rattle.si_machine.specs.declared.value.Object.{Object}
+use Rattle.si_machine.specs.declared.items.Items.{Items}
+use Rattle.si_machine.specs.declared.blocks.Block.{Block}
+use Rattle.si_machine.specs.declared.blocks.Block.TheVariants.{Loop, Each, Catch, Final, Pending, Handling, Frame}
+use Rattle.si_machine.specs.declared.blocks.Leaving.{Leaving}
+use Rattle.si_machine.specs.declared.blocks.Leaving.TheVariants.{Raises, Returns, Breaks, Continues}
+use Rattle.si_machine.specs.declared.state.Standing.TheVariants as standing
+use Rattle.si_machine.specs.declared.state.State.{State}
+use Rattle.si_machine.specs.declared.step.Outcome.{Outcome}
+use Rattle.si_machine.specs.declared.step.Outcome.TheVariants.{Returned, Raised}
+use Rattle.si_machine.specs.declared.step.Step.{Step}
+use Rattle.si_machine.specs.declared.step.Step.TheVariants.{Local, Ended, Starved}
+use Rattle.si_machine.specs.Values.{value_of, bound_of, leaving_of, Fits, FitsBound, FitsLeaving, FitsObject}
+use Rattle.si_machine.specs.Causes.{object_of}
+use Rattle.si_machine.specs.Outcomes.{outcome_of}
+use Rattle.si_machine.specs.Blocks.{concerns, reached, handles, is_handled, active_in, first_there, active_of, NoFrame, LeavesFrame, IsMet, left_with, left_to, IsPlain}
+use Rattle.si_machine.specs.Stacks.{OperandsSeen, SlotsSeen, back, left_by}
+use Rattle.si_machine.specs.States.{AreSound, IsSound, Did, Moves, Unwinds, bytes_of, place_of, place_in, innermost, blocks_with, blocks_of, slots_of, world_of, line_of, FitsBlock, calls_in, with_operands, at_rest, back_at, raised_line, leave_line}
+use Rattle.si_machine.proofs.Growth.{All-innermost}
+use Rattle.si_machine.proofs.Lines.{placed_did, finished_did, rest_sound}
+use Rattle.si_machine.proofs.Frames.{return_line, back_did, callers_left, left_operands, back_slots, caller_there}
+
+-- ---- blocks
+
+-- what leaving passes does not count: it goes where it goes from what is left
+pub reached_same : (q : Leaving) (texts : List pure.Text) (w : World) (here : List (Option pure.Value)) (bs : List Block) (ops : List (List Value)) (slots : List (List (Option Value))) → leave (leaving_of texts q) w here (blocks_with texts bs ops slots) ≡ leave (leaving_of texts q) w here (blocks_with texts (reached q bs) ops slots)
+reached_same (Raises x) texts w here [] ops slots = refl
+reached_same (Raises x) texts w here (Loop start after ∷ bs) ops slots = reached_same (Raises x) texts w here bs ops slots
+reached_same (Raises x) texts w here (Each items ∷ bs) ops slots = reached_same (Raises x) texts w here bs ops slots
+reached_same (Raises x) texts w here (Catch clauses ∷ bs) ops slots = refl
+reached_same (Raises x) texts w here (Final suite ∷ bs) ops slots = refl
+reached_same (Raises x) texts w here (Pending p ∷ bs) ops slots = reached_same (Raises x) texts w here bs ops slots
+reached_same (Raises x) texts w here (Handling h ∷ bs) ops slots = reached_same (Raises x) texts w here bs ops slots
+reached_same (Raises x) texts w here (Frame after ∷ bs) ops slots = refl
+reached_same (Returns v) texts w here [] ops slots = refl
+reached_same (Returns v) texts w here (Loop start after ∷ bs) ops slots = reached_same (Returns v) texts w here bs ops slots
+reached_same (Returns v) texts w here (Each items ∷ bs) ops slots = reached_same (Returns v) texts w here bs ops slots
+reached_same (Returns v) texts w here (Catch clauses ∷ bs) ops slots = reached_same (Returns v) texts w here bs ops slots
+reached_same (Returns v) texts w here (Final suite ∷ bs) ops slots = refl
+reached_same (Returns v) texts w here (Pending p ∷ bs) ops slots = reached_same (Returns v) texts w here bs ops slots
+reached_same (Returns v) texts w here (Handling h ∷ bs) ops slots = reached_same (Returns v) texts w here bs ops slots
+reached_same (Returns v) texts w here (Frame after ∷ bs) ops slots = refl
+reached_same Breaks texts w here [] ops slots = refl
+reached_same Breaks texts w here (Loop start after ∷ bs) ops slots = refl
+reached_same Breaks texts w here (Each items ∷ bs) ops slots = reached_same Breaks texts w here bs ops slots
+reached_same Breaks texts w here (Catch clauses ∷ bs) ops slots = reached_same Breaks texts w here bs ops slots
+reached_same Breaks texts w here (Final suite ∷ bs) ops slots = refl
+reached_same Breaks texts w here (Pending p ∷ bs) ops slots = reached_same Breaks texts w here bs ops slots
+reached_same Breaks texts w here (Handling h ∷ bs) ops slots = reached_same Breaks texts w here bs ops slots
+reached_same Breaks texts w here (Frame after ∷ bs) ops slots = refl
+reached_same Continues texts w here [] ops slots = refl
+reached_same Continues texts w here (Loop start after ∷ bs) ops slots = refl
+reached_same Continues texts w here (Each items ∷ bs) ops slots = reached_same Continues texts w here bs ops slots
+reached_same Continues texts w here (Catch clauses ∷ bs) ops slots = reached_same Continues texts w here bs ops slots
+reached_same Continues texts w here (Final suite ∷ bs) ops slots = refl
+reached_same Continues texts w here (Pending p ∷ bs) ops slots = reached_same Continues texts w here bs ops slots
+reached_same Continues texts w here (Handling h ∷ bs) ops slots = reached_same Continues texts w here bs ops slots
+reached_same Continues texts w here (Frame after ∷ bs) ops slots = refl
+
+-- no call is passed
+pub reached_calls : (q : Leaving) (bs : List Block) → calls_in (reached q bs) ≡ calls_in bs
+reached_calls (Raises x) [] = refl
+reached_calls (Raises x) (Loop start after ∷ bs) = reached_calls (Raises x) bs
+reached_calls (Raises x) (Each items ∷ bs) = reached_calls (Raises x) bs
+reached_calls (Raises x) (Catch clauses ∷ bs) = refl
+reached_calls (Raises x) (Final suite ∷ bs) = refl
+reached_calls (Raises x) (Pending p ∷ bs) = reached_calls (Raises x) bs
+reached_calls (Raises x) (Handling h ∷ bs) = reached_calls (Raises x) bs
+reached_calls (Raises x) (Frame after ∷ bs) = refl
+reached_calls (Returns v) [] = refl
+reached_calls (Returns v) (Loop start after ∷ bs) = reached_calls (Returns v) bs
+reached_calls (Returns v) (Each items ∷ bs) = reached_calls (Returns v) bs
+reached_calls (Returns v) (Catch clauses ∷ bs) = reached_calls (Returns v) bs
+reached_calls (Returns v) (Final suite ∷ bs) = refl
+reached_calls (Returns v) (Pending p ∷ bs) = reached_calls (Returns v) bs
+reached_calls (Returns v) (Handling h ∷ bs) = reached_calls (Returns v) bs
+reached_calls (Returns v) (Frame after ∷ bs) = refl
+reached_calls Breaks [] = refl
+reached_calls Breaks (Loop start after ∷ bs) = refl
+reached_calls Breaks (Each items ∷ bs) = reached_calls Breaks bs
+reached_calls Breaks (Catch clauses ∷ bs) = reached_calls Breaks bs
+reached_calls Breaks (Final suite ∷ bs) = refl
+reached_calls Breaks (Pending p ∷ bs) = reached_calls Breaks bs
+reached_calls Breaks (Handling h ∷ bs) = reached_calls Breaks bs
+reached_calls Breaks (Frame after ∷ bs) = refl
+reached_calls Continues [] = refl
+reached_calls Continues (Loop start after ∷ bs) = refl
+reached_calls Continues (Each items ∷ bs) = reached_calls Continues bs
+reached_calls Continues (Catch clauses ∷ bs) = reached_calls Continues bs
+reached_calls Continues (Final suite ∷ bs) = refl
+reached_calls Continues (Pending p ∷ bs) = reached_calls Continues bs
+reached_calls Continues (Handling h ∷ bs) = reached_calls Continues bs
+reached_calls Continues (Frame after ∷ bs) = refl
+
+pub reached_all : (P : Block → Type 0) (q : Leaving) (bs : List Block) → All P bs → All P (reached q bs)
+reached_all P q [] h = h
+reached_all P q (b ∷ bs) h =
+    elim (concerns q b) as (λ c. All P (cond c (b ∷ bs) (reached q bs))) [ true ↦ h | false ↦ reached_all P q bs (All-tail P b bs h) ]
+
+-- what is reached is not passed
+pub reached_top : (q : Leaving) (bs : List Block) (b : Block) (rest : List Block) → reached q bs ≡ b ∷ rest → concerns q b ≡ true
+reached_top q [] b rest e = cc
+reached_top q (a ∷ bs) b rest e = pick (concerns q a) refl e (λ k. reached_top q bs b rest k)
+  where
+    pick : (c : Bool) → concerns q a ≡ c → cond c (a ∷ bs) (reached q bs) ≡ b ∷ rest → (reached q bs ≡ b ∷ rest → concerns q b ≡ true) → concerns q b ≡ true
+    pick true is same f = let one : a ≡ b = cc in ap (concerns q) (sym one) ∙ is
+    pick false is same f = f same
+
+-- it counts that an exception leaves, and not which
+one_exception : (x y : ℕ) (bs : List Block) → reached (Raises x) bs ≡ reached (Raises y) bs
+one_exception x y [] = refl
+one_exception x y (Loop start after ∷ bs) = one_exception x y bs
+one_exception x y (Each items ∷ bs) = one_exception x y bs
+one_exception x y (Catch clauses ∷ bs) = refl
+one_exception x y (Final suite ∷ bs) = refl
+one_exception x y (Pending p ∷ bs) = one_exception x y bs
+one_exception x y (Handling h ∷ bs) = one_exception x y bs
+one_exception x y (Frame after ∷ bs) = refl
+
+handled_reached : (x : ℕ) (bs : List Block) → is_handled (reached (Raises x) bs) ≡ is_handled bs
+handled_reached x [] = refl
+handled_reached x (Loop start after ∷ bs) = handled_reached x bs
+handled_reached x (Each items ∷ bs) = handled_reached x bs
+handled_reached x (Catch clauses ∷ bs) = refl
+handled_reached x (Final suite ∷ bs) = refl
+handled_reached x (Pending p ∷ bs) = handled_reached x bs
+handled_reached x (Handling h ∷ bs) = handled_reached x bs
+handled_reached x (Frame after ∷ bs) = refl
+
+met_reached : (x : ℕ) (bs : List Block) → is_handled bs ≡ true → NoFrame (reached (Raises x) bs) → IsMet (reached (Raises x) bs)
+met_reached x [] h k = cc
+met_reached x (Loop start after ∷ bs) h k = met_reached x bs h k
+met_reached x (Each items ∷ bs) h k = met_reached x bs h k
+met_reached x (Catch clauses ∷ bs) h k = tt
+met_reached x (Final suite ∷ bs) h k = tt
+met_reached x (Pending p ∷ bs) h k = met_reached x bs h k
+met_reached x (Handling y ∷ bs) h k = met_reached x bs h k
+met_reached x (Frame after ∷ bs) h k = absurd k
+
+-- an exception that nothing handles leaves the run
+unhandled_ends : (x : ℕ) (texts : List pure.Text) (w : World) (here : List (Option pure.Value)) (bs : List Block) (ops : List (List Value)) (slots : List (List (Option Value))) → is_handled bs ≡ false → leave (meaning.Raises x) w here (blocks_with texts bs ops slots) ≡ Ending (life.outcome_of (meaning.Raises x) w)
+unhandled_ends x texts w here [] ops slots h = refl
+unhandled_ends x texts w here (Loop start after ∷ bs) ops slots h = unhandled_ends x texts w here bs ops slots h
+unhandled_ends x texts w here (Each items ∷ bs) ops slots h = unhandled_ends x texts w here bs ops slots h
+unhandled_ends x texts w here (Catch clauses ∷ bs) ops slots h = cc
+unhandled_ends x texts w here (Final suite ∷ bs) ops slots h = cc
+unhandled_ends x texts w here (Pending p ∷ bs) ops slots h = unhandled_ends x texts w here bs ops slots h
+unhandled_ends x texts w here (Handling y ∷ bs) ops slots h = unhandled_ends x texts w here bs ops slots h
+unhandled_ends x texts w here (Frame after ∷ bs) ops slots h = unhandled_ends x texts w (map (bound_of texts) (innermost slots)) bs (drop 1 ops) (drop 1 slots) h
+
+-- the innermost active exception
+pub active_same : (texts : List pure.Text) (bs : List Block) (ops : List (List Value)) (slots : List (List (Option Value))) → active_among (blocks_with texts bs ops slots) ≡ active_of bs
+active_same texts [] ops slots = refl
+active_same texts (Loop start after ∷ bs) ops slots = active_same texts bs ops slots
+active_same texts (Each items ∷ bs) ops slots = active_same texts bs ops slots
+active_same texts (Catch clauses ∷ bs) ops slots = active_same texts bs ops slots
+active_same texts (Final suite ∷ bs) ops slots = active_same texts bs ops slots
+active_same texts (Pending None ∷ bs) ops slots = active_same texts bs ops slots
+active_same texts (Pending (Some (Raises x)) ∷ bs) ops slots = refl
+active_same texts (Pending (Some (Returns v)) ∷ bs) ops slots = active_same texts bs ops slots
+active_same texts (Pending (Some Breaks) ∷ bs) ops slots = active_same texts bs ops slots
+active_same texts (Pending (Some Continues) ∷ bs) ops slots = active_same texts bs ops slots
+active_same texts (Handling x ∷ bs) ops slots = refl
+active_same texts (Frame after ∷ bs) ops slots = active_same texts bs (drop 1 ops) (drop 1 slots)
+
+-- ---- where leaving comes to
+
+-- where it goes, by what is reached
+reached_line : (q : Leaving) (bs : List Block) (s : State) → reached q s.blocks ≡ bs → leave_line q s ≡ goes (leave (leaving_of s.texts q) (world_of s) (slots_of s) (blocks_with s.texts bs s.operands.below s.slots.below)) (world_of s)
+reached_line q bs s is =
+    ap (λ p. goes p (world_of s)) (reached_same q s.texts (world_of s) (slots_of s) s.blocks s.operands.below s.slots.below)
+    ∙ ap (λ l. goes (leave (leaving_of s.texts q) (world_of s) (slots_of s) (blocks_with s.texts l s.operands.below s.slots.below)) (world_of s)) is
+
+reached_count : (q : Leaving) (bs : List Block) (s : State) → reached q s.blocks ≡ bs → calls_in s.blocks ≡ calls_in bs
+reached_count q bs s is = sym (reached_calls q s.blocks) ∙ ap calls_in is
+
+reached_fit : (q : Leaving) (bs : List Block) (s : State) → IsSound s → reached q s.blocks ≡ bs → All (FitsBlock s.texts) bs
+reached_fit q bs s h is = let P : List Block → Type 0 = λ l. All (FitsBlock s.texts) l in subst P is (reached_all (FitsBlock s.texts) q s.blocks h.blocks)
+
+final_place : (q : Leaving) (texts : List pure.Text) (w : World) (here : List (Option pure.Value)) (suite : ℕ) (bs : List machine.Block) → leave (leaving_of texts q) w here (machine.Final suite ∷ bs) ≡ At suite [] here (machine.Pending (Some (leaving_of texts q)) ∷ bs)
+final_place (Raises x) texts w here suite bs = refl
+final_place (Returns v) texts w here suite bs = refl
+final_place Breaks texts w here suite bs = refl
+final_place Continues texts w here suite bs = refl
+
+-- with a block in place of the innermost, and no operands
+arrived : (n next : ℕ) (b c : Block) (rest : List Block) (old new : State) → IsSound old → old.standing ≡ standing.Running → calls_in old.blocks ≡ calls_in (c ∷ rest) → FitsBlock old.texts c → All (FitsBlock old.texts) rest → new ≡ record old { pc = next; operands = with_operands [] old.operands; blocks = c ∷ rest } → Did (goes (At next [] (slots_of old) (blocks_with old.texts (c ∷ rest) old.operands.below old.slots.below)) (world_of old)) old new Local
+arrived n next b c rest old new h run count fits below e =
+    let k = h.stacks in
+    let stacks : AreSound (length old.texts) (with_operands [] old.operands) old.slots (c ∷ rest) = record {
+      here = All-nil (Fits (length old.texts));
+      below = k.below;
+      locals = k.locals;
+      callers = k.callers;
+      operands_each = k.operands_each ∙ count;
+      locals_each = k.locals_each ∙ count;
+    } in
+    placed_did next (with_operands [] old.operands) old.slots (c ∷ rest) old new h run stacks (All-cons (FitsBlock old.texts) c rest fits below) e
+
+-- to a finally suite
+pub final_did : (q : Leaving) (suite : ℕ) (rest : List Block) (old new : State) → IsSound old → old.standing ≡ standing.Running → FitsLeaving (length old.texts) q → reached q old.blocks ≡ Final suite ∷ rest → new ≡ record old { pc = suite; operands = with_operands [] old.operands; blocks = Pending (Some q) ∷ rest } → Did (leave_line q old) old new Local
+final_did q suite rest old new h run fits is e =
+    let P : Line → Type 0 = λ l. Did l old new Local in
+    let bs = blocks_with old.texts rest old.operands.below old.slots.below in
+    subst P (sym (reached_line q (Final suite ∷ rest) old is ∙ ap (λ p. goes p (world_of old)) (final_place q old.texts (world_of old) (slots_of old) suite bs)))
+    (arrived 0 suite (Final suite) (Pending (Some q)) rest old new h run (reached_count q (Final suite ∷ rest) old is) fits (All-tail (FitsBlock old.texts) (Final suite) rest (reached_fit q (Final suite ∷ rest) old h is)) e)
+
+-- to except clauses
+pub catch_did : (x clauses : ℕ) (rest : List Block) (old new : State) → IsSound old → old.standing ≡ standing.Running → reached (Raises x) old.blocks ≡ Catch clauses ∷ rest → new ≡ record old { pc = clauses; operands = with_operands [] old.operands; blocks = Handling x ∷ rest } → Did (leave_line (Raises x) old) old new Local
+catch_did x clauses rest old new h run is e =
+    let P : Line → Type 0 = λ l. Did l old new Local in
+    subst P (sym (reached_line (Raises x) (Catch clauses ∷ rest) old is))
+    (arrived 0 clauses (Catch clauses) (Handling x) rest old new h run (reached_count (Raises x) (Catch clauses ∷ rest) old is) tt (All-tail (FitsBlock old.texts) (Catch clauses) rest (reached_fit (Raises x) (Catch clauses ∷ rest) old h is)) e)
+
+loop_place : (q : Leaving) (texts : List pure.Text) (w : World) (here : List (Option pure.Value)) (start after : ℕ) (bs : List machine.Block) → concerns q (Loop start after) ≡ true → leave (leaving_of texts q) w here (machine.Loop start after ∷ bs) ≡ At (left_to q start after) [] here bs
+loop_place (Raises x) texts w here start after bs e = cc
+loop_place (Returns v) texts w here start after bs e = cc
+loop_place Breaks texts w here start after bs e = refl
+loop_place Continues texts w here start after bs e = refl
+
+-- out of a loop, or to its start
+pub loop_did : (q : Leaving) (start after : ℕ) (rest : List Block) (old new : State) → IsSound old → old.standing ≡ standing.Running → reached q old.blocks ≡ Loop start after ∷ rest → new ≡ record old { pc = left_to q start after; operands = with_operands [] old.operands; blocks = rest } → Did (leave_line q old) old new Local
+loop_did q start after rest old new h run is e =
+    let k = h.stacks in
+    let count = reached_count q (Loop start after ∷ rest) old is in
+    let stacks : AreSound (length old.texts) (with_operands [] old.operands) old.slots rest = record {
+      here = All-nil (Fits (length old.texts));
+      below = k.below;
+      locals = k.locals;
+      callers = k.callers;
+      operands_each = k.operands_each ∙ count;
+      locals_each = k.locals_each ∙ count;
+    } in
+    let P : Line → Type 0 = λ l. Did l old new Local in
+    let bs = blocks_with old.texts rest old.operands.below old.slots.below in
+    let top = reached_top q old.blocks (Loop start after) rest is in
+    subst P (sym (reached_line q (Loop start after ∷ rest) old is ∙ ap (λ p. goes p (world_of old)) (loop_place q old.texts (world_of old) (slots_of old) start after bs top)))
+    (placed_did (left_to q start after) (with_operands [] old.operands) old.slots rest old new h run stacks (All-tail (FitsBlock old.texts) (Loop start after) rest (reached_fit q (Loop start after ∷ rest) old h is)) e)
+
+frame_place : (q : Leaving) (texts : List pure.Text) (w : World) (here : List (Option pure.Value)) (after : ℕ) (ops : List pure.Value) (slots : List (Option pure.Value)) (bs : List machine.Block) → IsPlain q → leave (leaving_of texts q) w here (machine.Frame after ops slots ∷ bs) ≡ At after (value_of texts (left_with q) ∷ ops) slots bs
+frame_place (Raises x) texts w here after ops slots bs h = absurd h
+frame_place (Returns v) texts w here after ops slots bs h = refl
+frame_place Breaks texts w here after ops slots bs h = refl
+frame_place Continues texts w here after ops slots bs h = refl
+
+value_fits : (n : ℕ) (q : Leaving) → FitsLeaving n q → Fits n (left_with q)
+value_fits n (Raises x) h = tt
+value_fits n (Returns v) h = h
+value_fits n Breaks h = tt
+value_fits n Continues h = tt
+
+-- back in the caller
+pub frame_did : (q : Leaving) (after : ℕ) (rest : List Block) (old new : State) → IsSound old → old.standing ≡ standing.Running → IsPlain q → FitsLeaving (length old.texts) q → reached q old.blocks ≡ Frame after ∷ rest → new ≡ record (back_at after (left_with q) old) { blocks = rest } → Did (leave_line q old) old new Local
+frame_did q after rest old new h run plain fits is e =
+    let P : Line → Type 0 = λ l. Did l old new Local in
+    let ops = map (value_of old.texts) (innermost old.operands.below) in
+    let slots = map (bound_of old.texts) (innermost old.slots.below) in
+    let bs = blocks_with old.texts rest (drop 1 old.operands.below) (drop 1 old.slots.below) in
+    subst P (sym (reached_line q (Frame after ∷ rest) old is ∙ ap (λ p. goes p (world_of old)) (frame_place q old.texts (world_of old) (slots_of old) after ops slots bs plain)))
+    (back_did after (left_with q) rest old new h run (value_fits (length old.texts) q fits) (All-tail (FitsBlock old.texts) (Frame after) rest (reached_fit q (Frame after ∷ rest) old h is)) (reached_count q (Frame after ∷ rest) old is) e)
+
+pub frame_caller : (q : Leaving) (after : ℕ) (rest : List Block) (s : State) → IsSound s → reached q s.blocks ≡ Frame after ∷ rest → (0 < length s.operands.below) × (0 < length s.slots.below)
+frame_caller q after rest s h is = caller_there s rest h (reached_count q (Frame after ∷ rest) s is)
+
+end_place : (q : Leaving) (texts : List pure.Text) (w : World) (here : List (Option pure.Value)) → IsPlain q → leave (leaving_of texts q) w here [] ≡ Ending life.Returned
+end_place (Raises x) texts w here h = absurd h
+end_place (Returns v) texts w here h = refl
+end_place Breaks texts w here h = refl
+end_place Continues texts w here h = refl
+
+-- out of the run
+pub end_did : (q : Leaving) (old new : State) → IsSound old → IsPlain q → reached q old.blocks ≡ [] → new ≡ at_rest Returned old → Did (leave_line q old) old new Ended
+end_did q old new h plain is e =
+    let P : Line → Type 0 = λ l. Did l old new Ended in
+    subst P (sym (reached_line q [] old is ∙ ap (λ p. goes p (world_of old)) (end_place q old.texts (world_of old) (slots_of old) plain))) (finished_did old new h e)
+
+-- an exception that nothing handles ends the run
+pub raised_ends : (x : ℕ) (kind : Kind) (text : pure.Text) (old new : State) → IsSound old → is_handled old.blocks ≡ false → kind ≡ life.kind_of (slice_get (world_of old).store x) → text ≡ message_of (str_in (world_of old).store (pure.Address x)) → new ≡ at_rest (Raised kind text) old → Did (leave_line (Raises x) old) old new Ended
+raised_ends x kind text old new h none k t e =
+    let l = leave_line (Raises x) old in
+    let P : State → Type 0 = λ s. Did l old s Ended in
+    subst P (sym e) (
+      record {
+        place = unhandled_ends x old.texts (world_of old) (slots_of old) old.blocks old.operands.below old.slots.below none ∙ ap (λ c. Ending (life.Raised c (message_of (str_in (world_of old).store (pure.Address x))))) (sym k) ∙ ap (λ m. Ending (life.Raised kind m)) (sym t);
+        world = refl;
+        printed = sym (append-nil (string_bytes old.printed));
+        code = refl;
+        sound = rest_sound (Raised kind text) old h;
+      },
+      refl,
+      refl,
+    )
+
+-- ---- calls that an exception leaves
+
+-- an exception goes on from where it has come
+pub unwound_same : (x : ℕ) (s : State) → IsSound s → Unwinds x s s
+unwound_same x s h = record { state = refl; sound = h; goes = refl }
+
+-- out of one call more
+pub unwound_frame : (x : ℕ) (bs : List Block) (first old new : State) → Unwinds x first old → LeavesFrame old.blocks bs true → new ≡ record old { operands = left_by old.operands.below; slots = back old.slots.below; blocks = bs } → Unwinds x first new
+unwound_frame x bs first old new u left e =
+    let h = u.sound in
+    let k = h.stacks in
+    let F = Fits (length old.texts) in
+    let S = FitsBound (length old.texts) in
+    let is : reached (Raises x) old.blocks ≡ Frame left.0 ∷ bs = one_exception x 0 old.blocks ∙ left.1 in
+    let one : calls_in old.blocks ≡ calls_in bs + 1 = reached_count (Raises x) (Frame left.0 ∷ bs) old is in
+    let there = caller_there old bs h one in
+    let ops = callers_left (calls_in bs) old.operands.below (k.operands_each ∙ one) in
+    let locals = callers_left (calls_in bs) old.slots.below (k.locals_each ∙ one) in
+    let new_ops : OperandsSeen = record { here = innermost old.operands.below; below = drop 1 old.operands.below } in
+    let new_slots : SlotsSeen = record { here = innermost old.slots.below; below = drop 1 old.slots.below } in
+    let stacks : AreSound (length old.texts) new_ops new_slots bs = record {
+      here = All-innermost F old.operands.below k.below;
+      below = All-drop (λ vs. All F vs) 1 old.operands.below k.below;
+      locals = All-innermost S old.slots.below k.callers;
+      callers = All-drop (λ xs. All S xs) 1 old.slots.below k.callers;
+      operands_each = ops.1;
+      locals_each = locals.1;
+    } in
+    let mid : State = record old { operands = new_ops; slots = new_slots; blocks = bs } in
+    let make : OperandsSeen → SlotsSeen → State = λ o l. record old { operands = o; slots = l; blocks = bs } in
+    let same : new ≡ mid = e ∙ ap (λ o. make o (back old.slots.below)) (left_operands old.operands.below there.0) ∙ ap (make new_ops) (back_slots old.slots.below there.1) in
+    let P : State → Type 0 = λ s. Unwinds x first s in
+    let again : State → State = λ s. record s { operands = new_ops; slots = new_slots; blocks = bs } in
+    let sound : IsSound mid = record {
+      stacks = stacks;
+      blocks = All-tail (FitsBlock old.texts) (Frame left.0) bs (reached_fit (Raises x) (Frame left.0 ∷ bs) old h is);
+      globals = h.globals;
+      store = h.store;
+      literals = h.literals;
+      slots = h.slots;
+      built_ins = h.built_ins;
+      short = h.short;
+    } in
+    subst P (sym same) (record { state = ap again u.state; sound = sound; goes = sym (ap (λ l. l.place) (reached_line (Raises x) (Frame left.0 ∷ bs) old is)) ∙ u.goes })
+
+-- up to a block that stops it
+pub unwound_met : (x : ℕ) (bs : List Block) (first old new : State) → Unwinds x first old → is_handled old.blocks ≡ true → LeavesFrame old.blocks bs false → new ≡ record old { blocks = bs } → Unwinds x first new × IsMet new.blocks
+unwound_met x bs first old new u handled left e =
+    let h = u.sound in
+    let k = h.stacks in
+    let is : reached (Raises x) old.blocks ≡ bs = one_exception x 0 old.blocks ∙ sym left.0 in
+    let mid : State = record old { blocks = bs } in
+    let again : State → State = λ s. record s { blocks = bs } in
+    let count = reached_count (Raises x) bs old is in
+    let stacks : AreSound (length old.texts) old.operands old.slots bs =
+    record { here = k.here; below = k.below; locals = k.locals; callers = k.callers; operands_each = k.operands_each ∙ count; locals_each = k.locals_each ∙ count } in
+    let sound : IsSound mid = record {
+      stacks = stacks;
+      blocks = reached_fit (Raises x) bs old h is;
+      globals = h.globals;
+      store = h.store;
+      literals = h.literals;
+      slots = h.slots;
+      built_ins = h.built_ins;
+      short = h.short;
+    } in
+    let M : List Block → Type 0 = λ l. IsMet l in
+    let N : List Block → Type 0 = λ l. NoFrame l in
+    let P : State → Type 0 = λ s. Unwinds x first s × IsMet s.blocks in
+    subst P (sym e) (
+      record { state = ap again u.state; sound = sound; goes = sym (ap (λ l. l.place) (reached_line (Raises x) bs old is)) ∙ u.goes },
+      subst M is (met_reached x old.blocks handled (subst N (sym is) left.1)),
+    )
+
+-- what is handled outside a call is handled
+pub handled_frame : (bs rest : List Block) → LeavesFrame bs rest true → is_handled bs ≡ true → is_handled rest ≡ true
+handled_frame bs rest left h = sym (ap is_handled left.1) ∙ handled_reached 0 bs ∙ h
+
+-- what is met is reached
+met_there : (x : ℕ) (bs : List Block) → IsMet bs → reached (Raises x) bs ≡ bs
+met_there x [] h = absurd h
+met_there x (Loop start after ∷ bs) h = absurd h
+met_there x (Each items ∷ bs) h = absurd h
+met_there x (Catch clauses ∷ bs) h = refl
+met_there x (Final suite ∷ bs) h = refl
+met_there x (Pending p ∷ bs) h = absurd h
+met_there x (Handling y ∷ bs) h = absurd h
+met_there x (Frame after ∷ bs) h = absurd h
+
+-- what was done from where the exception has come was done from where it was raised
+pub unwound_did : (x : ℕ) (first old new : State) → Unwinds x first old → Did (leave_line (Raises x) old) old new Local → Did (leave_line (Raises x) first) first new Local
+unwound_did x first old new u did =
+    let m = did.0 in
+    let s = u.state in (
+      record {
+        place = sym u.goes ∙ m.place;
+        world = ap world_of (sym s) ∙ m.world;
+        printed = m.printed ∙ ap (λ (t : State). string_bytes t.printed ++ []) s;
+        code = m.code ∙ ap (λ (t : State). t.table) s;
+        sound = m.sound;
+      },
+      did.1,
+    )
+
+pub running_still : (x : ℕ) (first old : State) → Unwinds x first old → first.standing ≡ standing.Running → old.standing ≡ standing.Running
+running_still x first old u run = ap (λ (s : State). s.standing) u.state ∙ run
+
+pub met_clauses : (x clauses : ℕ) (first old new : State) → Unwinds x first old → first.standing ≡ standing.Running → IsMet old.blocks → old.blocks ≡ Catch clauses ∷ drop 1 old.blocks → new ≡ record old { pc = clauses; operands = with_operands [] old.operands; blocks = Handling x ∷ drop 1 old.blocks } → Did (leave_line (Raises x) first) first new Local
+met_clauses x clauses first old new u run met top e = unwound_did x first old new u (catch_did x clauses (drop 1 old.blocks) old new u.sound (running_still x first old u run) (met_there x old.blocks met ∙ top) e)
+
+pub met_suite : (x suite : ℕ) (first old new : State) → Unwinds x first old → first.standing ≡ standing.Running → IsMet old.blocks → old.blocks ≡ Final suite ∷ drop 1 old.blocks → new ≡ record old { pc = suite; operands = with_operands [] old.operands; blocks = Pending (Some (Raises x)) ∷ drop 1 old.blocks } → Did (leave_line (Raises x) first) first new Local
+met_suite x suite first old new u run met top e = unwound_did x first old new u (final_did (Raises x) suite (drop 1 old.blocks) old new u.sound (running_still x first old u run) tt (met_there x old.blocks met ∙ top) e)
+
+-- ---- a new exception
+
+-- a state with an object more
+pub stored_sound : (o : Object) (old new : State) → IsSound old → FitsObject (length old.texts) o → new.store.items ≡ old.store.items ++ o ∷ [] → new ≡ record old { store = new.store } → IsSound new
+stored_sound o old new h fits items e =
+    let S : List Object → Type 0 = λ os. All (FitsObject (length old.texts)) os in
+    subst IsSound (sym e) (record {
+      stacks = h.stacks;
+      blocks = h.blocks;
+      globals = h.globals;
+      store = subst S (sym items) (All-append (FitsObject (length old.texts)) old.store.items (o ∷ []) h.store (All-cons (FitsObject (length old.texts)) o [] fits (All-nil (FitsObject (length old.texts)))));
+      literals = h.literals;
+      slots = h.slots;
+      built_ins = h.built_ins;
+      short = h.short;
+    })
+
+-- the world with it
+pub stored_world : (o : Object) (old new : State) → new.store.items ≡ old.store.items ++ o ∷ [] → new ≡ record old { store = new.store } → world_of new ≡ record (world_of old) { store = (world_of old).store ++ object_of old.texts old.table.names o ∷ [] }
+stored_world o old new items e =
+    let f = object_of old.texts old.table.names in
+    let make : List pure.Object → World = λ os. record (world_of old) { store = os } in
+    ap world_of e ∙ ap (λ os. make (map f os)) items ∙ ap make (map-append f old.store.items (o ∷ []))
+
+-- the line of an exception that is raised as it was stored
+stored_line : (o : Object) (place : ℕ) (old mid : State) → place ≡ length old.store.items → mid.store.items ≡ old.store.items ++ o ∷ [] → mid ≡ record old { store = mid.store } → leave_line (Raises place) mid ≡ raised_line o old
+stored_line o place old mid at items e =
+    let w = stored_world o old mid items e in
+    let size : place ≡ length (world_of old).store = at ∙ sym (length-map old.store.items (object_of old.texts old.table.names)) in
+    ap (λ s. goes (leave (meaning.Raises place) (world_of mid) (slots_of s) (blocks_of s)) (world_of mid)) e
+    ∙ ap (λ v. goes (leave (meaning.Raises place) v (slots_of old) (blocks_of old)) v) w
+    ∙ ap (λ n. let v : World = record (world_of old) { store = (world_of old).store ++ object_of old.texts old.table.names o ∷ [] } in goes (leave (meaning.Raises n) v (slots_of old) (blocks_of old)) v) size
+
+moved_on : (l : Line) (p : Place) (old mid new : State) → mid ≡ record old { store = mid.store } → Moves l p mid new → Moves l p old new
+moved_on l p old mid new e m = record { place = m.place; world = m.world; printed = m.printed ∙ ap (λ (s : State). string_bytes s.printed ++ bytes_of l.out) e; code = m.code ∙ ap (λ (s : State). s.table) e; sound = m.sound }
+
+pub stored_local : (o : Object) (place : ℕ) (old mid new : State) → place ≡ length old.store.items → mid.store.items ≡ old.store.items ++ o ∷ [] → mid ≡ record old { store = mid.store } → Did (leave_line (Raises place) mid) mid new Local → Did (raised_line o old) old new Local
+stored_local o place old mid new at items e did =
+    let P : Line → Type 0 = λ l. Did l old new Local in
+    subst P (stored_line o place old mid at items e) (moved_on (leave_line (Raises place) mid) (place_of new) old mid new e did.0, did.1)
+
+pub stored_ended : (o : Object) (place : ℕ) (old mid new : State) → place ≡ length old.store.items → mid.store.items ≡ old.store.items ++ o ∷ [] → mid ≡ record old { store = mid.store } → Did (leave_line (Raises place) mid) mid new Ended → Did (raised_line o old) old new Ended
+stored_ended o place old mid new at items e did =
+    let P : Line → Type 0 = λ l. Did l old new Ended in
+    subst P (stored_line o place old mid at items e) (moved_on (leave_line (Raises place) mid) (Ending (outcome_of new.outcome)) old mid new e did.0, did.1, did.2 ∙ ap (λ (s : State). string_bytes s.printed) e)
+
+-- refused memory: the object is taken off again
+pub stored_starved : (o : Object) (place : ℕ) (old mid bad new : State) → place ≡ length old.store.items → mid.store.items ≡ old.store.items ++ o ∷ [] → mid ≡ record old { store = mid.store } → Did (leave_line (Raises place) mid) mid bad Starved → new.store.items ≡ take place bad.store.items → new ≡ record bad { store = new.store } → Did (raised_line o old) old new Starved
+stored_starved o place old mid bad new at items e did cut same =
+    let make : State → State = λ s. record s { standing = standing.Starved; line = bad.line; printed = bad.printed; store = new.store } in
+    let again : State → State = λ s. record s { store = new.store } in
+    let all : new ≡ make old = same ∙ ap again did.0 ∙ ap make e in
+    let shape : State → State = λ s. record old { standing = standing.Starved; line = s.line; printed = s.printed; store = new.store } in (
+      all ∙ ap (λ l. let s : State = record old { standing = standing.Starved; line = l; printed = bad.printed; store = new.store } in s) (sym (ap (λ (s : State). s.line) all)) ∙ ap (λ p. let s : State = record old { standing = standing.Starved; line = new.line; printed = p; store = new.store } in s) (sym (ap (λ (s : State). s.printed) all)),
+      ap (λ (s : State). string_bytes s.printed) same ∙ did.1 ∙ ap (λ (s : State). string_bytes s.printed) e,
+      cut ∙ ap (take place) (did.2 ∙ items) ∙ ap (λ n. take n (old.store.items ++ o ∷ [])) at ∙ take_at old.store.items (o ∷ []) (length old.store.items) refl,
+    )
+
+-- a step that is known to end the run
+pub ended : (l : Line) (old new : State) (r : Step) → r ≡ Ended → Did l old new Ended → Did l old new r
+ended l old new r e h =
+    let P : Step → Type 0 = λ x. Did l old new x in
+    subst P (sym e) h
+
+-- ---- return
+
+returned_fits : (v : Value) (ops : List Value) (s : State) → IsSound s → s.operands.here ≡ v ∷ ops → Fits (length s.texts) v
+returned_fits v ops s h top = let A : List Value → Type 0 = λ vs. All (Fits (length s.texts)) vs in All-head (Fits (length s.texts)) v ops (subst A top h.stacks.here)
+
+pub return_left : (v : Value) (ops : List Value) (old new : State) (r : Step) → old.operands.here ≡ v ∷ ops → Did (leave_line (Returns v) old) old new r → Did (line_of machine.DoReturn old) old new r
+return_left v ops old new r top did =
+    let P : Line → Type 0 = λ l. Did l old new r in
+    subst P (sym (return_line v ops old top)) did
+
+top_reached : (q : Leaving) (b : Block) (rest bs : List Block) → bs ≡ b ∷ rest → concerns q b ≡ true → reached q bs ≡ b ∷ rest
+top_reached q b rest bs top is = ap (reached q) top ∙ ap (λ c. cond c (b ∷ rest) (reached q rest)) is
+
+pub return_back : (after : ℕ) (v : Value) (ops : List Value) (rest : List Block) (old new : State) → IsSound old → old.standing ≡ standing.Running → old.operands.here ≡ v ∷ ops → old.blocks ≡ Frame after ∷ rest → new ≡ record (back_at after v old) { blocks = rest } → Did (line_of machine.DoReturn old) old new Local
+return_back after v ops rest old new h run top is e =
+    return_left v ops old new Local top (frame_did (Returns v) after rest old new h run tt (returned_fits v ops old h top) (top_reached (Returns v) (Frame after) rest old.blocks is refl) e)
+
+pub return_caller : (after : ℕ) (rest : List Block) (s : State) → IsSound s → s.blocks ≡ Frame after ∷ rest → (0 < length s.operands.below) × (0 < length s.slots.below)
+return_caller after rest s h is = frame_caller Breaks after rest s h (top_reached Breaks (Frame after) rest s.blocks is refl)
+
+-- ---- what leaving passes is not reached
+
+pub not_reached : (q : Leaving) (b : Block) (rest bs : List Block) → reached q bs ≡ b ∷ rest → concerns q b ≡ false → ⊥
+not_reached q b rest bs is passes = let both : true ≡ false = sym (reached_top q bs b rest is) ∙ passes in cc
+
+pub each_passed : (q : Leaving) (items : Items) → concerns q (Each items) ≡ false
+each_passed (Raises x) items = refl
+each_passed (Returns v) items = refl
+each_passed Breaks items = refl
+each_passed Continues items = refl
+
+pub pending_passed : (q : Leaving) (p : Option Leaving) → concerns q (Pending p) ≡ false
+pending_passed (Raises x) p = refl
+pending_passed (Returns v) p = refl
+pending_passed Breaks p = refl
+pending_passed Continues p = refl
+
+pub handling_passed : (q : Leaving) (y : ℕ) → concerns q (Handling y) ≡ false
+handling_passed (Raises x) y = refl
+handling_passed (Returns v) y = refl
+handling_passed Breaks y = refl
+handling_passed Continues y = refl
+
+pub catch_passed : (q : Leaving) (clauses : ℕ) → IsPlain q → concerns q (Catch clauses) ≡ false
+catch_passed (Raises x) clauses h = absurd h
+catch_passed (Returns v) clauses h = refl
+catch_passed Breaks clauses h = refl
+catch_passed Continues clauses h = refl
+
+-- ---- each call that an exception leaves
+
+pub left_caller : (bs : List Block) (s : State) → IsSound s → LeavesFrame s.blocks bs true → (0 < length s.operands.below) × (0 < length s.slots.below)
+left_caller bs s h left = frame_caller (Raises 0) left.0 bs s h left.1
+
+reached_length : (q : Leaving) (bs : List Block) → length (reached q bs) ≤ length bs
+reached_length q [] = omega arith
+reached_length q (b ∷ bs) =
+    let shorter = reached_length q bs in
+    elim (concerns q b) as (λ c. length (cond c (b ∷ bs) (reached q bs)) ≤ length (b ∷ bs)) [ true ↦ omega arith | false ↦ omega (arith, shorter) ]
+
+pub frame_shorter : (bs rest : List Block) → LeavesFrame bs rest true → length rest < length bs
+frame_shorter bs rest left = omega (arith, reached_length (Raises 0) bs, ap length left.1)
+
+pub each_reached : (q : Leaving) (items : Items) (rest bs : List Block) → reached q bs ≡ Each items ∷ rest → ⊥
+each_reached q items rest bs is = not_reached q (Each items) rest bs is (each_passed q items)
+
+pub catch_reached : (q : Leaving) (clauses : ℕ) (rest bs : List Block) → IsPlain q → reached q bs ≡ Catch clauses ∷ rest → ⊥
+catch_reached q clauses rest bs plain is = not_reached q (Catch clauses) rest bs is (catch_passed q clauses plain)
+
+pub pending_reached : (q : Leaving) (p : Option Leaving) (rest bs : List Block) → reached q bs ≡ Pending p ∷ rest → ⊥
+pending_reached q p rest bs is = not_reached q (Pending p) rest bs is (pending_passed q p)
+
+pub handling_reached : (q : Leaving) (y : ℕ) (rest bs : List Block) → reached q bs ≡ Handling y ∷ rest → ⊥
+handling_reached q y rest bs is = not_reached q (Handling y) rest bs is (handling_passed q y)

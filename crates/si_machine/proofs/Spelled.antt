@@ -1,0 +1,182 @@
+-- How values are written: atoms at any depth, and objects a level further down.
+use Rattle.std.proofs.Common.{◌≡◌, ◌≢◌, ℕ, zero, suc, ◌-◌, List, [], ◌∷◌, ◌++◌, map, Option, Some, None, option_map, Bool, true, false, cond, refl, sym, ap, ◌∙◌, arith, append_assoc, append-nil, slice_get}
+use Rattle.std.specs.Prelude.{codes}
+use Rattle.std.specs.List.{list_any}
+use Rattle.std.specs.Prelude.{nat_eq, ◌==◌, ◌||◌}
+use Rattle.std.proofs.lemmas.Option.{slice_get-map}
+use Rattle.si_plain.specs.declared.kind.Kind.{Kind}
+use Rattle.si_plain.specs.declared.kind.Kind.TheVariants as kind
+use Rattle.si_plain.specs.Kinds.{name_of}
+use Rattle.si_semantics.specs.Value as pure
+use Rattle.si_semantics.specs.Text.{repr_of, str_of, repr_atom, repr_object, str_object, repr_text, all_escaped, escaped, occurs, quote_for}
+use Rattle.si_code.specs.Views.{text_at}
+use Rattle.si_machine.specs.declared.value.Value.{Value}
+use Rattle.si_machine.specs.declared.value.Value.TheVariants as value
+use Rattle.si_machine.specs.declared.value.Object.{Object}
+use Rattle.si_machine.specs.declared.value.Object.TheVariants.{Caused, Made}
+use Rattle.si_machine.specs.declared.cause.Cause.{Cause}
+use Rattle.si_machine.specs.Values.{value_of}
+use Rattle.si_machine.specs.Causes.{object_of, kind_of, message_in, caused_str, opening}
+
+-- a value that is no object has its repr at any depth
+pub repr_plain : (n : ℕ) (objects : List pure.Object) (texts : List pure.Text) (v : Value) → ((x : ℕ) → v ≢ value.Exception x) → repr_of n objects (value_of texts v) ≡ Some (repr_atom (value_of texts v))
+repr_plain zero objects texts value.None differs = refl
+repr_plain zero objects texts (value.Truth b) differs = refl
+repr_plain zero objects texts (value.Int i) differs = refl
+repr_plain zero objects texts (value.Str p) differs = refl
+repr_plain zero objects texts (value.BuiltIn b) differs = refl
+repr_plain zero objects texts (value.Function k p) differs = refl
+repr_plain zero objects texts (value.Range a b c) differs = refl
+repr_plain zero objects texts (value.Kind k) differs = refl
+repr_plain zero objects texts (value.Exception x) differs = absurd (differs x refl)
+repr_plain (suc n) objects texts value.None differs = refl
+repr_plain (suc n) objects texts (value.Truth b) differs = refl
+repr_plain (suc n) objects texts (value.Int i) differs = refl
+repr_plain (suc n) objects texts (value.Str p) differs = refl
+repr_plain (suc n) objects texts (value.BuiltIn b) differs = refl
+repr_plain (suc n) objects texts (value.Function k p) differs = refl
+repr_plain (suc n) objects texts (value.Range a b c) differs = refl
+repr_plain (suc n) objects texts (value.Kind k) differs = refl
+repr_plain (suc n) objects texts (value.Exception x) differs = absurd (differs x refl)
+
+-- a str is its own str
+pub str_own : (n : ℕ) (objects : List pure.Object) (s : pure.Text) → str_of n objects (pure.Str s) ≡ Some s
+str_own zero objects s = refl
+str_own (suc n) objects s = refl
+
+-- a value that is neither a str nor an object has its repr as its str
+pub str_plain : (n : ℕ) (objects : List pure.Object) (texts : List pure.Text) (v : Value) → ((x : ℕ) → v ≢ value.Exception x) → ((p : ℕ) → v ≢ value.Str p) → str_of n objects (value_of texts v) ≡ Some (repr_atom (value_of texts v))
+str_plain zero objects texts value.None differs other = refl
+str_plain zero objects texts (value.Truth b) differs other = refl
+str_plain zero objects texts (value.Int i) differs other = refl
+str_plain zero objects texts (value.Str p) differs other = absurd (other p refl)
+str_plain zero objects texts (value.BuiltIn b) differs other = refl
+str_plain zero objects texts (value.Function k p) differs other = refl
+str_plain zero objects texts (value.Range a b c) differs other = refl
+str_plain zero objects texts (value.Kind k) differs other = refl
+str_plain zero objects texts (value.Exception x) differs other = absurd (differs x refl)
+str_plain (suc n) objects texts value.None differs other = refl
+str_plain (suc n) objects texts (value.Truth b) differs other = refl
+str_plain (suc n) objects texts (value.Int i) differs other = refl
+str_plain (suc n) objects texts (value.Str p) differs other = absurd (other p refl)
+str_plain (suc n) objects texts (value.BuiltIn b) differs other = refl
+str_plain (suc n) objects texts (value.Function k p) differs other = refl
+str_plain (suc n) objects texts (value.Range a b c) differs other = refl
+str_plain (suc n) objects texts (value.Kind k) differs other = refl
+str_plain (suc n) objects texts (value.Exception x) differs other = absurd (differs x refl)
+
+-- no object is written at depth 0
+pub repr_deep : (n : ℕ) (objects : List pure.Object) (x : ℕ) → n ≡ 0 → repr_of n objects (pure.Address x) ≡ None
+repr_deep zero objects x e = refl
+repr_deep (suc n) objects x e = absurd (omega arith)
+
+pub str_deep : (n : ℕ) (objects : List pure.Object) (x : ℕ) → n ≡ 0 → str_of n objects (pure.Address x) ≡ None
+str_deep zero objects x e = refl
+str_deep (suc n) objects x e = absurd (omega arith)
+
+less : (n : ℕ) → n ≡ suc n - 1
+less n = omega arith
+
+-- an object, with its parts a level further down
+pub repr_next : (n : ℕ) (texts names : List pure.Text) (store : List Object) (x : ℕ) → (n ≢ 0) → repr_of n (map (object_of texts names) store) (pure.Address x) ≡ repr_object (repr_of (n - 1) (map (object_of texts names) store)) (option_map (object_of texts names) (slice_get store x))
+repr_next zero texts names store x differs = absurd (differs refl)
+repr_next (suc n) texts names store x differs =
+    let objects = map (object_of texts names) store in
+    ap (repr_object (repr_of n objects)) (slice_get-map (object_of texts names) store x)
+    ∙ ap (λ m. repr_object (repr_of m objects) (option_map (object_of texts names) (slice_get store x))) (less n)
+
+pub str_next : (n : ℕ) (texts names : List pure.Text) (store : List Object) (x : ℕ) → (n ≢ 0) → str_of n (map (object_of texts names) store) (pure.Address x) ≡ str_object (repr_of (n - 1) (map (object_of texts names) store)) (str_of (n - 1) (map (object_of texts names) store)) (option_map (object_of texts names) (slice_get store x))
+str_next zero texts names store x differs = absurd (differs refl)
+str_next (suc n) texts names store x differs =
+    let objects = map (object_of texts names) store in
+    ap (str_object (repr_of n objects) (str_of n objects)) (slice_get-map (object_of texts names) store x)
+    ∙ ap (λ m. str_object (repr_of m objects) (str_of m objects) (option_map (object_of texts names) (slice_get store x))) (less n)
+
+-- the repr of a str at any depth
+repr_own : (n : ℕ) (objects : List pure.Object) (s : pure.Text) → repr_of n objects (pure.Str s) ≡ Some (repr_text s)
+repr_own zero objects s = refl
+repr_own (suc n) objects s = refl
+
+-- an exception that an operation raised
+pub repr_caused : (n : ℕ) (objects : List pure.Object) (texts names : List pure.Text) (cause : Cause) → repr_object (repr_of n objects) (Some (object_of texts names (Caused cause))) ≡ Some (opening (kind_of cause) ++ (repr_text (message_in names cause) ++ codes ")"))
+repr_caused n objects texts names cause =
+    let k = kind_of cause in
+    ap (option_map (λ t. name_of k ++ codes "(" ++ t ++ codes ")")) (repr_own n objects (message_in names cause))
+    ∙ ap Some (append_assoc (opening k) (repr_text (message_in names cause)) (codes ")"))
+
+-- the str of an exception with an argument, by its kind
+pub str_argument : (repr str : pure.Value → Option pure.Text) (k : Kind) (v : pure.Value) → k ≢ kind.KeyError → str_object repr str (Some (pure.Exception k (Some v))) ≡ str v
+str_argument repr str kind.BaseException v differs = refl
+str_argument repr str kind.Exception v differs = refl
+str_argument repr str kind.ArithmeticError v differs = refl
+str_argument repr str kind.OverflowError v differs = refl
+str_argument repr str kind.ZeroDivisionError v differs = refl
+str_argument repr str kind.AttributeError v differs = refl
+str_argument repr str kind.LookupError v differs = refl
+str_argument repr str kind.IndexError v differs = refl
+str_argument repr str kind.KeyError v differs = absurd (differs refl)
+str_argument repr str kind.NameError v differs = refl
+str_argument repr str kind.UnboundLocalError v differs = refl
+str_argument repr str kind.RuntimeError v differs = refl
+str_argument repr str kind.RecursionError v differs = refl
+str_argument repr str kind.SyntaxError v differs = refl
+str_argument repr str kind.TypeError v differs = refl
+str_argument repr str kind.NotShareableError v differs = refl
+str_argument repr str kind.ValueError v differs = refl
+str_argument repr str kind.InterpreterError v differs = refl
+str_argument repr str kind.InterpreterNotFoundError v differs = refl
+str_argument repr str kind.ExecutionFailed v differs = refl
+str_argument repr str kind.QueueEmpty v differs = refl
+str_argument repr str kind.QueueFull v differs = refl
+
+-- the str of an exception that an operation raised
+caused_by : (repr str : pure.Value → Option pure.Text) (k : Kind) (s : pure.Text) → repr (pure.Str s) ≡ Some (repr_text s) → str (pure.Str s) ≡ Some s → str_object repr str (Some (pure.Exception k (Some (pure.Str s)))) ≡ Some (caused_str k s)
+caused_by repr str kind.BaseException s e h = h
+caused_by repr str kind.Exception s e h = h
+caused_by repr str kind.ArithmeticError s e h = h
+caused_by repr str kind.OverflowError s e h = h
+caused_by repr str kind.ZeroDivisionError s e h = h
+caused_by repr str kind.AttributeError s e h = h
+caused_by repr str kind.LookupError s e h = h
+caused_by repr str kind.IndexError s e h = h
+caused_by repr str kind.KeyError s e h = e
+caused_by repr str kind.NameError s e h = h
+caused_by repr str kind.UnboundLocalError s e h = h
+caused_by repr str kind.RuntimeError s e h = h
+caused_by repr str kind.RecursionError s e h = h
+caused_by repr str kind.SyntaxError s e h = h
+caused_by repr str kind.TypeError s e h = h
+caused_by repr str kind.NotShareableError s e h = h
+caused_by repr str kind.ValueError s e h = h
+caused_by repr str kind.InterpreterError s e h = h
+caused_by repr str kind.InterpreterNotFoundError s e h = h
+caused_by repr str kind.ExecutionFailed s e h = h
+caused_by repr str kind.QueueEmpty s e h = h
+caused_by repr str kind.QueueFull s e h = h
+
+pub str_caused : (n : ℕ) (objects : List pure.Object) (texts names : List pure.Text) (cause : Cause) → str_object (repr_of n objects) (str_of n objects) (Some (object_of texts names (Caused cause))) ≡ Some (caused_str (kind_of cause) (message_in names cause))
+str_caused n objects texts names cause =
+    let s = message_in names cause in
+    caused_by (repr_of n objects) (str_of n objects) (kind_of cause) s (repr_own n objects s) (str_own n objects s)
+
+-- a character stands in a text
+pub occurs_any : (c : ℕ) (s : pure.Text) → list_any (λ d. c == d) s ≡ occurs c s
+occurs_any c [] = refl
+occurs_any c (d ∷ s) = ap (λ b. nat_eq c d || b) (occurs_any c s)
+
+-- one more character within quotes
+pub escaped_more : (q c : ℕ) (s : pure.Text) → all_escaped q (s ++ c ∷ []) ≡ all_escaped q s ++ escaped q c
+escaped_more q c [] = append-nil (escaped q c)
+escaped_more q c (d ∷ s) = ap (λ t. escaped q d ++ t) (escaped_more q c s) ∙ sym (append_assoc (escaped q d) (all_escaped q s) (escaped q c))
+
+pub escaped_step : (q c : ℕ) (done a b new : pure.Text) → b ≡ a ++ all_escaped q done → new ≡ b ++ escaped q c → new ≡ a ++ all_escaped q (done ++ c ∷ [])
+escaped_step q c done a b new e h = h ∙ ap (λ t. t ++ escaped q c) e ∙ append_assoc a (all_escaped q done) (escaped q c) ∙ ap (λ t. a ++ t) (sym (escaped_more q c done))
+
+-- the closing quote
+pub closed : (q : ℕ) (done s t o0 o1 o2 o3 : pure.Text) → q ≡ quote_for t → t ≡ s → done ≡ t → o1 ≡ o0 ++ q ∷ [] → o2 ≡ o1 ++ all_escaped q done → o3 ≡ o2 ++ q ∷ [] → o3 ≡ o0 ++ repr_text s
+closed q done s t o0 o1 o2 o3 e h d e1 e2 e3 =
+    e3 ∙ ap (λ x. x ++ q ∷ []) (e2 ∙ ap (λ x. x ++ all_escaped q done) e1)
+    ∙ append_assoc (o0 ++ q ∷ []) (all_escaped q done) (q ∷ [])
+    ∙ append_assoc o0 (q ∷ []) (all_escaped q done ++ q ∷ [])
+    ∙ ap (λ x. o0 ++ q ∷ (all_escaped q x ++ q ∷ [])) (d ∙ h)
+    ∙ ap (λ x. o0 ++ x ∷ (all_escaped x s ++ x ∷ [])) (e ∙ ap quote_for h)
