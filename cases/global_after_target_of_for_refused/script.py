@@ -1,0 +1,3 @@
+def f():
+    for x in range(3):
+        global x

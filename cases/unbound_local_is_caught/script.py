@@ -1,0 +1,7 @@
+def f(x):
+    try:
+        if x: y = 1
+        return y
+    except NameError as e:
+        return e
+print(f(True), f(False))
