@@ -229,24 +229,22 @@ fn named_clause(alloc: Global) -> Result<Clause, AllocError> {
 }
 
 // `try: a`, `except b as y: c`, `except: raise`, `else: e`
-const TWO_CLAUSES: [Instr; 24] = [
-    Instr::EnterTry(6),
+const TWO_CLAUSES: [Instr; 25] = [
+    Instr::EnterTry(4),
     Instr::LoadGlobal(0),
     Instr::Discard,
     Instr::LeaveBlock,
+    Instr::Jump(18),
     Instr::LoadGlobal(1),
-    Instr::Discard,
-    Instr::Jump(17),
-    Instr::LoadGlobal(2),
     Instr::TestClause,
     Instr::JumpIfFalse(10),
     Instr::PushException,
-    Instr::StoreGlobal(3),
+    Instr::StoreGlobal(2),
     Instr::EnterFinally(3),
-    Instr::LoadGlobal(4),
+    Instr::LoadGlobal(3),
     Instr::Discard,
     Instr::StartFinally,
-    Instr::UnbindGlobal(3),
+    Instr::UnbindGlobal(2),
     Instr::EndFinally,
     Instr::LeaveBlock,
     Instr::Jump(4),
@@ -254,6 +252,9 @@ const TWO_CLAUSES: [Instr; 24] = [
     Instr::LeaveBlock,
     Instr::Jump(1),
     Instr::RaiseAgain,
+    Instr::Jump(2),
+    Instr::LoadGlobal(4),
+    Instr::Discard,
 ];
 
 #[test]
