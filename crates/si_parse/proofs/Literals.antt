@@ -200,3 +200,10 @@ module _ (t : Text) (raw : Bool) (skipped : ℕ) (c : ℕ) (cs ds : Text) (front
       ∙ moved t w (unescaped k ds)
       ∙ ap (λ o. option_map (λ v. t ++ v) (option_and_then (λ (e : Written). option_map (λ text. e.0 ++ text) (unescaped e.1 ds)) o)) (sym some)
       ∙ sym (escape_here h)
+
+-- a character that belongs to the escape before it
+pub on_skipped :
+    (t : Text) (raw : Bool) (skipped k c : ℕ) (cs ds : Text) → ◌≡◌ {A = Option (ℕ × Text)} (Some (c, ds)) (front_of cs) → skipped ≡ suc k
+    → value_from t raw k ds ≡ value_from t raw skipped cs
+on_skipped t true skipped k c cs ds front is = sym (λ i. value_from t true (is i) (front_is cs c ds front i))
+on_skipped t false skipped k c cs ds front is = sym (λ i. value_from t false (is i) (front_is cs c ds front i))

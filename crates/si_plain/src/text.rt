@@ -3,26 +3,29 @@
 ghost use Rattle.std.specs.Prelude.{◌≡◌, ◌↔◌, [], ◌∷◌, ◌++◌, length, IsTrue, IfOk, OnOk, OnErr, encode_utf8_all};
 ghost use Rattle.si_plain.specs.Characters.{characters_of};
 
+use crate::bytes::Bytes;
 use std::alloc::{AllocError, Global};
 use std::marker::Model;
 
 /// A str of a script (Python Language Reference 3.14, 3.2.5.1 "Immutable sequences"): a list of characters, kept as
-/// UTF-8 with its count. A contract sees the list, by code points.
+/// UTF-8 with its count: in the value itself where it is short. A contract sees the list, by code points.
 #[derive(Debug, Drop)]
 pub struct Text {
-    bytes: String,
+    alloc: Global,
+    bytes: Bytes,
     characters: usize,
 }
 
 impl Model for Text {
-    ghost use Rattle.std.specs.Prelude.{◌≡◌, ℕ, List, length, string_bytes};
+    ghost use Rattle.std.specs.Prelude.{◌≡◌, ℕ, List, length};
     ghost use Rattle.si_plain.specs.Characters.{characters_of};
+    ghost use Rattle.si_plain.specs.Bytes.{bytes_of, IsText};
 
     ghost Value = { List ℕ };
 
-    ghost view = { λ t. characters_of (string_bytes t.bytes) };
+    ghost view = { λ t. characters_of (bytes_of t.bytes) };
 
-    ghost invariant = { λ t. t.characters ≡ length (characters_of (string_bytes t.bytes)) };
+    ghost invariant = { λ t. (t.characters ≡ length (characters_of (bytes_of t.bytes))) × IsText (bytes_of t.bytes) };
 }
 
 impl Text {
@@ -31,7 +34,8 @@ impl Text {
         ensures { result ≡ [] }
     {
         Text {
-            bytes: String::new(alloc),
+            alloc,
+            bytes: Bytes::new(),
             characters: 0,
         }
     }
@@ -40,18 +44,22 @@ impl Text {
     pub fn with_capacity(alloc: Global, capacity: usize) -> Result<Text, AllocError>
         ensures { IfOk result (λ t. t ≡ []) }
     {
-        let bytes = String::with_capacity(alloc, capacity)?;
+        let bytes = Bytes::with_capacity(alloc, capacity)?;
         let characters = 0;
-        Ok(Text { bytes, characters })
+        Ok(Text {
+            alloc,
+            bytes,
+            characters,
+        })
     }
 
     /// The characters of `text`.
     pub fn from_str(alloc: Global, text: &str) -> Result<Text, AllocError>
         ensures { IfOk result (λ t. t ≡ characters_of text.now) }
     {
-        let bytes = String::from_str(alloc, text)?;
-        let characters = count_of(text);
-        Ok(Text { bytes, characters })
+        let mut copy = Text::with_capacity(alloc, text.len())?;
+        copy.push_str(text)?;
+        Ok(copy)
     }
 
     /// Its characters in UTF-8.
@@ -81,7 +89,8 @@ impl Text {
         ensures ok { OnOk result (self.new ≡ self.old ++ c ∷ []) }
         ensures err { OnErr result (self.new ≡ self.old) }
     {
-        self.bytes.push(c)?;
+        let mut buffer = [0; 4];
+        self.bytes.push_str(self.alloc, c.encode_utf8(&mut buffer))?;
         self.characters += 1;
         Ok(())
     }
@@ -91,7 +100,7 @@ impl Text {
         ensures ok { OnOk result (self.new ≡ self.old ++ characters_of text.now) }
         ensures err { OnErr result (self.new ≡ self.old) }
     {
-        self.bytes.push_str(text)?;
+        self.bytes.push_str(self.alloc, text)?;
         self.characters += count_of(text);
         Ok(())
     }
@@ -101,7 +110,7 @@ impl Text {
         ensures ok { OnOk result (self.new ≡ self.old ++ other.now) }
         ensures err { OnErr result (self.new ≡ self.old) }
     {
-        self.bytes.push_str(other.as_str())?;
+        self.bytes.push_str(self.alloc, other.as_str())?;
         self.characters += other.characters;
         Ok(())
     }
@@ -111,9 +120,13 @@ impl Clone for Text {
     ghost is_clone = { λ text copy. copy ≡ text };
 
     fn clone(&self) -> Result<Text, AllocError> {
-        let bytes = self.bytes.clone()?;
+        let bytes = self.bytes.copied()?;
         let characters = self.characters;
-        Ok(Text { bytes, characters })
+        Ok(Text {
+            alloc: self.alloc,
+            bytes,
+            characters,
+        })
     }
 }
 
@@ -127,7 +140,7 @@ impl PartialEq for Text {
     ghost laws = { partial_equiv_from_equiv nat_list_eq_equiv };
 
     fn eq(&self, other: &Text) -> bool {
-        self.bytes == other.bytes
+        self.as_str() == other.as_str()
     }
 }
 
@@ -143,6 +156,9 @@ fn count_of(text: &str) -> usize
 {
     text.chars().count()
 }
+
+// Texts are moved, and so they are small.
+const _: () = prove!(size_of::<Text>() <= 40);
 
 #[cfg(test)]
 mod tests {

@@ -1,8 +1,17 @@
-use Rattle.std.proofs.Common.{◌≡◌, sym, ap, ◌∙◌, arith}
+use Rattle.std.proofs.Common.{◌≡◌, ◌-◌, suc, sym, ap, ◌∙◌, arith}
 use Rattle.std.specs.Option.{option_to_list}
 use Rattle.si_parse.specs.Literals.{characters, value_from}
-use Rattle.si_parse.proofs.Literals.{on_plain, no_escape, on_escape}
+use Rattle.si_parse.proofs.Literals.{on_plain, no_escape, on_escape, on_skipped}
 use Rattle.si_parse.proofs.literal.str_value.Goals as goal
+
+pub loop-character-preserved-then-skipped-gt0 : goal.loop-character-preserved-then-skipped-gt0
+loop-character-preserved-then-skipped-gt0 c =
+    let is : c.loop-character.skipped ≡ suc (c.loop-character.skipped - 1) = omega arith in
+    record {
+      utf8 = c.in-Some.ensures.utf8;
+      reads = on_skipped c.loop-character.text c.begins_raw-raw.result c.loop-character.skipped (c.loop-character.skipped - 1) c.in-Some.character (characters c.loop-character.rest.now) (characters c.in-Some.behind.now) c.in-Some.ensures.gives is
+          ∙ c.loop-character.invariant.reads;
+    }
 
 pub loop-character-preserved-in-Continue-1 : goal.loop-character-preserved-in-Continue-1
 loop-character-preserved-in-Continue-1 c =
