@@ -1,12 +1,12 @@
 -- Branches, chains and loops: which line a step does.
-use Rattle.std.proofs.Common.{◌≡◌, ℕ, ◌+◌, ◌-◌, ◌<◌, List, [], ◌∷◌, ◌++◌, length, take, drop, map, All, Bool, true, false, refl, sym, ap, subst, ◌∙◌, arith}
+use Rattle.std.proofs.Common.{◌≡◌, ℕ, ◌+◌, List, [], ◌∷◌, ◌++◌, length, take, drop, map, All, Bool, true, false, refl, sym, ap, subst, ◌∙◌}
 use Rattle.std.proofs.lemmas.List.Elements.{All-nil, All-cons, All-tail, All-head}
 use Rattle.si_semantics.specs.Value as pure
 use Rattle.si_semantics.specs.Tree as tree
 use Rattle.si_semantics.specs.World.{World, Ran}
 use Rattle.si_semantics.specs.Meaning.{Breaks, Continues, choose, decides}
 use Rattle.si_semantics.specs.Operations.{is_true, compare, gave}
-use Rattle.si_semantics.specs.Machine.{ApplyComparison, KeepRight, EndChain, JumpOrDiscard, JumpIfFalse, Jump, EnterLoop, DoBreak, DoContinue, At, Closed, Line, goes, leave, yields}
+use Rattle.si_semantics.specs.Machine.{ApplyComparison, KeepRight, EndChain, JumpOrDiscard, JumpIfFalse, DoBreak, DoContinue, At, Line, goes, leave, yields}
 use Rattle.si_machine.specs.declared.blocks.Block.{Block}
 use Rattle.si_machine.specs.declared.blocks.Block.TheVariants as block
 use Rattle.si_machine.specs.declared.cause.Cause.{Cause}
@@ -15,10 +15,10 @@ use Rattle.si_machine.specs.declared.value.Value.TheVariants as value
 use Rattle.si_machine.specs.declared.state.Standing.TheVariants as standing
 use Rattle.si_machine.specs.declared.state.State.{State}
 use Rattle.si_machine.specs.declared.step.Step.{Step}
-use Rattle.si_machine.specs.declared.step.Step.TheVariants.{Local, Ended}
+use Rattle.si_machine.specs.declared.step.Step.TheVariants.{Local}
 use Rattle.si_machine.specs.Values.{value_of, Fits}
 use Rattle.si_machine.specs.Causes.{threw}
-use Rattle.si_machine.specs.States.{AreSound, IsSound, IsOpen, Did, FitsBlock, calls_in, blocks_with, blocks_of, slots_of, world_of, line_of, with_operands, IsRaised}
+use Rattle.si_machine.specs.States.{AreSound, IsSound, Did, FitsBlock, calls_in, blocks_with, blocks_of, slots_of, world_of, line_of, with_operands, IsRaised}
 use Rattle.si_machine.proofs.Lines.{line_on, at_line, moved, placed_did, moved_did, advanced_did, raised_did}
 
 -- what holds of all operands holds of those below the topmost, and of the topmost
@@ -59,14 +59,6 @@ comparison_raises o x y rest cause old new r h top gives e =
     let P : Line → Type 0 = λ l. Did l old new r in
     subst P (sym (comparison_line o x y rest old (threw old.table.names cause w) top (gives old.table.names w))) (raised_did cause rest old new r h e)
 
-pub comparison_lacks : (o : tree.ComparisonOperator) (s : State) → length s.operands.here < 2 → IsOpen (line_of (ApplyComparison o) s) → ⊥
-comparison_lacks o s few h = h (short s.operands.here few)
-  where
-    short : (vs : List Value) → length vs < 2 → (line_on (ApplyComparison o) s vs).place ≡ Closed
-    short [] p = refl
-    short (v ∷ []) p = refl
-    short (v ∷ u ∷ vs) p = absurd (omega arith)
-
 -- ---- chains
 
 pub keep_did : (u v : Value) (rest : List Value) (old new : State) → IsSound old → old.standing ≡ standing.Running → old.operands.here ≡ v ∷ u ∷ rest → new ≡ moved (old.pc + 1) (v ∷ u ∷ v ∷ rest) old → Did (line_of KeepRight old) old new Local
@@ -80,14 +72,6 @@ keep_did u v rest old new h run top e =
 -- the right operand once more, below the two
 pub two_kept : (ops : List Value) (v u : Value) → ops ≡ v ∷ u ∷ drop 2 ops → take 2 ops ++ v ∷ drop 2 ops ≡ v ∷ u ∷ v ∷ drop 2 ops
 two_kept ops v u top = ap (λ l. take 2 l ++ v ∷ drop 2 ops) top
-
-pub keep_lacks : (s : State) → length s.operands.here < 2 → IsOpen (line_of KeepRight s) → ⊥
-keep_lacks s few h = h (short s.operands.here few)
-  where
-    short : (vs : List Value) → length vs < 2 → (line_on KeepRight s vs).place ≡ Closed
-    short [] p = refl
-    short (v ∷ []) p = refl
-    short (v ∷ u ∷ vs) p = absurd (omega arith)
 
 chain_line : (n : ℕ) (u t : Value) (rest : List Value) (s : State) (b : Bool) → s.operands.here ≡ t ∷ u ∷ rest → is_true (value_of s.texts t) ≡ b → line_of (EndChain n) s ≡ choose b (at_line (s.pc + 1) (u ∷ rest) s) (at_line (s.pc + 1 + n) (t ∷ rest) s)
 chain_line n u t rest s b top is =
@@ -106,14 +90,6 @@ chain_ends n u t rest old new h run top is e =
     let G = Fits (length old.texts) in
     let P : Line → Type 0 = λ l. Did l old new Local in
     subst P (sym (chain_line n u t rest old false top is)) (moved_did (old.pc + 1 + n) (t ∷ rest) old new h run (All-cons G t rest (topmost old h t (u ∷ rest) top) (below_two old h t u rest top)) e)
-
-pub chain_lacks : (n : ℕ) (s : State) → length s.operands.here < 2 → IsOpen (line_of (EndChain n) s) → ⊥
-chain_lacks n s few h = h (short s.operands.here few)
-  where
-    short : (vs : List Value) → length vs < 2 → (line_on (EndChain n) s vs).place ≡ Closed
-    short [] p = refl
-    short (v ∷ []) p = refl
-    short (v ∷ u ∷ vs) p = absurd (omega arith)
 
 -- ---- branches
 
@@ -135,9 +111,6 @@ word_goes_on o n v rest old new h run top is e =
     let P : Line → Type 0 = λ l. Did l old new Local in
     subst P (sym (word_line o n v rest old false top is)) (moved_did (old.pc + 1) rest old new h run (below old h v rest top) e)
 
-pub word_lacks : (o : tree.BooleanOperator) (n : ℕ) (s : State) → s.operands.here ≡ [] → IsOpen (line_of (JumpOrDiscard o n) s) → ⊥
-word_lacks o n s none h = h (ap (λ vs. (line_on (JumpOrDiscard o n) s vs).place) none)
-
 branch_line : (n : ℕ) (v : Value) (rest : List Value) (s : State) (b : Bool) → s.operands.here ≡ v ∷ rest → is_true (value_of s.texts v) ≡ b → line_of (JumpIfFalse n) s ≡ choose b (at_line (s.pc + 1) rest s) (at_line (s.pc + 1 + n) rest s)
 branch_line n v rest s b top is =
     ap (line_on (JumpIfFalse n) s) top
@@ -153,22 +126,7 @@ branch_jumps n v rest old new h run top is e =
     let P : Line → Type 0 = λ l. Did l old new Local in
     subst P (sym (branch_line n v rest old false top is)) (moved_did (old.pc + 1 + n) rest old new h run (below old h v rest top) e)
 
-pub branch_lacks : (n : ℕ) (s : State) → s.operands.here ≡ [] → IsOpen (line_of (JumpIfFalse n) s) → ⊥
-branch_lacks n s none h = h (ap (λ vs. (line_on (JumpIfFalse n) s vs).place) none)
-
-pub jump_did : (n : ℕ) (old new : State) → IsSound old → old.standing ≡ standing.Running → new ≡ record old { pc = old.pc + 1 + n } → Did (line_of (Jump n) old) old new Local
-jump_did n old new h run e = moved_did (old.pc + 1 + n) old.operands.here old new h run h.stacks.here e
-
 -- ---- loops
-
-pub enter_did : (back ahead start after : ℕ) (old new : State) → IsSound old → old.standing ≡ standing.Running → start ≡ old.pc + 1 - back → after ≡ old.pc + 1 + ahead → new ≡ record old { pc = old.pc + 1; blocks = block.Loop start after ∷ old.blocks } → Did (line_of (EnterLoop back ahead) old) old new Local
-enter_did back ahead start after old new h run s a e =
-    let make : ℕ → ℕ → State = λ x y. record old { pc = old.pc + 1; blocks = block.Loop x y ∷ old.blocks } in
-    let k = h.stacks in
-    let stacks : AreSound (length old.texts) old.operands old.slots (block.Loop (old.pc + 1 - back) (old.pc + 1 + ahead) ∷ old.blocks) =
-    record { here = k.here; below = k.below; locals = k.locals; callers = k.callers; operands_each = k.operands_each; locals_each = k.locals_each } in
-    placed_did (old.pc + 1) old.operands old.slots (block.Loop (old.pc + 1 - back) (old.pc + 1 + ahead) ∷ old.blocks) old new h run stacks (All-cons (FitsBlock old.texts) (block.Loop (old.pc + 1 - back) (old.pc + 1 + ahead)) old.blocks tt h.blocks)
-    (e ∙ ap (λ x. make x after) s ∙ ap (λ y. make (old.pc + 1 - back) y) a)
 
 -- to an end of a loop that is left
 pub left_did : (start after next : ℕ) (rest : List Block) (old new : State) → IsSound old → old.standing ≡ standing.Running → old.blocks ≡ block.Loop start after ∷ rest → new ≡ record old { pc = next; operands = with_operands [] old.operands; blocks = rest } → Did (goes (At next [] (slots_of old) (blocks_with old.texts rest old.operands.below old.slots.below)) (world_of old)) old new Local
@@ -194,9 +152,3 @@ pub continue_did : (start after : ℕ) (rest : List Block) (old new : State) →
 continue_did start after rest old new h run top e =
     let P : Line → Type 0 = λ l. Did l old new Local in
     subst P (sym (ap (λ bs. goes (leave Continues (world_of old) (slots_of old) (blocks_with old.texts bs old.operands.below old.slots.below)) (world_of old)) top)) (left_did start after start rest old new h run top e)
-
--- a step that is known to end the run
-pub returned : (l : Line) (old new : State) (r : Step) → r ≡ Ended → Did l old new Ended → Did l old new r
-returned l old new r e h =
-    let P : Step → Type 0 = λ x. Did l old new x in
-    subst P (sym e) h

@@ -1,8 +1,8 @@
 -- Calls of what no script defines: which line a step does.
-use Rattle.std.proofs.Common.{◌≡◌, ◌≢◌, ℕ, zero, suc, ◌+◌, ◌<◌, List, [], ◌∷◌, ◌++◌, length, map, take, drop, Option, Some, None, All, string_bytes, refl, sym, ap, subst, ◌∙◌, arith, append-nil, Ok, Err, Result}
+use Rattle.std.proofs.Common.{◌≡◌, ℕ, ◌+◌, ◌<◌, List, [], ◌∷◌, ◌++◌, length, map, take, drop, Some, All, string_bytes, refl, sym, ap, subst, ◌∙◌, arith, append-nil, Ok, Err, Result}
 use Rattle.std.specs.Prelude.{reverse, encode_utf8_all}
 use Rattle.std.proofs.lemmas.List.{length-map, length-reverse, length-take-le, map-append}
-use Rattle.std.proofs.lemmas.List.Elements.{All-nil, All-cons, All-append, All-drop, All-take, All-tail, All-head}
+use Rattle.std.proofs.lemmas.List.Elements.{All-nil, All-cons, All-append, All-drop}
 use Rattle.si_semantics.specs.Value as pure
 use Rattle.si_semantics.specs.Text.{line_of as text_line}
 use Rattle.si_semantics.specs.World.{World, Ran}
@@ -15,7 +15,6 @@ use Rattle.si_machine.specs.declared.value.Value.TheVariants as value
 use Rattle.si_machine.specs.declared.value.BuiltIn.{BuiltIn}
 use Rattle.si_machine.specs.declared.value.BuiltIn.TheVariants.{Print}
 use Rattle.si_machine.specs.declared.value.Object.{Object}
-use Rattle.si_machine.specs.declared.value.Object.TheVariants.{Caused, Made}
 use Rattle.si_machine.specs.declared.cause.Cause.{Cause}
 use Rattle.si_machine.specs.declared.cause.Cause.TheVariants.{Arithmetic, TooLong, WrongType, NotCallable, WrongArguments, TooDeep, NoneActive, NotDefined, NotBound}
 use Rattle.si_machine.specs.declared.cause.Fault.{Fault}
@@ -24,12 +23,12 @@ use Rattle.si_machine.specs.declared.state.Standing.TheVariants as standing
 use Rattle.si_machine.specs.declared.state.State.{State}
 use Rattle.si_machine.specs.declared.step.Step.{Step}
 use Rattle.si_machine.specs.declared.step.Step.TheVariants.{Local, Ended, Starved}
-use Rattle.si_machine.specs.Values.{value_of, built_in_of, Fits, FitsBound, FitsObject}
+use Rattle.si_machine.specs.Values.{value_of, built_in_of, Fits, FitsObject}
 use Rattle.si_machine.specs.Outcomes.{outcome_of}
 use Rattle.si_machine.specs.Causes.{object_of, threw, RunsIn, IsUnwritten, GoesOn}
-use Rattle.si_machine.specs.States.{IsSound, Did, Moves, bytes_of, place_of, IsMade, place_in, slots_of, blocks_of, world_of, line_of, with_operands, IsRaised}
-use Rattle.si_machine.proofs.Lines.{yields_on, moved, with_here, raised_did, starved_store, grown_did}
-use Rattle.si_machine.proofs.Frames.{calls_on, call_line, call_refused}
+use Rattle.si_machine.specs.States.{IsSound, Did, Moves, bytes_of, place_of, IsMade, place_in, slots_of, blocks_of, world_of, line_of, IsRaised}
+use Rattle.si_machine.proofs.Lines.{yields_on, moved, with_here, starved_store, grown_did}
+use Rattle.si_machine.proofs.Frames.{call_line, call_refused}
 
 -- ---- built-ins
 
@@ -76,19 +75,6 @@ print_raises n cause args old new r h top args_are is e =
 pub went_on : (r : Result pure.Text Kind) (old new : List ℕ) → GoesOn r old new → old ≡ [] → (t : pure.Text) × (r ≡ Ok t) × (new ≡ encode_utf8_all t)
 went_on (Ok t) old new h e = (t, refl, h ∙ ap (λ l. l ++ encode_utf8_all t) e)
 went_on (Err k) old new h e = absurd h
-
--- what is written aside doesn't show
-pub aside_sound : (old mid : State) → IsSound old → mid ≡ record old { line = mid.line } → IsSound mid
-aside_sound old mid h e = subst IsSound (sym e) (record {
-  stacks = h.stacks;
-  blocks = h.blocks;
-  globals = h.globals;
-  store = h.store;
-  literals = h.literals;
-  slots = h.slots;
-  built_ins = h.built_ins;
-  short = h.short;
-})
 
 aside_moves : (l : Line) (p : machine.Place) (old mid new : State) → mid ≡ record old { line = mid.line } → Moves l p mid new → Moves l p old new
 aside_moves l p old mid new e m = record {
@@ -146,9 +132,6 @@ made_did o n k old new Local h run top fits gives e =
       },
       run,
     ))
-
-pub none_made : (k : Kind) (vs : List pure.Value) (w : World) → call_kind k [] w ≡ gave (pure.Address (length w.store)) (record w { store = w.store ++ pure.Exception k None ∷ [] })
-none_made k vs w = refl
 
 -- the only argument
 pub one_made : (k : Kind) (v : Value) (ops : List Value) (texts : List pure.Text) (w : World) → ops ≡ v ∷ drop 1 ops → call_kind k (map (value_of texts) (reverse (take 1 ops))) w ≡ gave (pure.Address (length w.store)) (record w { store = w.store ++ pure.Exception k (Some (value_of texts v)) ∷ [] })

@@ -1,6 +1,6 @@
 -- Calls, returns and locals: which line a step does.
 use Rattle.std.proofs.Common.{◌≡◌, ◌≢◌, ℕ, zero, suc, ◌+◌, ◌-◌, ◌<◌, ◌≤◌, List, [], ◌∷◌, ◌++◌, length, map, take, drop, Option, Some, None, All, string_bytes, refl, sym, ap, subst, ◌∙◌, arith, Bool, true, false, cond, slice_get, slice_set, nat_lt, Ok, nat_eq, eq-eqb, ne_eqb, le-ltb, lt-ltb, option_map, length-drop}
-use Rattle.std.proofs.lemmas.List.{map-set, length-map, length-reverse, length-take-le, map-append, reverse-append, drop_all}
+use Rattle.std.proofs.lemmas.List.{map-set, length-map, length-reverse, length-take-le, map-append, reverse-append}
 use Rattle.std.proofs.lemmas.Option.{slice_get-map}
 use Rattle.std.specs.Prelude.{reverse, encode_utf8_all}
 use Rattle.std.proofs.lemmas.List.Elements.{All-nil, All-cons, All-append, All-drop, All-take, All-tail, All-head, All-set}
@@ -29,9 +29,9 @@ use Rattle.si_machine.specs.declared.step.Step.TheVariants.{Local, Ended, Starve
 use Rattle.si_machine.specs.Values.{value_of, bound_of, Fits, FitsBound}
 use Rattle.si_machine.specs.Causes.{threw, not_bound, not_bound_cause}
 use Rattle.si_machine.specs.Stacks.{OperandsSeen, SlotsSeen, back_with, back, left_by, slot_in, unbound, passed, entered}
-use Rattle.si_machine.specs.States.{AreSound, IsSound, IsOpen, Did, place_in, innermost, blocks_with, blocks_of, slots_of, world_of, line_of, FitsBlock, calls_in, with_operands, back_at, IsRaised, IsPushed, IsPrinted, IsCallee, IsEntered, entered_operands, entered_slots}
+use Rattle.si_machine.specs.States.{AreSound, IsSound, Did, place_in, innermost, blocks_with, blocks_of, slots_of, world_of, line_of, FitsBlock, calls_in, with_operands, back_at, IsRaised, IsPrinted, IsCallee, IsEntered, entered_operands, entered_slots}
 use Rattle.si_machine.proofs.Growth.{All-innermost}
-use Rattle.si_machine.proofs.Lines.{line_on, yields_on, moved, with_here, starved_did, placed_did, pushed_did, raised_did}
+use Rattle.si_machine.proofs.Lines.{line_on, yields_on, moved, with_here, starved_did, placed_did, raised_did}
 
 -- a call's line
 drop_map : {A B : Type 0} (f : A → B) (n : ℕ) (xs : List A) → drop n (map f xs) ≡ map f (drop n xs)
@@ -73,13 +73,6 @@ call_raises n f args old new r h top args_are gives e =
     let g = value_of old.texts in
     call_refused NotCallable n f args old new r h top args_are (gives (entries_of old.table) (map g args) (old.pc + 1) (map g (drop (n + 1) old.operands.here)) (slots_of old) (blocks_of old) (world_of old)) e
 
-pub call_lacks : (n : ℕ) (s : State) → length s.operands.here ≤ n → IsOpen (line_of (CallTop n) s) → ⊥
-call_lacks n s few h =
-    let g = value_of s.texts in
-    let w = world_of s in
-    let none : drop n (map g s.operands.here) ≡ [] = drop_map g n s.operands.here ∙ ap (map g) (drop_all n s.operands.here few) in
-    h (ap (λ vs. (on_callee vs (λ u rest. calls (entries_of s.table) u (reverse (take n (map g s.operands.here))) (s.pc + 1) rest (slots_of s) (blocks_of s) w) (stuck w)).place) none)
-
 -- a line is printed
 pub print_did : (t : pure.Text) (n : ℕ) (args : List Value) (old mid new : State) (r : Step) → IsSound old → old.standing ≡ standing.Running → drop n old.operands.here ≡ value.BuiltIn Print ∷ drop (n + 1) old.operands.here → args ≡ reverse (take n old.operands.here) → mid ≡ record old { line = mid.line } → text_line (world_of old).store (map (value_of old.texts) args) ≡ Ok t → string_bytes mid.line ≡ encode_utf8_all t → IsPrinted n mid new r → Did (line_of (CallTop n) old) old new r
 print_did t n args old mid new Ended h run top args_are m written line e = absurd e
@@ -117,23 +110,9 @@ slot_seen texts (None ∷ xs) zero = refl
 slot_seen texts (Some v ∷ xs) zero = refl
 slot_seen texts (x ∷ xs) (suc k) = slot_seen texts xs k
 
-slot_fits : (n : ℕ) (xs : List (Option Value)) (k : ℕ) (v : Value) → All (FitsBound n) xs → slot_in k xs ≡ Some v → Fits n v
-slot_fits n [] k v h e = cc
-slot_fits n (None ∷ xs) zero v h e = cc
-slot_fits n (Some u ∷ xs) zero v h e =
-    let same : u ≡ v = cc in
-    let P : Value → Type 0 = λ x. Fits n x in
-    subst P same (All-head (FitsBound n) (Some u) xs h)
-slot_fits n (x ∷ xs) (suc k) v h e = slot_fits n xs k v (All-tail (FitsBound n) x xs h) e
-
 -- the line that loads a local, by what its slot has
 load_line : (x : pure.Text) (k : ℕ) (o : Option Value) (s : State) → slot_in k s.slots.here ≡ o → line_of (LoadLocal x k) s ≡ yields_on (load_local x (bound_of s.texts o) (world_of s)) s s.operands.here
 load_line x k o s is = ap (λ p. yields_on (load_local x p (world_of s)) s s.operands.here) (slot_seen s.texts s.slots.here k ∙ ap (bound_of s.texts) is)
-
-pub local_did : (x : pure.Text) (k : ℕ) (v : Value) (old new : State) (r : Step) → IsSound old → old.standing ≡ standing.Running → slot_in k old.slots.here ≡ Some v → IsPushed v old new r → Did (line_of (LoadLocal x k) old) old new r
-local_did x k v old new r h run is e =
-    let P : Line → Type 0 = λ l. Did l old new r in
-    subst P (sym (load_line x k (Some v) old is)) (pushed_did (value_of old.texts v) v old new r h run (slot_fits (length old.texts) old.slots.here k v h.stacks.locals is) refl e)
 
 load_unbound : (names : List pure.Text) (j : ℕ) (w : World) → load_local (text_at names j) None w ≡ threw names (not_bound_cause names j) w
 load_unbound names j w = pick (nat_lt max_length (length (not_bound (text_at names j))))
@@ -177,9 +156,6 @@ store_local_did k v rest old new h run top e =
 pub unbind_local_did : (k : ℕ) (old new : State) → IsSound old → old.standing ≡ standing.Running → new ≡ record old { pc = old.pc + 1; slots = record old.slots { here = slice_set old.slots.here k None } } → Did (line_of (UnbindLocal k) old) old new Local
 unbind_local_did k old new h run e = local_set k None old.operands.here old new h run tt h.stacks.here e
 
-pub store_local_lacks : (k : ℕ) (s : State) → s.operands.here ≡ [] → IsOpen (line_of (StoreLocal k) s) → ⊥
-store_local_lacks k s none h = h (ap (λ vs. (line_on (StoreLocal k) s vs).place) none)
-
 -- ---- calls with an argument by name
 
 pub named_raises : (cause : Cause) (n : ℕ) (f : Value) (old new : State) (r : Step) → IsSound old → drop n old.operands.here ≡ f ∷ drop (n + 1) old.operands.here → ((texts names : List pure.Text) (w : World) → call_by_name (value_of texts f) w ≡ threw names cause w) → IsRaised cause old new r → Did (line_of (CallByName n) old) old new r
@@ -192,13 +168,6 @@ named_raises cause n f old new r h top gives e =
     ap (λ vs. on_callee vs (λ u ops. yields (call_by_name u w) (old.pc + 1) ops (slots_of old) (blocks_of old)) (stuck w)) (drop_map g n old.operands.here ∙ ap (map g) top)
     ∙ ap (λ f. yields_on f old rest) (gives old.texts old.table.names w) in
     subst P (sym line) (raised_did cause rest old new r h e)
-
-pub named_lacks : (n : ℕ) (s : State) → length s.operands.here ≤ n → IsOpen (line_of (CallByName n) s) → ⊥
-named_lacks n s few h =
-    let g = value_of s.texts in
-    let w = world_of s in
-    let none : drop n (map g s.operands.here) ≡ [] = drop_map g n s.operands.here ∙ ap (map g) (drop_all n s.operands.here few) in
-    h (ap (λ vs. (on_callee vs (λ u rest. yields (call_by_name u w) (s.pc + 1) rest (slots_of s) (blocks_of s)) (stuck w)).place) none)
 
 -- ---- returns
 
@@ -247,9 +216,6 @@ caller_there s bs h one = (omega (arith, h.stacks.operands_each, one), omega (ar
 
 pub return_line : (v : Value) (ops : List Value) (s : State) → s.operands.here ≡ v ∷ ops → line_of DoReturn s ≡ goes (leave (Returns (value_of s.texts v)) (world_of s) (slots_of s) (blocks_of s)) (world_of s)
 return_line v ops s top = ap (line_on DoReturn s) top
-
-pub return_lacks : (s : State) → s.operands.here ≡ [] → IsOpen (line_of DoReturn s) → ⊥
-return_lacks s none h = h (ap (λ vs. (line_on DoReturn s vs).place) none)
 
 -- ---- calls of functions
 

@@ -1,6 +1,6 @@
 -- The texts grow, and what fits them stays as it is.
 use Rattle.std.proofs.Common.{◌≡◌, List, [], ◌∷◌, ◌++◌, length, map, drop, All, Option, Some, None, refl, sym, ap, ◌∙◌, arith, length-append, take}
-use Rattle.std.specs.Prelude.{encode_utf8_all, option_map}
+use Rattle.std.specs.Prelude.{encode_utf8_all}
 use Rattle.si_semantics.specs.Operations as operations
 use Rattle.si_semantics.specs.Meaning as meaning
 use Rattle.std.proofs.lemmas.List.{get_or_append_left}
@@ -19,7 +19,6 @@ use Rattle.si_machine.specs.declared.blocks.Block.{Block}
 use Rattle.si_machine.specs.declared.blocks.Block.TheVariants as block
 use Rattle.si_machine.specs.Values.{value_of, bound_of, items_of, leaving_of, Fits, FitsBound, FitsItems, FitsLeaving, FitsObject}
 use Rattle.si_machine.specs.Causes.{object_of}
-use Rattle.si_code.specs.Views.{text_at}
 use Rattle.si_machine.specs.Stacks.{OperandsSeen, SlotsSeen}
 use Rattle.si_machine.specs.States.{innermost, blocks_with, FitsBlock, AreSound}
 

@@ -1,8 +1,6 @@
 -- Leaving what was entered: which line a step does.
-use Rattle.std.proofs.Common.{◌≡◌, ◌≢◌, ℕ, zero, suc, ◌+◌, ◌<◌, ◌≤◌, List, [], ◌∷◌, ◌++◌, length, map, take, drop, get_or, Option, Some, None, All, string_bytes, refl, sym, ap, subst, ◌∙◌, arith, append-nil, Bool, true, false, cond, slice_get}
-use Rattle.std.specs.Prelude.{reverse, ◌||◌}
-use Rattle.std.proofs.lemmas.List.{map-append, length-map, length-append, reverse-append, take_more, take_at}
-use Rattle.std.proofs.lemmas.List.Elements.{All-nil, All-cons, All-append, All-drop, All-tail, All-head}
+use Rattle.std.proofs.Common.{◌≡◌, ℕ, ◌+◌, ◌<◌, ◌≤◌, List, [], ◌∷◌, length, map, drop, Option, Some, None, All, string_bytes, refl, sym, ap, subst, ◌∙◌, arith, append-nil, Bool, true, false, cond, slice_get}
+use Rattle.std.proofs.lemmas.List.Elements.{All-nil, All-cons, All-drop, All-tail, All-head}
 use Rattle.si_semantics.specs.Value as pure
 use Rattle.si_semantics.specs.World.{World}
 use Rattle.si_semantics.specs.Life as life
@@ -12,8 +10,6 @@ use Rattle.si_semantics.specs.Machine as machine
 use Rattle.si_semantics.specs.Machine.{leave, active_among, At, Ending, Line, Place, goes}
 use Rattle.si_plain.specs.declared.kind.Kind.{Kind}
 use Rattle.si_machine.specs.declared.value.Value.{Value}
-use Rattle.si_machine.specs.declared.value.Value.TheVariants as value
-use Rattle.si_machine.specs.declared.value.Object.{Object}
 use Rattle.si_machine.specs.declared.items.Items.{Items}
 use Rattle.si_machine.specs.declared.blocks.Block.{Block}
 use Rattle.si_machine.specs.declared.blocks.Block.TheVariants.{Loop, Each, Catch, Final, Pending, Handling, Frame}
@@ -21,16 +17,13 @@ use Rattle.si_machine.specs.declared.blocks.Leaving.{Leaving}
 use Rattle.si_machine.specs.declared.blocks.Leaving.TheVariants.{Raises, Returns, Breaks, Continues}
 use Rattle.si_machine.specs.declared.state.Standing.TheVariants as standing
 use Rattle.si_machine.specs.declared.state.State.{State}
-use Rattle.si_machine.specs.declared.step.Outcome.{Outcome}
 use Rattle.si_machine.specs.declared.step.Outcome.TheVariants.{Returned, Raised}
 use Rattle.si_machine.specs.declared.step.Step.{Step}
-use Rattle.si_machine.specs.declared.step.Step.TheVariants.{Local, Ended, Starved}
-use Rattle.si_machine.specs.Values.{value_of, bound_of, leaving_of, Fits, FitsBound, FitsLeaving, FitsObject}
-use Rattle.si_machine.specs.Causes.{object_of}
-use Rattle.si_machine.specs.Outcomes.{outcome_of}
-use Rattle.si_machine.specs.Blocks.{concerns, reached, handles, is_handled, active_in, first_there, active_of, NoFrame, LeavesFrame, IsMet, left_with, left_to, IsPlain}
+use Rattle.si_machine.specs.declared.step.Step.TheVariants.{Local, Ended}
+use Rattle.si_machine.specs.Values.{value_of, bound_of, leaving_of, Fits, FitsBound, FitsLeaving}
+use Rattle.si_machine.specs.Blocks.{concerns, reached, is_handled, active_of, NoFrame, LeavesFrame, IsMet, left_with, left_to, IsPlain}
 use Rattle.si_machine.specs.Stacks.{OperandsSeen, SlotsSeen, back, left_by}
-use Rattle.si_machine.specs.States.{AreSound, IsSound, Did, Moves, Unwinds, bytes_of, place_of, place_in, innermost, blocks_with, blocks_of, slots_of, world_of, line_of, FitsBlock, calls_in, with_operands, at_rest, back_at, raised_line, leave_line}
+use Rattle.si_machine.specs.States.{AreSound, IsSound, Did, Unwinds, innermost, blocks_with, slots_of, world_of, line_of, FitsBlock, calls_in, with_operands, at_rest, back_at, leave_line}
 use Rattle.si_machine.proofs.Growth.{All-innermost}
 use Rattle.si_machine.proofs.Lines.{placed_did, finished_did, rest_sound}
 use Rattle.si_machine.proofs.Frames.{return_line, back_did, callers_left, left_operands, back_slots, caller_there}
@@ -220,13 +213,6 @@ final_did q suite rest old new h run fits is e =
     subst P (sym (reached_line q (Final suite ∷ rest) old is ∙ ap (λ p. goes p (world_of old)) (final_place q old.texts (world_of old) (slots_of old) suite bs)))
     (arrived 0 suite (Final suite) (Pending (Some q)) rest old new h run (reached_count q (Final suite ∷ rest) old is) fits (All-tail (FitsBlock old.texts) (Final suite) rest (reached_fit q (Final suite ∷ rest) old h is)) e)
 
--- to except clauses
-pub catch_did : (x clauses : ℕ) (rest : List Block) (old new : State) → IsSound old → old.standing ≡ standing.Running → reached (Raises x) old.blocks ≡ Catch clauses ∷ rest → new ≡ record old { pc = clauses; operands = with_operands [] old.operands; blocks = Handling x ∷ rest } → Did (leave_line (Raises x) old) old new Local
-catch_did x clauses rest old new h run is e =
-    let P : Line → Type 0 = λ l. Did l old new Local in
-    subst P (sym (reached_line (Raises x) (Catch clauses ∷ rest) old is))
-    (arrived 0 clauses (Catch clauses) (Handling x) rest old new h run (reached_count (Raises x) (Catch clauses ∷ rest) old is) tt (All-tail (FitsBlock old.texts) (Catch clauses) rest (reached_fit (Raises x) (Catch clauses ∷ rest) old h is)) e)
-
 loop_place : (q : Leaving) (texts : List pure.Text) (w : World) (here : List (Option pure.Value)) (start after : ℕ) (bs : List machine.Block) → concerns q (Loop start after) ≡ true → leave (leaving_of texts q) w here (machine.Loop start after ∷ bs) ≡ At (left_to q start after) [] here bs
 loop_place (Raises x) texts w here start after bs e = cc
 loop_place (Returns v) texts w here start after bs e = cc
@@ -308,10 +294,6 @@ raised_ends x kind text old new h none k t e =
 
 -- ---- calls that an exception leaves
 
--- an exception goes on from where it has come
-pub unwound_same : (x : ℕ) (s : State) → IsSound s → Unwinds x s s
-unwound_same x s h = record { state = refl; sound = h; goes = refl }
-
 -- out of one call more
 pub unwound_frame : (x : ℕ) (bs : List Block) (first old new : State) → Unwinds x first old → LeavesFrame old.blocks bs true → new ≡ record old { operands = left_by old.operands.below; slots = back old.slots.below; blocks = bs } → Unwinds x first new
 unwound_frame x bs first old new u left e =
@@ -384,98 +366,7 @@ unwound_met x bs first old new u handled left e =
 pub handled_frame : (bs rest : List Block) → LeavesFrame bs rest true → is_handled bs ≡ true → is_handled rest ≡ true
 handled_frame bs rest left h = sym (ap is_handled left.1) ∙ handled_reached 0 bs ∙ h
 
--- what is met is reached
-met_there : (x : ℕ) (bs : List Block) → IsMet bs → reached (Raises x) bs ≡ bs
-met_there x [] h = absurd h
-met_there x (Loop start after ∷ bs) h = absurd h
-met_there x (Each items ∷ bs) h = absurd h
-met_there x (Catch clauses ∷ bs) h = refl
-met_there x (Final suite ∷ bs) h = refl
-met_there x (Pending p ∷ bs) h = absurd h
-met_there x (Handling y ∷ bs) h = absurd h
-met_there x (Frame after ∷ bs) h = absurd h
-
--- what was done from where the exception has come was done from where it was raised
-pub unwound_did : (x : ℕ) (first old new : State) → Unwinds x first old → Did (leave_line (Raises x) old) old new Local → Did (leave_line (Raises x) first) first new Local
-unwound_did x first old new u did =
-    let m = did.0 in
-    let s = u.state in (
-      record {
-        place = sym u.goes ∙ m.place;
-        world = ap world_of (sym s) ∙ m.world;
-        printed = m.printed ∙ ap (λ (t : State). string_bytes t.printed ++ []) s;
-        code = m.code ∙ ap (λ (t : State). t.table) s;
-        sound = m.sound;
-      },
-      did.1,
-    )
-
-pub running_still : (x : ℕ) (first old : State) → Unwinds x first old → first.standing ≡ standing.Running → old.standing ≡ standing.Running
-running_still x first old u run = ap (λ (s : State). s.standing) u.state ∙ run
-
-pub met_clauses : (x clauses : ℕ) (first old new : State) → Unwinds x first old → first.standing ≡ standing.Running → IsMet old.blocks → old.blocks ≡ Catch clauses ∷ drop 1 old.blocks → new ≡ record old { pc = clauses; operands = with_operands [] old.operands; blocks = Handling x ∷ drop 1 old.blocks } → Did (leave_line (Raises x) first) first new Local
-met_clauses x clauses first old new u run met top e = unwound_did x first old new u (catch_did x clauses (drop 1 old.blocks) old new u.sound (running_still x first old u run) (met_there x old.blocks met ∙ top) e)
-
-pub met_suite : (x suite : ℕ) (first old new : State) → Unwinds x first old → first.standing ≡ standing.Running → IsMet old.blocks → old.blocks ≡ Final suite ∷ drop 1 old.blocks → new ≡ record old { pc = suite; operands = with_operands [] old.operands; blocks = Pending (Some (Raises x)) ∷ drop 1 old.blocks } → Did (leave_line (Raises x) first) first new Local
-met_suite x suite first old new u run met top e = unwound_did x first old new u (final_did (Raises x) suite (drop 1 old.blocks) old new u.sound (running_still x first old u run) tt (met_there x old.blocks met ∙ top) e)
-
 -- ---- a new exception
-
--- a state with an object more
-pub stored_sound : (o : Object) (old new : State) → IsSound old → FitsObject (length old.texts) o → new.store.items ≡ old.store.items ++ o ∷ [] → new ≡ record old { store = new.store } → IsSound new
-stored_sound o old new h fits items e =
-    let S : List Object → Type 0 = λ os. All (FitsObject (length old.texts)) os in
-    subst IsSound (sym e) (record {
-      stacks = h.stacks;
-      blocks = h.blocks;
-      globals = h.globals;
-      store = subst S (sym items) (All-append (FitsObject (length old.texts)) old.store.items (o ∷ []) h.store (All-cons (FitsObject (length old.texts)) o [] fits (All-nil (FitsObject (length old.texts)))));
-      literals = h.literals;
-      slots = h.slots;
-      built_ins = h.built_ins;
-      short = h.short;
-    })
-
--- the world with it
-pub stored_world : (o : Object) (old new : State) → new.store.items ≡ old.store.items ++ o ∷ [] → new ≡ record old { store = new.store } → world_of new ≡ record (world_of old) { store = (world_of old).store ++ object_of old.texts old.table.names o ∷ [] }
-stored_world o old new items e =
-    let f = object_of old.texts old.table.names in
-    let make : List pure.Object → World = λ os. record (world_of old) { store = os } in
-    ap world_of e ∙ ap (λ os. make (map f os)) items ∙ ap make (map-append f old.store.items (o ∷ []))
-
--- the line of an exception that is raised as it was stored
-stored_line : (o : Object) (place : ℕ) (old mid : State) → place ≡ length old.store.items → mid.store.items ≡ old.store.items ++ o ∷ [] → mid ≡ record old { store = mid.store } → leave_line (Raises place) mid ≡ raised_line o old
-stored_line o place old mid at items e =
-    let w = stored_world o old mid items e in
-    let size : place ≡ length (world_of old).store = at ∙ sym (length-map old.store.items (object_of old.texts old.table.names)) in
-    ap (λ s. goes (leave (meaning.Raises place) (world_of mid) (slots_of s) (blocks_of s)) (world_of mid)) e
-    ∙ ap (λ v. goes (leave (meaning.Raises place) v (slots_of old) (blocks_of old)) v) w
-    ∙ ap (λ n. let v : World = record (world_of old) { store = (world_of old).store ++ object_of old.texts old.table.names o ∷ [] } in goes (leave (meaning.Raises n) v (slots_of old) (blocks_of old)) v) size
-
-moved_on : (l : Line) (p : Place) (old mid new : State) → mid ≡ record old { store = mid.store } → Moves l p mid new → Moves l p old new
-moved_on l p old mid new e m = record { place = m.place; world = m.world; printed = m.printed ∙ ap (λ (s : State). string_bytes s.printed ++ bytes_of l.out) e; code = m.code ∙ ap (λ (s : State). s.table) e; sound = m.sound }
-
-pub stored_local : (o : Object) (place : ℕ) (old mid new : State) → place ≡ length old.store.items → mid.store.items ≡ old.store.items ++ o ∷ [] → mid ≡ record old { store = mid.store } → Did (leave_line (Raises place) mid) mid new Local → Did (raised_line o old) old new Local
-stored_local o place old mid new at items e did =
-    let P : Line → Type 0 = λ l. Did l old new Local in
-    subst P (stored_line o place old mid at items e) (moved_on (leave_line (Raises place) mid) (place_of new) old mid new e did.0, did.1)
-
-pub stored_ended : (o : Object) (place : ℕ) (old mid new : State) → place ≡ length old.store.items → mid.store.items ≡ old.store.items ++ o ∷ [] → mid ≡ record old { store = mid.store } → Did (leave_line (Raises place) mid) mid new Ended → Did (raised_line o old) old new Ended
-stored_ended o place old mid new at items e did =
-    let P : Line → Type 0 = λ l. Did l old new Ended in
-    subst P (stored_line o place old mid at items e) (moved_on (leave_line (Raises place) mid) (Ending (outcome_of new.outcome)) old mid new e did.0, did.1, did.2 ∙ ap (λ (s : State). string_bytes s.printed) e)
-
--- refused memory: the object is taken off again
-pub stored_starved : (o : Object) (place : ℕ) (old mid bad new : State) → place ≡ length old.store.items → mid.store.items ≡ old.store.items ++ o ∷ [] → mid ≡ record old { store = mid.store } → Did (leave_line (Raises place) mid) mid bad Starved → new.store.items ≡ take place bad.store.items → new ≡ record bad { store = new.store } → Did (raised_line o old) old new Starved
-stored_starved o place old mid bad new at items e did cut same =
-    let make : State → State = λ s. record s { standing = standing.Starved; line = bad.line; printed = bad.printed; store = new.store } in
-    let again : State → State = λ s. record s { store = new.store } in
-    let all : new ≡ make old = same ∙ ap again did.0 ∙ ap make e in
-    let shape : State → State = λ s. record old { standing = standing.Starved; line = s.line; printed = s.printed; store = new.store } in (
-      all ∙ ap (λ l. let s : State = record old { standing = standing.Starved; line = l; printed = bad.printed; store = new.store } in s) (sym (ap (λ (s : State). s.line) all)) ∙ ap (λ p. let s : State = record old { standing = standing.Starved; line = new.line; printed = p; store = new.store } in s) (sym (ap (λ (s : State). s.printed) all)),
-      ap (λ (s : State). string_bytes s.printed) same ∙ did.1 ∙ ap (λ (s : State). string_bytes s.printed) e,
-      cut ∙ ap (take place) (did.2 ∙ items) ∙ ap (λ n. take n (old.store.items ++ o ∷ [])) at ∙ take_at old.store.items (o ∷ []) (length old.store.items) refl,
-    )
 
 -- a step that is known to end the run
 pub ended : (l : Line) (old new : State) (r : Step) → r ≡ Ended → Did l old new Ended → Did l old new r
@@ -499,9 +390,6 @@ top_reached q b rest bs top is = ap (reached q) top ∙ ap (λ c. cond c (b ∷ 
 pub return_back : (after : ℕ) (v : Value) (ops : List Value) (rest : List Block) (old new : State) → IsSound old → old.standing ≡ standing.Running → old.operands.here ≡ v ∷ ops → old.blocks ≡ Frame after ∷ rest → new ≡ record (back_at after v old) { blocks = rest } → Did (line_of machine.DoReturn old) old new Local
 return_back after v ops rest old new h run top is e =
     return_left v ops old new Local top (frame_did (Returns v) after rest old new h run tt (returned_fits v ops old h top) (top_reached (Returns v) (Frame after) rest old.blocks is refl) e)
-
-pub return_caller : (after : ℕ) (rest : List Block) (s : State) → IsSound s → s.blocks ≡ Frame after ∷ rest → (0 < length s.operands.below) × (0 < length s.slots.below)
-return_caller after rest s h is = frame_caller Breaks after rest s h (top_reached Breaks (Frame after) rest s.blocks is refl)
 
 -- ---- what leaving passes is not reached
 

@@ -9,7 +9,7 @@ use Rattle.std.proofs.lemmas.List.Elements.{All-nil, All-cons, All-tail, All-hea
 use Rattle.si_semantics.specs.Value as pure
 use Rattle.si_semantics.specs.Text.{same_text, max_length}
 use Rattle.si_semantics.specs.Tree as tree
-use Rattle.si_semantics.specs.World.{World, Ran, set_global, unset_global}
+use Rattle.si_semantics.specs.World.{World, Ran}
 use Rattle.si_semantics.specs.Life as life
 use Rattle.si_semantics.specs.Operations.{operate, operate_unary, gave, refused, too_long, found, or_else, load_global, built_in, built_in_kinds, kind_named}
 use Rattle.si_semantics.specs.Machine as machine
@@ -25,7 +25,7 @@ use Rattle.si_plain.specs.declared.kind.Kind.TheVariants.{NameError}
 use Rattle.si_machine.specs.declared.state.Standing.TheVariants as standing
 use Rattle.si_machine.specs.declared.state.State.{State}
 use Rattle.si_machine.specs.declared.step.Outcome.{Outcome}
-use Rattle.si_machine.specs.declared.step.Outcome.TheVariants.{Returned, Raised}
+use Rattle.si_machine.specs.declared.step.Outcome.TheVariants.{Returned}
 use Rattle.si_machine.specs.declared.step.Step.{Step}
 use Rattle.si_machine.specs.declared.step.Step.TheVariants.{Local, Ended, Starved}
 use Rattle.si_machine.specs.Values.{value_of, bound_of, globals_of, Fits, FitsBound, FitsObject, AreBuiltIn}
@@ -378,9 +378,6 @@ unary_raises o x rest cause old new r h top gives e =
     let P : Line → Type 0 = λ l. Did l old new r in
     subst P (sym line) (raised_did cause rest old new r h e)
 
-pub unary_lacks : (o : tree.UnaryOperator) (s : State) → s.operands.here ≡ [] → IsOpen (line_of (ApplyUnary o) s) → ⊥
-unary_lacks o s none h = h (ap (λ vs. (line_on (ApplyUnary o) s vs).place) none)
-
 -- two operands give way to what an operator gives for them
 binary_line : (o : tree.BinaryOperator) (x y : Value) (rest : List Value) (s : State) (f : Ran) → s.operands.here ≡ y ∷ x ∷ rest → operate o (value_of s.texts x) (value_of s.texts y) (world_of s) ≡ f → line_of (ApplyBinary o) s ≡ yields f (s.pc + 1) (map (value_of s.texts) rest) (slots_of s) (blocks_of s)
 binary_line o x y rest s f top gives =
@@ -407,21 +404,10 @@ binary_raises o x y rest cause old new r h top gives e =
     let P : Line → Type 0 = λ l. Did l old new r in
     subst P (sym (binary_line o x y rest old (threw old.table.names cause w) top (gives old.table.names w))) (raised_did cause rest old new r h e)
 
-pub binary_lacks : (o : tree.BinaryOperator) (s : State) → length s.operands.here < 2 → IsOpen (line_of (ApplyBinary o) s) → ⊥
-binary_lacks o s few h = h (short s.operands.here few)
-  where
-    short : (vs : List Value) → length vs < 2 → (line_on (ApplyBinary o) s vs).place ≡ Closed
-    short [] p = refl
-    short (v ∷ []) p = refl
-    short (v ∷ u ∷ vs) p = absurd (omega arith)
-
 pub discard_did : (v : Value) (rest : List Value) (old new : State) → IsSound old → old.standing ≡ standing.Running → old.operands.here ≡ v ∷ rest → new ≡ moved (old.pc + 1) rest old → Did (line_of Discard old) old new Local
 discard_did v rest old new h run top e =
     let P : Line → Type 0 = λ l. Did l old new Local in
     subst P (sym (ap (line_on Discard old) top)) (discarded_did v rest old new h run top e)
-
-pub discard_lacks : (s : State) → s.operands.here ≡ [] → IsOpen (line_of Discard s) → ⊥
-discard_lacks s none h = h (ap (λ vs. (line_on Discard s vs).place) none)
 
 pub store_did : (k : ℕ) (v : Value) (rest : List Value) (old new : State) → IsSound old → AllPairs (λ x y. x ≢ y) old.table.names → old.standing ≡ standing.Running → k < length old.globals.items → old.operands.here ≡ v ∷ rest → new.globals.items ≡ slice_set old.globals.items k (Some v) → new ≡ record (moved (old.pc + 1) rest old) { globals = new.globals } → Did (line_of (StoreGlobal (text_at old.table.names k)) old) old new Local
 store_did k v rest old new h d run p top items e =
@@ -459,11 +445,6 @@ local l old new r e h =
     let P : Step → Type 0 = λ x. Did l old new x in
     subst P (sym e) h
 
-pub ended : (l : Line) (old new : State) (r : Step) → r ≡ Starved → Did l old new Starved → Did l old new r
-ended l old new r e h =
-    let P : Step → Type 0 = λ x. Did l old new x in
-    subst P (sym e) h
-
 -- a slot has its global, and its built-in value
 pub slot_there : (s : State) (k : ℕ) → IsSound s → k < length s.table.names → k < length s.globals.items
 slot_there s k h p = omega (arith, h.slots)
@@ -472,9 +453,6 @@ missing : {A B : Type 0} (d : A) (xs : List A) (k : ℕ) → k < length xs → s
 missing d xs k lt e =
     let at = slice_get-get_or xs k d lt in
     absurd (let no : ⊥ = cc in no)
-
-pub slot_missing : {A : Type 0} (s : State) (k : ℕ) → IsSound s → k < length s.table.names → slice_get s.globals.items k ≡ None → A
-slot_missing s k h p e = missing None s.globals.items k (slot_there s k h p) e
 
 built_ins_each : (names : List pure.Text) (vs : List (Option Value)) → AreBuiltIn names vs → length names ≡ length vs
 built_ins_each [] [] s = refl

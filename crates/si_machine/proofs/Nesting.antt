@@ -1,9 +1,9 @@
 -- How objects within each other are written: what each kind of object adds to a text, and what becomes of that text.
-use Rattle.std.proofs.Common.{◌≡◌, ◌≢◌, ℕ, suc, ◌-◌, List, [], ◌∷◌, ◌++◌, map, Option, Some, None, option_map, Result, Ok, Err, refl, sym, ap, subst, ◌∙◌, append_assoc, append-nil, slice_get}
+use Rattle.std.proofs.Common.{◌≡◌, ◌≢◌, ℕ, ◌-◌, List, [], ◌++◌, map, Option, Some, None, option_map, Result, Err, sym, ap, subst, ◌∙◌, append_assoc, append-nil, slice_get}
 use Rattle.std.specs.Prelude.{codes, IsErrAnd}
 use Rattle.std.proofs.lemmas.Result.{err_from_is_err_and}
 use Rattle.si_plain.specs.declared.kind.Kind.{Kind}
-use Rattle.si_plain.specs.declared.kind.Kind.TheVariants.{KeyError, RecursionError}
+use Rattle.si_plain.specs.declared.kind.Kind.TheVariants.{KeyError}
 use Rattle.si_plain.specs.Kinds.{name_of}
 use Rattle.si_semantics.specs.Value as pure
 use Rattle.si_semantics.specs.Text.{repr_of, str_of, repr_object, str_object, repr_text}

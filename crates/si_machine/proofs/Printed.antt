@@ -1,5 +1,5 @@
 -- Lines that `print` prints, value by value.
-use Rattle.std.proofs.Common.{◌≡◌, ℕ, suc, IsErrAnd, encode_utf8, ◌+◌, ◌<◌, List, [], ◌∷◌, ◌++◌, length, take, drop, get_or, map, Result, Ok, Err, refl, sym, ap, subst, ◌∙◌, arith, append_assoc, append-nil, add-one, drop-cons}
+use Rattle.std.proofs.Common.{◌≡◌, ℕ, suc, IsErrAnd, encode_utf8, ◌+◌, ◌<◌, List, [], ◌∷◌, ◌++◌, length, take, drop, get_or, map, Result, Ok, Err, refl, sym, ap, subst, ◌∙◌, append_assoc, append-nil, drop-cons}
 use Rattle.std.specs.Prelude.{encode_utf8_all}
 use Rattle.std.proofs.lemmas.List.{take_more, take-append-drop, map-append}
 use Rattle.std.proofs.lemmas.Str.{encodes-append}
@@ -134,11 +134,6 @@ begun (Ok t) go q h = h t
 
 line_is : (store : List pure.Object) (v : pure.Value) (vs : List pure.Value) → line_of store (v ∷ vs) ≡ joined (str_in store v) (ended (spaced_in store vs))
 line_is store v vs = begun (str_in store v) (λ t. line_behind store t vs) (ended (spaced_in store vs)) (λ t. behind_is store t vs)
-
--- the first value can't be written
-pub first_refused : {X : Type 0} (store : List pure.Object) (v : pure.Value) (vs : List pure.Value) (r : Result X Fault) (e : Fault) (a b : List ℕ) → IsErrAnd r (λ f. f ≡ e) → Prints {U = X} (str_in store v) a b (Err e) → Prints (line_of store (v ∷ vs)) a b r
-first_refused store v vs r e a b is =
-    over r e (str_in store v) (line_of store (v ∷ vs)) a b a b is (λ k g. line_is store v vs ∙ ap (λ r. joined r (ended (spaced_in store vs))) g)
 
 -- one of the others can't be written
 pub others_refused : {X : Type 0} (store : List pure.Object) (v : pure.Value) (vs : List pure.Value) (r : Result X Fault) (e : Fault) (a b c : List ℕ) → IsErrAnd r (λ f. f ≡ e) → GoesOn (str_in store v) a b → Prints {U = X} (spaced_in store vs) b c (Err e) → Prints (line_of store (v ∷ vs)) a c r

@@ -1,5 +1,5 @@
 -- Calls of built-ins: how many arguments each takes, and the integers of a range.
-use Rattle.std.proofs.Common.{◌≡◌, ◌≤◌, ◌<◌, arith, length, get_or, ℕ, List, [], ◌∷◌, map, Option, ℤ, pos, Some, Result, Ok, Err, refl, sym, ap, subst, ◌∙◌}
+use Rattle.std.proofs.Common.{◌≡◌, ◌≤◌, ◌<◌, arith, length, get_or, List, [], ◌∷◌, map, pos, Some, Result, Ok, Err, refl, sym, ap, subst, ◌∙◌}
 use Rattle.si_semantics.specs.Value as pure
 use Rattle.si_semantics.specs.World.{World, Ran}
 use Rattle.si_semantics.specs.Operations as operations

@@ -1,5 +1,5 @@
 -- How values are written: atoms at any depth, and objects a level further down.
-use Rattle.std.proofs.Common.{◌≡◌, ◌≢◌, ℕ, zero, suc, ◌-◌, List, [], ◌∷◌, ◌++◌, map, Option, Some, None, option_map, Bool, true, false, cond, refl, sym, ap, ◌∙◌, arith, append_assoc, append-nil, slice_get}
+use Rattle.std.proofs.Common.{◌≡◌, ◌≢◌, ℕ, zero, suc, ◌-◌, List, [], ◌∷◌, ◌++◌, map, Option, Some, option_map, refl, sym, ap, ◌∙◌, arith, append_assoc, append-nil, slice_get}
 use Rattle.std.specs.Prelude.{codes}
 use Rattle.std.specs.List.{list_any}
 use Rattle.std.specs.Prelude.{nat_eq, ◌==◌, ◌||◌}
@@ -8,71 +8,16 @@ use Rattle.si_plain.specs.declared.kind.Kind.{Kind}
 use Rattle.si_plain.specs.declared.kind.Kind.TheVariants as kind
 use Rattle.si_plain.specs.Kinds.{name_of}
 use Rattle.si_semantics.specs.Value as pure
-use Rattle.si_semantics.specs.Text.{repr_of, str_of, repr_atom, repr_object, str_object, repr_text, all_escaped, escaped, occurs, quote_for}
-use Rattle.si_code.specs.Views.{text_at}
-use Rattle.si_machine.specs.declared.value.Value.{Value}
-use Rattle.si_machine.specs.declared.value.Value.TheVariants as value
+use Rattle.si_semantics.specs.Text.{repr_of, str_of, repr_object, str_object, repr_text, all_escaped, escaped, occurs, quote_for}
 use Rattle.si_machine.specs.declared.value.Object.{Object}
-use Rattle.si_machine.specs.declared.value.Object.TheVariants.{Caused, Made}
+use Rattle.si_machine.specs.declared.value.Object.TheVariants.{Caused}
 use Rattle.si_machine.specs.declared.cause.Cause.{Cause}
-use Rattle.si_machine.specs.Values.{value_of}
 use Rattle.si_machine.specs.Causes.{object_of, kind_of, message_in, caused_str, opening}
-
--- a value that is no object has its repr at any depth
-pub repr_plain : (n : ℕ) (objects : List pure.Object) (texts : List pure.Text) (v : Value) → ((x : ℕ) → v ≢ value.Exception x) → repr_of n objects (value_of texts v) ≡ Some (repr_atom (value_of texts v))
-repr_plain zero objects texts value.None differs = refl
-repr_plain zero objects texts (value.Truth b) differs = refl
-repr_plain zero objects texts (value.Int i) differs = refl
-repr_plain zero objects texts (value.Str p) differs = refl
-repr_plain zero objects texts (value.BuiltIn b) differs = refl
-repr_plain zero objects texts (value.Function k p) differs = refl
-repr_plain zero objects texts (value.Range a b c) differs = refl
-repr_plain zero objects texts (value.Kind k) differs = refl
-repr_plain zero objects texts (value.Exception x) differs = absurd (differs x refl)
-repr_plain (suc n) objects texts value.None differs = refl
-repr_plain (suc n) objects texts (value.Truth b) differs = refl
-repr_plain (suc n) objects texts (value.Int i) differs = refl
-repr_plain (suc n) objects texts (value.Str p) differs = refl
-repr_plain (suc n) objects texts (value.BuiltIn b) differs = refl
-repr_plain (suc n) objects texts (value.Function k p) differs = refl
-repr_plain (suc n) objects texts (value.Range a b c) differs = refl
-repr_plain (suc n) objects texts (value.Kind k) differs = refl
-repr_plain (suc n) objects texts (value.Exception x) differs = absurd (differs x refl)
 
 -- a str is its own str
 pub str_own : (n : ℕ) (objects : List pure.Object) (s : pure.Text) → str_of n objects (pure.Str s) ≡ Some s
 str_own zero objects s = refl
 str_own (suc n) objects s = refl
-
--- a value that is neither a str nor an object has its repr as its str
-pub str_plain : (n : ℕ) (objects : List pure.Object) (texts : List pure.Text) (v : Value) → ((x : ℕ) → v ≢ value.Exception x) → ((p : ℕ) → v ≢ value.Str p) → str_of n objects (value_of texts v) ≡ Some (repr_atom (value_of texts v))
-str_plain zero objects texts value.None differs other = refl
-str_plain zero objects texts (value.Truth b) differs other = refl
-str_plain zero objects texts (value.Int i) differs other = refl
-str_plain zero objects texts (value.Str p) differs other = absurd (other p refl)
-str_plain zero objects texts (value.BuiltIn b) differs other = refl
-str_plain zero objects texts (value.Function k p) differs other = refl
-str_plain zero objects texts (value.Range a b c) differs other = refl
-str_plain zero objects texts (value.Kind k) differs other = refl
-str_plain zero objects texts (value.Exception x) differs other = absurd (differs x refl)
-str_plain (suc n) objects texts value.None differs other = refl
-str_plain (suc n) objects texts (value.Truth b) differs other = refl
-str_plain (suc n) objects texts (value.Int i) differs other = refl
-str_plain (suc n) objects texts (value.Str p) differs other = absurd (other p refl)
-str_plain (suc n) objects texts (value.BuiltIn b) differs other = refl
-str_plain (suc n) objects texts (value.Function k p) differs other = refl
-str_plain (suc n) objects texts (value.Range a b c) differs other = refl
-str_plain (suc n) objects texts (value.Kind k) differs other = refl
-str_plain (suc n) objects texts (value.Exception x) differs other = absurd (differs x refl)
-
--- no object is written at depth 0
-pub repr_deep : (n : ℕ) (objects : List pure.Object) (x : ℕ) → n ≡ 0 → repr_of n objects (pure.Address x) ≡ None
-repr_deep zero objects x e = refl
-repr_deep (suc n) objects x e = absurd (omega arith)
-
-pub str_deep : (n : ℕ) (objects : List pure.Object) (x : ℕ) → n ≡ 0 → str_of n objects (pure.Address x) ≡ None
-str_deep zero objects x e = refl
-str_deep (suc n) objects x e = absurd (omega arith)
 
 less : (n : ℕ) → n ≡ suc n - 1
 less n = omega arith

@@ -1,8 +1,5 @@
 -- Texts that are joined, repeated and shown.
-use Rattle.std.proofs.Common.{◌≡◌, ℕ, zero, suc, ◌+◌, ◌*◌, ◌/◌, ◌<◌, ◌≤◌, Bool, true, false, List, [], ◌∷◌, ◌++◌, length, get_or, map, ℤ, pos, negsuc, refl, sym, ap, subst, ◌∙◌, arith, append-nil, append_assoc, length-append, add-one, nat_lt, lt-ltb, le-ltb, ne_eqb, cond, div-lt_iff_lt-mul, le-div_iff_mul-le, zero-mul, suc-mul, take, slice_get, None, Some, unwrap_or, Ok, Err}
-use Rattle.std.specs.Prelude.{codes, encode_utf8_all}
-use Rattle.std.proofs.lemmas.List.{take_more, map-append}
-use Rattle.std.proofs.lemmas.Str.{encodes-append}
+use Rattle.std.proofs.Common.{◌≡◌, ℕ, zero, suc, ◌+◌, ◌*◌, ◌/◌, ◌<◌, ◌≤◌, Bool, true, false, List, [], ◌∷◌, ◌++◌, length, ℤ, pos, negsuc, refl, sym, ap, subst, ◌∙◌, arith, append-nil, append_assoc, length-append, add-one, nat_lt, lt-ltb, le-ltb, ne_eqb, cond, div-lt_iff_lt-mul, le-div_iff_mul-le, zero-mul, suc-mul, slice_get, None, unwrap_or, Ok, Err}
 use Rattle.std.proofs.lemmas.Option.{unwrap_or-slice_get}
 use Rattle.si_semantics.specs.Value as pure
 use Rattle.si_semantics.specs.World.{World, Ran}
@@ -86,10 +83,6 @@ added_at (u ∷ texts) t place e = ap (λ k. text_at (u ∷ (texts ++ t ∷ []))
 -- no text at a place past the end
 pub none_at : (texts : List pure.Text) (place : ℕ) → slice_get texts place ≡ None → text_at texts place ≡ []
 none_at texts place e = sym (unwrap_or-slice_get texts place []) ∙ ap (λ o. unwrap_or o []) e
-
--- the text at a place
-pub some_at : (texts : List pure.Text) (place : ℕ) (t : pure.Text) → slice_get texts place ≡ Some t → t ≡ text_at texts place
-some_at texts place t e = ap (λ o. unwrap_or o []) (sym e) ∙ unwrap_or-slice_get texts place []
 
 -- a text that was added is what an operation gives
 pub added : (t : pure.Text) (old new : List pure.Text) (place : ℕ) → place ≡ length old → new ≡ old ++ t ∷ [] → text_at new place ≡ t

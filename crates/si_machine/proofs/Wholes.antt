@@ -1,10 +1,10 @@
 -- Texts that are written whole: where nothing stood before, the limit on their length, and the str that is made of one.
-use Rattle.std.proofs.Common.{◌≡◌, ℕ, List, [], ◌∷◌, ◌++◌, map, length, Option, Some, None, Result, Ok, Err, refl, sym, ap, subst, ◌∙◌, arith, length-append}
-use Rattle.std.specs.Prelude.{codes, IsErrAnd}
+use Rattle.std.proofs.Common.{◌≡◌, ℕ, List, [], ◌∷◌, ◌++◌, length, Option, Some, None, Result, Ok, Err, refl, sym, ap, subst, ◌∙◌, arith, length-append}
+use Rattle.std.specs.Prelude.{IsErrAnd}
 use Rattle.si_plain.specs.declared.kind.Kind.{Kind}
 use Rattle.si_semantics.specs.Value as pure
 use Rattle.si_semantics.specs.World.{World}
-use Rattle.si_semantics.specs.Text.{written, message_of}
+use Rattle.si_semantics.specs.Text.{written}
 use Rattle.si_semantics.specs.Operations.{text, gave}
 use Rattle.si_machine.specs.declared.cause.Cause.{Cause}
 use Rattle.si_machine.specs.declared.cause.Cause.TheVariants as cause
@@ -12,7 +12,7 @@ use Rattle.si_machine.specs.declared.cause.Fault.{Fault}
 use Rattle.si_machine.specs.declared.cause.Fault.TheVariants as fault
 use Rattle.si_machine.specs.declared.value.Value.{Value}
 use Rattle.si_machine.specs.declared.value.Value.TheVariants as value
-use Rattle.si_machine.specs.Causes.{Appends, Grows, Writes, IsUnwritten, RunsIn, threw}
+use Rattle.si_machine.specs.Causes.{Grows, Writes, IsUnwritten, RunsIn, threw}
 use Rattle.si_machine.proofs.Nesting.{passed}
 use Rattle.si_machine.proofs.Strings.{added}
 
@@ -20,26 +20,6 @@ use Rattle.si_machine.proofs.Strings.{added}
 pub whole : (o : Option pure.Text) (a b : pure.Text) (r : Result pure.Text Fault) → a ≡ [] → Grows o a b → Writes (written (Some b)) r → Writes (written o) r
 whole None a b r e h w = absurd h
 whole (Some t) a b r e h w = subst (λ s. Writes (written (Some s)) r) (h ∙ ap (λ s. s ++ t) e) w
-
-fails : (o : Option pure.Text) (a b : pure.Text) (e : Fault) → Appends {U = Unit {0}} o a b (Err e) → Writes (written o) (Err e)
-fails o a b (fault.Raises cause) h = subst (λ c. IsUnwritten (written o) c) (sym h.1) (ap written h.0)
-fails o a b fault.NoMemory h = tt
-
--- a text that is not written
-pub unwritten : (o : Option pure.Text) (a b : pure.Text) (e : Fault) (r : Result pure.Text Fault) → Appends {U = Unit {0}} o a b (Err e) → IsErrAnd r (λ f. f ≡ e) → Writes (written o) r
-unwritten o a b e r h same = passed r (λ s. Writes (written o) s) e same (fails o a b e h)
-
--- the message of an exception whose str can't be written
-pub message_missing : (r : Result pure.Text Kind) (c : Cause) (t : pure.Text) → IsUnwritten r c → t ≡ codes "<exception str() failed>" → t ≡ message_of r
-message_missing r (cause.Arithmetic k) t h e = absurd h
-message_missing r cause.TooLong t h e = e ∙ sym (ap message_of h)
-message_missing r cause.WrongType t h e = absurd h
-message_missing r cause.NotCallable t h e = absurd h
-message_missing r cause.WrongArguments t h e = absurd h
-message_missing r cause.TooDeep t h e = e ∙ sym (ap message_of h)
-message_missing r cause.NoneActive t h e = absurd h
-message_missing r (cause.NotDefined slot) t h e = absurd h
-message_missing r (cause.NotBound slot) t h e = absurd h
 
 -- a text that was written, as a str
 pub text_runs : (objects : List pure.Object) (f : List pure.Object → Result pure.Text Kind) (t : pure.Text) (old new : List pure.Text) (place : ℕ) → f objects ≡ Ok t → place ≡ length old → new ≡ old ++ t ∷ [] → RunsIn objects (λ w. text (f w.store) w) old new (Ok (value.Str place))

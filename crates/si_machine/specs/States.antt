@@ -58,7 +58,7 @@ blocks_with texts (block.Handling x ∷ bs) ops slots = Handling x ∷ blocks_wi
 blocks_with texts (block.Frame after ∷ bs) ops slots =
     Frame after (map (value_of texts) (innermost ops)) (map (bound_of texts) (innermost slots)) ∷ blocks_with texts bs (drop 1 ops) (drop 1 slots)
 
--- the bodies of loops and the calls that were entered, the innermost first
+-- what was entered and not left, the innermost first
 abbrev pub blocks_of : State → List machine.Block
 blocks_of s = blocks_with s.texts s.blocks s.operands.below s.slots.below
 
@@ -124,8 +124,7 @@ pub record AreSound (n : ℕ) (ops : OperandsSeen) (slots : SlotsSeen) (bs : Lis
   pub locals_each : length slots.below ≡ calls_in bs
 
 -- the stacks are sound, the texts that blocks, globals and objects speak of are there, the literals come first among the texts, there is a
--- global and a built-in value for each slot, and the
--- code has few enough instructions for the place of each to be told, and that of a jump's end
+-- global and a built-in value for each slot, and the code has fewer than 2^63 instructions, so that the place behind any jump is a usize
 pub record IsSound (s : State) : Type 0 where
   pub stacks : AreSound (length s.texts) s.operands s.slots s.blocks
   pub blocks : All (FitsBlock s.texts) s.blocks

@@ -1,4 +1,4 @@
-// What was entered and not left: bodies of loops, calls, the suites of a `try`.
+// What was entered and not left: bodies of loops, items of a `for`, suites of a `try`, its clauses and its finally suite, calls.
 ghost use Rattle.std.specs.Prelude.{◌≡◌, ◌<◌, List, [], ◌∷◌, length, drop, OnOk, OnErr, MatchOption};
 ghost use Rattle.si_machine.specs.Blocks.{concerns, reached, handles, is_handled, active_in, active_of, LeavesFrame, left_with, left_to};
 
@@ -15,12 +15,14 @@ pub enum Leaving {
     Raises(usize),
     /// By `return` with this value.
     Returns(Value),
+    /// By `break`.
     Breaks,
+    /// By `continue`.
     Continues,
 }
 
 impl Leaving {
-    /// Whether this does not pass a block: a finally suite, a call, and what it goes to.
+    /// Whether this leaving stops at a block: at a finally suite, at a call, and where it leads.
     pub fn concerns(self, block: Block) -> bool
         ensures { result ≡ concerns self block }
     {

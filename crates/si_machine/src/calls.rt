@@ -20,6 +20,7 @@ use si_plain::limits::MAX_CALLS;
 use si_plain::{Kind, NoMemory};
 
 impl State {
+    /// Puts the value of a local on the operands, or raises UnboundLocalError.
     pub fn load_local(&mut self, place: u32, slot: u32) -> Step
         requires next { self.old.pc + 1 < 2 ^ 64 }
         requires ready { IsReady self.old }
@@ -31,6 +32,7 @@ impl State {
         }
     }
 
+    /// Binds a local to the value on top.
     pub fn store_local(&mut self, place: u32) -> Step
         requires next { self.old.pc + 1 < 2 ^ 64 }
         requires ready { IsReady self.old }
@@ -44,6 +46,7 @@ impl State {
         self.advance()
     }
 
+    /// Unbinds a local.
     pub fn unbind_local(&mut self, place: u32) -> Step
         requires next { self.old.pc + 1 < 2 ^ 64 }
         requires ready { IsReady self.old }
@@ -53,6 +56,7 @@ impl State {
         self.advance()
     }
 
+    /// Calls what lies below so many arguments.
     pub fn call(&mut self, count: u32) -> Step
         requires next { self.old.pc + 1 < 2 ^ 64 }
         requires ready { IsReady self.old }
@@ -77,6 +81,7 @@ impl State {
     }
 
     // A call of a built-in.
+    #[inline(never)]
     fn call_provided(&mut self, function: BuiltIn, count: usize) -> Step
         requires next { self.old.pc + 1 < 2 ^ 64 }
         requires ready { IsReady self.old }
@@ -92,6 +97,7 @@ impl State {
     }
 
     // A call of `print`: what it prints is written aside first.
+    #[inline(never)]
     fn call_print(&mut self, count: usize) -> Step
         requires next { self.old.pc + 1 < 2 ^ 64 }
         requires ready { IsReady self.old }
@@ -116,6 +122,7 @@ impl State {
     }
 
     // A call of any other built-in.
+    #[inline(never)]
     fn call_built_in(&mut self, function: BuiltIn, count: usize) -> Step
         requires next { self.old.pc + 1 < 2 ^ 64 }
         requires ready { IsReady self.old }
@@ -143,6 +150,7 @@ impl State {
     }
 
     // A call of a kind: a new exception with an argument, or without one.
+    #[inline(never)]
     fn call_kind(&mut self, kind: Kind, count: usize) -> Step
         requires next { self.old.pc + 1 < 2 ^ 64 }
         requires ready { IsReady self.old }
@@ -177,6 +185,7 @@ impl State {
         }
     }
 
+    #[inline(never)]
     pub fn call_by_name(&mut self, count: u32) -> Step
         requires ready { IsReady self.old }
         requires open_line { IsOpen (line_of (machine.CallByName count) self.old) }
@@ -188,6 +197,7 @@ impl State {
         }
     }
 
+    /// Leaves the call with the value on top.
     pub fn return_value(&mut self) -> Step
         requires ready { IsReady self.old }
         requires open_line { IsOpen (line_of machine.DoReturn self.old) }

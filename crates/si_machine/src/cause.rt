@@ -12,14 +12,17 @@ use std::alloc::Global;
 /// Why an exception was raised. Its kind and its message follow from it.
 #[derive(Clone, Copy, Debug, PartialEq, Eq)]
 pub enum Cause {
-    /// An operation on integers gives no integer: the kind says why.
+    /// An operation on integers gives no integer, or a range would have the step 0: the kind says why.
     Arithmetic(Kind),
+    /// A text would be longer than a str may be (this project's own).
     TooLong,
+    /// An operation is given a value that it does not take.
     WrongType,
+    /// A call of what is no function, no kind and no built-in (Python Language Reference 3.14, 6.3.4).
     NotCallable,
     /// A call with arguments that do not fit what is called (Python Language Reference 3.14, 6.3.4).
     WrongArguments,
-    /// One call of own functions too many within each other (this project's own).
+    /// One call of own functions too many within each other, or one exception too many to be written (this project's own).
     TooDeep,
     /// A bare `raise` where no exception is active (Python Language Reference 3.14, 7.8).
     NoneActive,
@@ -32,7 +35,9 @@ pub enum Cause {
 /// Why an operation gives no value.
 #[derive(Clone, Copy, Debug, PartialEq, Eq)]
 pub enum Fault {
+    /// It raises an exception.
     Raises(Cause),
+    /// Memory was refused.
     NoMemory,
 }
 

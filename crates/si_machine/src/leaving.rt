@@ -15,6 +15,8 @@ use crate::written::message;
 use si_plain::Kind;
 
 impl State {
+    /// Raises NameError of a slot's name.
+    #[inline(never)]
     pub fn raise_not_defined(&mut self, slot: u32) -> Step
         requires ready { IsReady self.old }
         ensures raised { IsRaised (not_defined_cause self.old.table.names slot) self.old self.new result }
@@ -26,6 +28,8 @@ impl State {
         }
     }
 
+    /// Raises UnboundLocalError of a slot's name.
+    #[inline(never)]
     pub fn raise_not_bound(&mut self, slot: u32) -> Step
         requires ready { IsReady self.old }
         ensures raised { IsRaised (not_bound_cause self.old.table.names slot) self.old self.new result }
@@ -38,6 +42,7 @@ impl State {
     }
 
     /// An operation raises an exception.
+    #[inline(never)]
     pub fn raise(&mut self, cause: Cause) -> Step
         requires ready { IsReady self.old }
         ensures raised { IsRaised cause self.old self.new result }
@@ -46,6 +51,7 @@ impl State {
     }
 
     /// A new exception is raised.
+    #[inline(never)]
     pub fn raise_object(&mut self, object: Object) -> Step
         requires ready { IsReady self.old }
         requires fits { FitsObject (length self.old.texts) object }
@@ -66,6 +72,7 @@ impl State {
     }
 
     /// Leaves what was entered, to where this leaving comes.
+    #[inline(never)]
     pub fn leave_by(&mut self, leaving: Leaving) -> Step
         requires ready { IsReady self.old }
         requires fits { FitsLeaving (length self.old.texts) leaving }
@@ -81,6 +88,7 @@ impl State {
 
     /// Leaves what was entered by the exception at a place of the store: for the innermost except clauses or finally
     /// suite, also of a caller, else the run ends.
+    #[inline(never)]
     pub fn leave_raised(&mut self, place: usize) -> Step
         requires ready { IsReady self.old }
         ensures { Did (leave_line (Leaving.Raises place) self.old) self.old self.new result }
@@ -118,6 +126,7 @@ impl State {
 
     /// Leaves what was entered by `break`, `continue` or `return`: for the end or the start of the innermost loop, or the
     /// caller; a finally suite within it comes first.
+    #[inline(never)]
     pub fn leave_suite(&mut self, leaving: Leaving) -> Step
         requires ready { IsReady self.old }
         requires plain { IsPlain leaving }

@@ -5,15 +5,19 @@
 // the machine stands still, with nothing changed. Code that the compiler made never lacks an operand nor an
 // instruction, so there is no answer for that. A machine owns its code, its values and what was printed; two machines
 // share nothing. Values are small and are copied; texts lie in a vector of the machine's own and are named by their
-// places, and so do exceptions, which are never taken off again. What was entered and not left, bodies of loops, calls of
+// places, and so are exceptions: both only grow. What was entered and not left, bodies of loops, calls of
 // functions, the suites of a `try` and the items of a `for`, lies on a stack of its own, where `continue`, `break`,
 // `return` and an exception find where they go. The operands and the locals of all calls lie in one vector each.
 //
-// In reading order: `value` (values and globals), `cause` (why an exception was raised), `texts` (where the texts
-// lie), `operations` (operators and `str`), `comparisons` (truth and comparisons), `operands`, `slots` and `blocks` (the
-// three stacks), `first` (what a run knows as it begins), `step` (what a step did), `state` (what each instruction does),
-// `flow` (those of branches and loops), `calls` (those of calls and locals), `leaving` (how what was entered is left),
-// `tries` (the instructions of `try`, `raise` and `for`), `machine` (loading and stepping).
+// What is rare is kept out of the step by `inline(never)`, so that the rest of it is drawn into the loop of its caller.
+//
+// In reading order: `value` (values and objects), `cause` (why an exception was raised), `texts` (where the texts
+// lie), `operations` (operators), `ranges`, `comparisons` (truth and comparisons), `items` (what a `for` goes over),
+// `atoms` and `written` (`repr` and `str`), `print`, `provided` (calls of built-ins, and what a clause matches),
+// `operands`, `slots` and `blocks` (the three stacks), `first` (what a run knows as it begins), `step` (what a step
+// did), `state` (what each instruction does), `flow` (those of branches and loops), `calls` (those of calls and
+// locals), `leaving` (how what was entered is left), `tries` (the instructions of `try`, `raise` and `for`), `machine`
+// (loading and stepping).
 #![tactic(auto)]
 
 mod atoms;

@@ -37,7 +37,8 @@ impl Model for Machine {
 impl Machine {
     /// A machine with no code, that has printed nothing.
     pub fn new(alloc: Global) -> Machine
-        ensures { Stands result (start []) [] }
+        ensures stands { Stands result (start []) [] }
+        ensures untold { result.outcome ≡ life.Returned }
     {
         Machine {
             state: State::new(alloc),
@@ -49,6 +50,7 @@ impl Machine {
     pub fn load(&mut self, table: CodeTable, entry: Entry) -> Result<(), AllocFailed<CodeTable>>
         requires { IsEntry (table_of table, entry.at) }
         ensures ok { OnOk result (Stands self.new (run_at (table_of table, entry.at) first_world) []) }
+        ensures untold { OnOk result (self.new.outcome ≡ life.Returned) }
         ensures err { OnErr result (self.new ≡ self.old) }
         ensures comes_back { IfErr result (λ e. e.value ≡ table) }
     {
@@ -73,7 +75,7 @@ impl Machine {
         }
     }
 
-    /// What was printed, all of it.
+    /// What was printed since it was last taken.
     pub fn printed(&self) -> &str
         ensures { result.now ≡ self.now.printed }
     {

@@ -19,6 +19,7 @@ use si_plain::{
 use si_syntax::{BinaryOperator, UnaryOperator};
 
 /// An operator between two integers (Python Language Reference 3.14, 6.5 and 6.7 to 6.9).
+#[inline(always)]
 pub fn on_integers(operator: BinaryOperator, x: i64, y: i64) -> Result<i64, Kind>
     ensures { result ≡ operate_integers (binary_of operator) x y }
 {

@@ -18,6 +18,6 @@ pub enum Step {
     Local,
     /// One instruction, with which the run has ended.
     Ended,
-    /// Memory was refused. The machine stands still for good.
+    /// No instruction: memory was refused, or nothing runs. The machine stands still until the next `load`.
     Starved,
 }
