@@ -19,11 +19,6 @@ appended (Some x) None z a b f s = absurd f
 appended (Some x) (Some y) None a b f s = absurd s
 appended (Some x) (Some y) (Some z) a b f s = s ∙ ap (λ l. l ++ b) f ∙ append_assoc x a b
 
--- nothing is appended
-pub appended_nothing : (x : Option (List ℕ)) → Appends x x []
-appended_nothing None = tt
-appended_nothing (Some x) = sym (append-nil x)
-
 -- each character is ASCII
 abbrev all_ascii : List ℕ → Bool
 all_ascii [] = true

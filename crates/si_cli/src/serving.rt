@@ -107,14 +107,17 @@ fn decode(script: &[u8]) -> Result<&str, CliFault>
     }
 }
 
-/// The line, counted from 1, in which the byte at a place stands.
+/// The line, counted from 1, in which the byte at a place stands: CR LF is one line end, and so are LF and CR alone.
 fn line_of(bytes: &[u8], at: usize) -> usize {
     let before = bytes.get(..at).unwrap_or(bytes);
-    before
-        .iter()
-        .filter(|byte| **byte == b'\n')
-        .count()
-        .saturating_add(1)
+    let feeds = before.iter().filter(|byte| **byte == b'\n').count();
+    let returns = before.iter().filter(|byte| **byte == b'\r').count();
+    let pairs = before
+        .windows(2)
+        .filter(|pair| *pair == b"\r\n".as_slice())
+        .count();
+    let ends = feeds.saturating_add(returns).saturating_sub(pairs);
+    ends.saturating_add(1)
 }
 
 /// Passes on what a writer has kept back.

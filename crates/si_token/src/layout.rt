@@ -156,11 +156,24 @@ fn with_token<'a>(place: Place, kind: TokenKind, word: &'a str) -> (Option<Token
 {
     let next = Place {
         at: place.at + word.len(),
+        line: place.line + line_ends(word),
         begun: true,
         brackets: brackets_after(kind, place.brackets),
         ..place
     };
     (Some(token_at(place, kind, word)), next)
+}
+
+// How many line ends a word has: CR LF is one, and so are LF and CR alone.
+fn line_ends(word: &str) -> usize
+    ensures { result ≤ length word.now }
+{
+    let bytes = word.as_bytes();
+    let feeds = bytes.iter().filter(|byte| **byte == b'\n').count();
+    let returns = bytes.iter().filter(|byte| **byte == b'\r').count();
+    let pairs = word.matches("\r\n").count();
+    let ends = feeds.saturating_add(returns).saturating_sub(pairs);
+    ends.min(bytes.len())
 }
 
 // A line end makes a NEWLINE behind a token, and nothing inside brackets or in a line with no token.

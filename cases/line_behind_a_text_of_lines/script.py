@@ -1,0 +1,5 @@
+text = '''one
+two'''
+other = 'three\
+four'
+break
