@@ -1,12 +1,9 @@
 -- Tables that grow.
-use Rattle.std.proofs.Common.{◌≡◌, ◌≢◌, ℕ, ◌≤◌, length, sym, subst, arith}
-use Rattle.std.specs.Prelude.{AllPairs, All}
-use Rattle.std.proofs.lemmas.List.Elements.{All-weaker}
-use Rattle.si_plain.specs.Begins.{Begins}
-use Rattle.si_plain.proofs.Begins.{Begins-same, Begins-trans, length-Begins}
+use Rattle.std.proofs.Common.{ℕ, ◌≤◌, arith}
+use Rattle.si_plain.proofs.Begins.{Begins-same, Begins-trans}
 use Rattle.si_code.specs.declared.instr.Instr.{Instr}
 use Rattle.si_code.specs.declared.instr.Instr.TheVariants.{PushInt, PushNone, PushTruth, PushLiteral, LoadGlobal, StoreGlobal, LoadLocal, StoreLocal, PushFunction, Unary, Binary, Compare, KeepRight, EndChain, JumpOrDiscard, JumpIfFalse, Jump, EnterLoop, StartFor, NextItem, EnterTry, EnterFinally, LeaveBlock, StartFinally, EndFinally, TestClause, PushException, UnbindGlobal, UnbindLocal, Raise, RaiseAgain, Break, Continue, Call, CallByName, Return, Discard, Finish}
-use Rattle.si_code.specs.Contents.{Contents, IsSound, Resolves, Extends}
+use Rattle.si_code.specs.Contents.{Contents, Resolves, Extends}
 
 pub Extends-same : (c : Contents) → Extends c c
 Extends-same c = record { lines = Begins-same c.lines; literals = Begins-same c.literals; names = Begins-same c.names; routines = Begins-same c.routines }
@@ -58,11 +55,3 @@ resolves_more h k (CallByName n) r = r
 resolves_more h k Return r = r
 resolves_more h k Discard r = r
 resolves_more h k Finish r = r
-
--- more literals and names
-pub IsSound-more : (c d : Contents) → d.lines ≡ c.lines → Begins c.literals d.literals → Begins c.names d.names → AllPairs (λ x y. x ≢ y) d.names → IsSound c → IsSound d
-IsSound-more c d same literals names distinct h = record {
-  resolved = subst (All (Resolves (length d.literals) (length d.names))) (sym same)
-      (All-weaker _ _ (λ i r. resolves_more (length-Begins c.literals d.literals literals) (length-Begins c.names d.names names) i r) c.lines h.resolved);
-  distinct = distinct;
-}

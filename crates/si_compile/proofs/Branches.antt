@@ -66,9 +66,6 @@ Operands ls o es = operands_code ls o (exprs_of (map expr_of es))
 abbrev pub MakesAll : Contents → List ℕ → List machine.Instr → Contents → List machine.Instr → Type 0
 MakesAll t0 jumps all t1 rest = (end : Contents) (later : List ℕ) → Due t1 later rest end → Due t0 (jumps ++ later) all end
 
-pub MakesAll-nil : (t : Contents) (all : List machine.Instr) (jumps : List ℕ) → jumps ≡ [] → MakesAll t jumps all t all
-MakesAll-nil t all jumps none end later d = subst (λ js. Due t (js ++ later) all end) (sym none) d
-
 pub MakesAll-step : {t0 t1 t2 : Contents} (jumps more : List ℕ) (all rest others : List machine.Instr) (at : ℕ) → more ≡ jumps ++ at ∷ [] → ((end : Contents) (later : List ℕ) → Due t2 later others end → Due t1 (at ∷ later) rest end) → MakesAll t0 jumps all t1 rest → MakesAll t0 more all t2 others
 MakesAll-step {t0} {t1} {t2} jumps more all rest others at push step before end later d =
     subst (λ js. Due t0 js all end) (sym (ap (λ js. js ++ later) push ∙ append_assoc jumps (at ∷ []) later)) (before end (at ∷ later) (step end later d))

@@ -6,7 +6,6 @@ use Rattle.si_semantics.specs.Tree as tree
 use Rattle.si_semantics.specs.Tree.{functions_of, functions_in}
 use Rattle.si_semantics.specs.Machine as machine
 use Rattle.si_semantics.specs.Grammar.{exprs_of}
-use Rattle.si_semantics.specs.Scope.{place_of}
 use Rattle.si_syntax.specs.declared.operators.BinaryOperator.{BinaryOperator}
 use Rattle.si_syntax.specs.declared.operators.UnaryOperator.{UnaryOperator}
 use Rattle.si_syntax.specs.declared.expr.Expr.{Expr}
@@ -15,13 +14,9 @@ use Rattle.si_syntax.specs.declared.expr.Expr.TheOpen.{Expr-F}
 use Rattle.si_syntax.specs.declared.expr.Expr.TheVariants.{rolls-Unary, rolls-Binary, rolls-Call}
 use Rattle.si_syntax.specs.declared.expr.Expr.TheViews as views
 use Rattle.si_syntax.specs.declared.stmt.Stmt.{Stmt}
-use Rattle.si_syntax.specs.declared.stmt.Stmt.TheFolds.{fold-roll-Stmt}
-use Rattle.si_syntax.specs.declared.stmt.Stmt.TheOpen.{Stmt-F}
-use Rattle.si_syntax.specs.declared.stmt.Stmt.TheVariants.{Evaluate, Assign, Augment, rolls-Evaluate, rolls-Assign, rolls-Augment, rolls-Define}
-use Rattle.si_syntax.specs.declared.stmt.Stmt.TheViews as stmt_views
-use Rattle.si_syntax.specs.Trees.{binary_of, unary_of, expr_of, stmt_of, stmt_step, body_of, view_step}
+use Rattle.si_syntax.specs.Trees.{binary_of, unary_of, expr_of, stmt_of, body_of, view_step}
 use Rattle.si_syntax.proofs.Rows.{rest_is}
-use Rattle.si_compile.specs.Code.{count, call_code, expr_code, exprs_code, load_code, stmt_code, stmts_code, store_code}
+use Rattle.si_compile.specs.Code.{count, call_code, expr_code, exprs_code, stmt_code, stmts_code}
 use Rattle.si_code.specs.Contents.{Contents}
 use Rattle.si_code.specs.Views.{Gains}
 use Rattle.si_code.proofs.Codes.{Gains-nil, Gains-append}

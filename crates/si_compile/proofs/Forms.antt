@@ -1,5 +1,5 @@
 -- The forms with jumps: what is emitted for a tree's parts is what the tree's code is.
-use Rattle.std.proofs.Common.{◌≡◌, ℕ, ◌+◌, ◌-◌, ◌<◌, ◌≤◌, List, [], ◌∷◌, ◌++◌, map, length, drop, get_or, Box, Vec, Global, refl, sym, ap, subst, ◌∙◌, length-append, append-nil, arith}
+use Rattle.std.proofs.Common.{◌≡◌, ℕ, ◌+◌, ◌<◌, ◌≤◌, List, [], ◌∷◌, ◌++◌, map, length, drop, get_or, Box, Vec, Global, refl, sym, ap, subst, ◌∙◌, length-append, append-nil, arith}
 use Rattle.std.specs.List.{AllByRecursion}
 use Rattle.std.proofs.lemmas.List.{drop_all}
 use Rattle.si_semantics.specs.Value.{Text}
@@ -16,11 +16,7 @@ use Rattle.si_syntax.specs.declared.expr.Expr.TheOpen.{Expr-F}
 use Rattle.si_syntax.specs.declared.expr.Expr.TheVariants.{rolls-Boolean, rolls-Compare, rolls-Conditional}
 use Rattle.si_syntax.specs.declared.expr.Expr.TheViews as views
 use Rattle.si_syntax.specs.declared.stmt.Stmt.{Stmt}
-use Rattle.si_syntax.specs.declared.stmt.Stmt.TheFolds.{fold-roll-Stmt}
-use Rattle.si_syntax.specs.declared.stmt.Stmt.TheOpen.{Stmt-F}
-use Rattle.si_syntax.specs.declared.stmt.Stmt.TheVariants.{rolls-If, rolls-While}
-use Rattle.si_syntax.specs.declared.stmt.Stmt.TheViews as stmt_views
-use Rattle.si_syntax.specs.Trees.{boolean_of, body_of, comparison_of, expr_of, stmt_of, stmt_step, view_step, link_of, elif_of}
+use Rattle.si_syntax.specs.Trees.{boolean_of, body_of, comparison_of, expr_of, view_step, link_of, elif_of}
 use Rattle.si_compile.specs.Code.{expr_code, operands_code, chain_code, stmt_code, stmts_code, store_code}
 use Rattle.si_code.specs.Contents.{Contents, Extends}
 use Rattle.si_code.specs.Jumps.{Due, Aims}

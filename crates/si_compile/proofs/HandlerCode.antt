@@ -12,10 +12,9 @@ use Rattle.si_syntax.specs.Trees.{body_of, clause_of}
 use Rattle.si_syntax.proofs.Rows.{rest_is}
 use Rattle.si_compile.specs.Code.{expr_code, stmt_code, stmts_code, finally_code, named_code, store_code, unbind_code, clause_code, clauses_code, try_code}
 use Rattle.si_compile.specs.Jumps.{clause_front, only_finally, tried}
-use Rattle.si_code.specs.Contents.{Contents, Extends}
+use Rattle.si_code.specs.Contents.{Contents}
 use Rattle.si_code.specs.Jumps.{Due, Aims}
 use Rattle.si_code.specs.Views.{Gains}
-use Rattle.si_plain.proofs.Begins.{length-Begins}
 use Rattle.si_code.proofs.Codes.{Gains-append}
 use Rattle.si_code.proofs.Jumped.{length_gained, Due-jump}
 use Rattle.si_compile.proofs.Branches.{MakesAll, MakesAll-end}
@@ -150,12 +149,6 @@ tried_gains {t0} {t1} {t2} {t3} {t4} {t5} {t6} {t7} {t8} body handlers last ente
     let others = handlers ++ (Jump (length last) ∷ last) in
     subst (Gains t0 t8) (append_assoc front (jump ∷ handlers) (Jump (length last) ∷ last) ∙ ap (λ l. first ∷ l) (append_assoc body (LeaveBlock ∷ []) (jump ∷ others)))
     (aim_end t0 before last (Jump 0) whole at_end)
-
--- what stood in front of the suite's start stands still
-pub skips_stays : {front seen old new : Contents} {enter : ℕ} → ((c : Contents) → length c.lines ≤ enter → Extends c old → Extends c new) → enter ≡ length seen.lines → Extends front seen → Extends front old → Extends front new
-skips_stays {front} {seen} {old} {new} {enter} keeps here before all =
-    let behind : length front.lines ≤ enter = omega (arith, here, length-Begins front.lines seen.lines before.lines) in
-    keeps front behind all
 
 -- a `try` of its parts; the functions of each are numbered behind those of the parts in front
 pub tried_stmt : {t0 t1 : Contents} (ls : List Text) (first then now : ℕ) (t : tree.Stmt) (ss ends : List Stmt) (cs : List Handler) → t ≡ tree.Try (body_of ss) (clauses_of (map clause_of cs)) (body_of ends)

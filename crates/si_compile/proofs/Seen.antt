@@ -5,13 +5,12 @@ use Rattle.si_semantics.specs.Tree as tree
 use Rattle.si_semantics.specs.Tree.{functions_of}
 use Rattle.si_semantics.specs.Grammar.{elifs_of, clauses_of}
 use Rattle.si_syntax.specs.declared.expr.Expr.{Expr}
-use Rattle.si_syntax.specs.declared.operators.BinaryOperator.{BinaryOperator}
 use Rattle.si_syntax.specs.declared.stmt.Stmt.{Stmt}
 use Rattle.si_syntax.specs.declared.stmt.Stmt.TheFolds.{fold-roll-Stmt}
 use Rattle.si_syntax.specs.declared.stmt.Stmt.TheOpen.{Stmt-F}
-use Rattle.si_syntax.specs.declared.stmt.Stmt.TheVariants.{Evaluate, Assign, Augment, rolls-Evaluate, rolls-Assign, rolls-Augment, rolls-While, rolls-For, rolls-Define}
+use Rattle.si_syntax.specs.declared.stmt.Stmt.TheVariants.{rolls-While, rolls-For, rolls-Define}
 use Rattle.si_syntax.specs.declared.stmt.Stmt.TheViews as views
-use Rattle.si_syntax.specs.Trees.{binary_of, expr_of, stmt_of, stmt_step, body_of, elif_of, clause_of}
+use Rattle.si_syntax.specs.Trees.{expr_of, stmt_of, stmt_step, body_of, elif_of, clause_of}
 use Rattle.si_syntax.proofs.Forms.{if_is, try_is, finally_is}
 use Rattle.si_code.specs.Contents.{Contents}
 use Rattle.si_code.specs.Views.{Gains}
@@ -30,16 +29,6 @@ tree_gains {t0} {t1} ls first t u same h = subst (λ x. Gains t0 t1 (stmt_code l
 
 pub tree_number : (now first : ℕ) (t u : tree.Stmt) → t ≡ u → now ≡ first + length (functions_of u) → now ≡ first + length (functions_of t)
 tree_number now first t u same h = subst (λ x. now ≡ first + length (functions_of x)) (sym same) h
-
-pub evaluate_seen : (e : Expr) (s : Stmt) → s ≡ Evaluate e → stmt_of s ≡ tree.Evaluate (expr_of e)
-evaluate_seen e s is = ap stmt_of (is ∙ sym (rolls-Evaluate e)) ∙ fold-roll-Stmt tree.Stmt stmt_step (Stmt-F.Evaluate e)
-
-pub assign_seen : (x : String Global) (e : Expr) (name : Text) (s : Stmt) → s ≡ Assign x e → name ≡ string_bytes x → stmt_of s ≡ tree.Assign name (expr_of e)
-assign_seen x e name s is named = ap stmt_of (is ∙ sym (rolls-Assign x e)) ∙ fold-roll-Stmt tree.Stmt stmt_step (Stmt-F.Assign x e) ∙ ap (λ y. tree.Assign y (expr_of e)) (sym named)
-
-pub augment_seen : (x : String Global) (o : BinaryOperator) (e : Expr) (name : Text) (s : Stmt) → s ≡ Augment x o e → name ≡ string_bytes x → stmt_of s ≡ tree.Augment name (binary_of o) (expr_of e)
-augment_seen x o e name s is named =
-    ap stmt_of (is ∙ sym (rolls-Augment x o e)) ∙ fold-roll-Stmt tree.Stmt stmt_step (Stmt-F.Augment x o e) ∙ ap (λ y. tree.Augment y (binary_of o) (expr_of e)) (sym named)
 
 pub if_seen : (test : Expr) (body : Vec Stmt Global) (elifs : Vec Tested Global) (last : Vec Stmt Global) (ss ends : List Stmt) (bs : List Tested) (s : Stmt)
     → s ≡ views.If test body elifs last → ss ≡ body.items → bs ≡ elifs.items → ends ≡ last.items → stmt_of s ≡ tree.If (expr_of test) (body_of ss) (elifs_of (map elif_of bs) (body_of ends))

@@ -4,8 +4,9 @@
 // code and the functions that specs/Code.antt gives the tree behind it; or memory was refused, and the table is as it
 // was. What such code does when a machine runs it, `laws` says: what the script means.
 //
-// In reading order: `emit`, the code of each form of tree; `script`, the code of a whole script, functions first;
-// `laws`. specs/Jumps.antt and specs/Functions.antt are for the proofs alone.
+// In reading order: `emit`, the code of each statement; `expression`, `loops` and `handlers`, that of expressions, of loops
+// and of `try`; `script`, the code of a whole script, functions first; `laws`, which specs/Correct.antt and
+// specs/Interpreter.antt state. specs/Jumps.antt and specs/Functions.antt are for the proofs alone.
 #![tactic(auto)]
 
 pub mod emit;

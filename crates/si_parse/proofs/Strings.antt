@@ -1,21 +1,14 @@
 -- What one str literal more does.
-use Rattle.std.proofs.Common.{◌≡◌, ℕ, List, ◌∷◌, ◌++◌, Some, refl, sym, ap, ◌∙◌, subst}
+use Rattle.std.proofs.Common.{◌≡◌, ℕ, List, ◌∷◌, ◌++◌, Some, refl, ap, ◌∙◌}
 use Rattle.si_semantics.specs.Grammar.{Terminal, terminal, value_of_str}
 use Rattle.si_token.specs.declared.token.TokenKind.{TokenKind}
 use Rattle.si_token.specs.declared.token.TokenKind.TheVariants as kind
-use Rattle.si_parse.specs.declared.fault.ParseFault.{ParseFault}
-use Rattle.si_parse.specs.declared.fault.ParseFault.TheVariants.{Syntax, NoMemory}
 use Rattle.si_token.specs.Views.{kind_of}
 use Rattle.si_parse.specs.Reading.{strings_by, then_read}
-use Rattle.si_parse.specs.Gives.{Fails}
 
 other : (text : List ℕ) (k : TokenKind) (bytes : List ℕ) (rest : List Terminal) → (k ≡ kind.Str → ⊥) → strings_by text (terminal (kind_of k) bytes ∷ rest) ≡ Some (text, terminal (kind_of k) bytes ∷ rest)
 other text kind.Str bytes rest differs = absurd (differs refl)
 other text _ bytes rest differs = refl
-
--- no str literal stands first
-pub strings_stop : (text : List ℕ) (k : TokenKind) (bytes : List ℕ) (rest ts : List Terminal) → (k ≡ kind.Str → ⊥) → ts ≡ terminal (kind_of k) bytes ∷ rest → strings_by text ts ≡ Some (text, ts)
-strings_stop text k bytes rest ts differs is = let P : List Terminal → Type 0 = λ l. strings_by text l ≡ Some (text, l) in subst P (sym is) (other text k bytes rest differs)
 
 module _ (text : List ℕ) (k : TokenKind) (bytes : List ℕ) (rest ts : List Terminal) (str : k ≡ kind.Str) (is : ts ≡ terminal (kind_of k) bytes ∷ rest) where
   turn : strings_by text ts ≡ then_read (value_of_str bytes) (λ s. strings_by (text ++ s) rest)
@@ -23,7 +16,3 @@ module _ (text : List ℕ) (k : TokenKind) (bytes : List ℕ) (rest ts : List Te
 
   pub strings_on : (s : List ℕ) → value_of_str bytes ≡ Some s → strings_by text ts ≡ strings_by (text ++ s) rest
   strings_on s h = turn ∙ ap (λ o. then_read o (λ s. strings_by (text ++ s) rest)) h
-
-  pub strings_fail : (f : ParseFault) → Fails f (value_of_str bytes) → Fails f (strings_by text ts)
-  strings_fail NoMemory h = tt
-  strings_fail (Syntax line) h = turn ∙ ap (λ o. then_read o (λ s. strings_by (text ++ s) rest)) h

@@ -1,13 +1,13 @@
 -- What one turn of a loop does.
 use Rattle.std.proofs.Common.{◌≡◌, ℕ, ◌+◌, ◌-◌, ◌<◌, ◌≤◌, List, [], ◌∷◌, ◌++◌, max, length, Option, Some, None, refl, sym, ap, ◌∙◌, subst, arith}
-use Rattle.std.specs.Prelude.{not, nat_lt, Bool, true, false, if◌then◌else◌}
+use Rattle.std.specs.Prelude.{nat_lt, Bool, true, false, if◌then◌else◌}
 use Rattle.std.proofs.lemmas.Bool.Decides.{nat_tests}
 use Rattle.si_semantics.specs.Value.{Text}
 use Rattle.si_semantics.specs.Tree.{Expr, Stmt, Stmts, Try}
 use Rattle.si_semantics.specs.Grammar.{Terminal, DEDENT, Branch, stmts_of, Clause, clauses_of}
 use Rattle.si_parse.specs.declared.fault.ParseFault.{ParseFault}
 use Rattle.si_parse.specs.declared.fault.ParseFault.TheVariants.{Syntax, NoMemory}
-use Rattle.si_parse.specs.Reading.{Parser, Step, Continuation, strength_of, then_read, strength_at, continuation_at, closing, behind_item, separated_by, chain_from, chain_by, Parsed, many_by, extended_by, continued_by, rest_of, is_none, is_dedent, after_comma, name_at, and_name, next_name_by, Header, header_at, after_elif, after_dedent, LineParser, with_branch, branch_by, elif_by, otherwise_by, suite_by, after_finally, handlers_by, finally_from, try_by, after_catch, with_clause, clause_by, catch_by, handled_from, tried, indented_by, compound_by, with_compound, block_from, block_at}
+use Rattle.si_parse.specs.Reading.{Parser, Step, Continuation, strength_of, then_read, strength_at, continuation_at, closing, behind_item, separated_by, chain_from, chain_by, Parsed, many_by, extended_by, continued_by, rest_of, after_comma, name_at, and_name, next_name_by, Header, header_at, after_elif, after_dedent, LineParser, with_branch, branch_by, elif_by, otherwise_by, suite_by, after_finally, handlers_by, finally_from, try_by, after_catch, with_clause, clause_by, catch_by, handled_from, tried, compound_by, with_compound, block_from, block_at}
 use Rattle.si_parse.specs.Gives.{Fails}
 use Rattle.si_parse.proofs.Steps.{continued_by_step, separated_by_step, chain_by_step, many_by_step, block_at_step}
 
@@ -97,10 +97,6 @@ module _ {R B : Type 0} (add : B → R → B) (rest : R → List Terminal) (item
         ∙ ap (λ o. behind_item (separated_by add rest item separator close j) (add b r) o (separator (rest r))) h
         ∙ ap (λ o. behind_item (separated_by add rest item separator close j) (add b r) None o) i
 
-module _ {B : Type 0} (item : B → List Terminal → Option (B × List Terminal)) (ends : List Terminal → Bool) (k : ℕ) (b : B) (ts : List Terminal) where
-  pub many_ends : 0 < k → ends ts ≡ true → many_by item ends k b ts ≡ Some (b, ts)
-  many_ends positive h = many_by_step item ends k b ts positive ∙ ap (λ t. if t then Some (b, ts) else then_read (item b ts) (λ r. many_by item ends (k - 1) r.0 r.1)) h
-
 -- a compound statement behind its word
 pub block_compound : (n : ℕ) (body : List Stmt) (ts rest : List Terminal) (word : Header) (s : Stmt) (more : List Terminal) → 0 < n → header_at ts ≡ Some (word, rest) → compound_by (block_at (n - 1)) word rest ≡ Some (s, more)
     → block_at n body ts ≡ Some (body ++ s ∷ [], more)
@@ -146,12 +142,6 @@ dedent_rest [] rest h = cc
 dedent_rest (DEDENT ∷ ts) rest h = cc
 dedent_rest (_ ∷ ts) rest h = cc
 
-pub indented_read : (line : LineParser) (ts : List Terminal) (body : List Stmt) (last rest : List Terminal) → after_dedent ts ≡ None → many_by line is_dedent (length ts) [] ts ≡ Some (body, last) → after_dedent last ≡ Some rest → indented_by line ts ≡ Some (body, rest)
-indented_read line ts body last rest inside h over =
-    ap (λ o. if not (is_none o) then None else then_read (many_by line is_dedent (length ts) [] ts) (λ r. Some (r.0, rest_of r.1))) inside
-    ∙ ap (λ o. then_read o (λ r. Some (r.0, rest_of r.1))) h
-    ∙ ap (λ t. Some (body, t)) (dedent_rest last rest over)
-
 module _ {B : Type 0} (item : B → List Terminal → Option (B × List Terminal)) (ends : List Terminal → Bool) (k j : ℕ) (b : B) (ts : List Terminal) (one : k ≡ j + 1) (more : ends ts ≡ false) where
   many_turn : many_by item ends k b ts ≡ then_read (item b ts) (λ r. many_by item ends j r.0 r.1)
   many_turn =
@@ -162,7 +152,3 @@ module _ {B : Type 0} (item : B → List Terminal → Option (B × List Terminal
 
   pub many_on : (c : B) (rest : List Terminal) → item b ts ≡ Some (c, rest) → many_by item ends k b ts ≡ many_by item ends j c rest
   many_on c rest h = many_turn ∙ ap (λ r. then_read r (λ r. many_by item ends j r.0 r.1)) h
-
-  pub many_fails : (f : ParseFault) → Fails f (item b ts) → Fails f (many_by item ends k b ts)
-  many_fails NoMemory h = tt
-  many_fails (Syntax line) h = many_turn ∙ ap (λ r. then_read r (λ r. many_by item ends j r.0 r.1)) h
