@@ -1,0 +1,3 @@
+text = 'abcdefgh' * 131072
+print(text, text, 7, text)
+print('after')

@@ -1,0 +1,2 @@
+for k in range(200000):
+    print('line', k)
