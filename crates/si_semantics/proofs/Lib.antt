@@ -11,3 +11,4 @@ pub mod WorkedLiterals
 pub mod Scoped
 pub mod WorkedLayout
 pub mod KindsAbove
+pub mod WorkedParcels

@@ -18,6 +18,9 @@ pub mod FinallyCases
 pub mod ItemCases
 pub mod ScopeCases
 pub mod Laws
+pub mod Parcels
+pub mod Actions
+pub mod ParcelCases
 pub mod Literals
 pub mod LiteralCases
 pub mod Grammar
