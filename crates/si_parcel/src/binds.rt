@@ -1,0 +1,88 @@
+// Names with their parcels.
+
+ghost use Rattle.std.specs.Prelude.{◌≡◌, ◌↔◌, IfOk, IsTrue};
+
+use crate::parcel::Parcel;
+use si_plain::Text;
+use std::alloc::{AllocError, Global};
+use std::marker::Model;
+
+/// Names to bind, each with its parcel, in order. A contract sees the list of the pairs.
+#[derive(Drop)]
+pub struct Binds {
+    pairs: Vec<(Text, Parcel)>,
+}
+
+impl Model for Binds {
+    ghost use Rattle.std.specs.Prelude.{ℕ, List};
+    ghost use Rattle.std.specs.Coded.{coded×, coded_ℕ, coded_list};
+    ghost use Rattle.si_semantics.specs.Parcels.{Tree};
+    ghost use Rattle.si_parcel.specs.TreeCode.{tree_code};
+
+    ghost Value = { List (List ℕ × Tree) };
+
+    ghost coded = { coded_list (coded× (coded_list coded_ℕ) tree_code) };
+
+    ghost view = { λ b. b.pairs.items };
+}
+
+impl Binds {
+    /// These pairs.
+    pub fn new(pairs: Vec<(Text, Parcel)>) -> Binds
+        ensures { result ≡ pairs.items }
+    {
+        Binds { pairs }
+    }
+
+    /// Its pairs.
+    pub fn as_slice(&self) -> &[(Text, Parcel)]
+        ensures { result.now ≡ self.now }
+    {
+        self.pairs.as_slice()
+    }
+
+    /// Its pairs, given back.
+    pub fn into_pairs(self) -> Vec<(Text, Parcel)>
+        ensures { result.items ≡ self }
+    {
+        self.pairs
+    }
+
+    /// The same pairs again. `AllocError` where memory is refused.
+    pub fn clone_binds(&self, alloc: Global) -> Result<Binds, AllocError>
+        ensures { IfOk result (λ b. b ≡ self.now) }
+    {
+        let mut pairs = Vec::with_capacity(alloc, self.pairs.len())?;
+        'pairs: for (name, parcel) in &self.pairs {
+            let name = name.clone()?;
+            let parcel = parcel.clone_parcel(alloc)?;
+            pairs.push((name, parcel))?;
+        }
+        Ok(Binds { pairs })
+    }
+
+    /// Whether the two are the same pairs in the same order.
+    pub fn same(&self, other: &Binds) -> bool
+        ensures { IsTrue result ↔ (self.now ≡ other.now) }
+    {
+        let pairs = self.pairs.as_slice();
+        let others = other.pairs.as_slice();
+        let len = pairs.len();
+        if len != others.len() {
+            return false;
+        }
+        'pairs: for i in 0..len {
+            if !same_pair(&pairs[i], &others[i]) {
+                return false;
+            }
+        }
+        true
+    }
+}
+
+// Whether two names and their parcels are the same.
+fn same_pair(pair: &(Text, Parcel), other: &(Text, Parcel)) -> bool
+    ensures { IsTrue result ↔ (pair.now ≡ other.now) }
+{
+    pair.0 == other.0 && pair.1.same(&other.1)
+}

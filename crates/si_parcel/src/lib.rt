@@ -1,0 +1,30 @@
+// What interpreters send to each other, and what they ask of what they share.
+//
+// Each value stands for pure data of `si_semantics`: a `Parcel` for a tree (`Parcels`), an `Action` and an `Answer` for
+// those of `Actions`. A contract sees a parcel as its tree alone; specs/Shared.antt says for which action a value stands.
+//
+// In reading order: `octets` (a row of bytes), `atom` (what has no parts), `parcel` and `top` (one level of it), `binds`
+// and `ids` (lists in actions and answers), `outcome`, `job`, `action`, `answer`.
+#![tactic(auto)]
+
+pub mod action;
+pub mod answer;
+pub mod atom;
+pub mod binds;
+pub mod ids;
+pub mod job;
+pub mod octets;
+pub mod outcome;
+pub mod parcel;
+pub mod top;
+
+pub use action::Action;
+pub use answer::Answer;
+pub use atom::Atom;
+pub use binds::Binds;
+pub use ids::Ids;
+pub use job::Job;
+pub use octets::Octets;
+pub use outcome::Outcome;
+pub use parcel::Parcel;
+pub use top::Top;

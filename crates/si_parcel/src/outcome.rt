@@ -1,0 +1,44 @@
+// How a run ended.
+
+ghost use Rattle.std.specs.Prelude.{◌≡◌, ◌↔◌, true, IfOk, IsOk, IsTrue};
+
+use si_plain::{Kind, Text};
+use std::alloc::AllocError;
+
+/// How a run ended.
+#[derive(Debug, Drop)]
+pub enum Outcome {
+    /// At its end.
+    Returned,
+    /// Left by an exception of this kind with this message.
+    Raised(Kind, Text),
+}
+
+impl Outcome {
+    ghost use Rattle.si_parcel.specs.Shared.{outcome_of};
+    ghost use Rattle.si_parcel.specs.Bare.{is_bare_outcome};
+
+    /// The same outcome again. `AllocError` where memory is refused; `Returned` takes none.
+    pub fn clone_outcome(&self) -> Result<Outcome, AllocError>
+        ensures same { IfOk result (λ o. o ≡ self.now) }
+        ensures no_memory { is_bare_outcome (outcome_of self.now) ≡ true → IsOk result }
+    {
+        match self {
+            Outcome::Returned => Ok(Outcome::Returned),
+            Outcome::Raised(kind, message) => Ok(Outcome::Raised(*kind, message.clone()?)),
+        }
+    }
+
+    /// Whether the two are the same.
+    pub fn same(&self, other: &Outcome) -> bool
+        ensures { IsTrue result ↔ (self.now ≡ other.now) }
+    {
+        match (self, other) {
+            (Outcome::Returned, Outcome::Returned) => true,
+            (Outcome::Raised(kind, message), Outcome::Raised(other, text)) => {
+                *kind == *other && message == text
+            }
+            _ => false,
+        }
+    }
+}

@@ -1,0 +1,269 @@
+// A parcel: a value on its way from one interpreter to another.
+
+ghost use Rattle.std.specs.Prelude.{◌≡◌, ◌↔◌, ◌++◌, ◌≤◌, length, IsTrue, IfOk, OnOk, IfSome, IsSome, string_bytes, encode_utf8_all};
+ghost use Rattle.si_semantics.specs.Parcels.{Leaf, tuple_of, size_of, levels_of, length_of, IsParcel, shown, separator, closing};
+ghost use Rattle.si_semantics.specs.Parcels as tree;
+ghost use Rattle.si_parcel.specs.Atoms.{atom_of};
+ghost use Rattle.si_parcel.specs.Tops.{tree_of_top};
+
+use crate::atom::Atom;
+use crate::octets::Octets;
+use crate::top::Top;
+use si_plain::Text;
+use si_plain::limits::MAX_STR_LENGTH;
+use std::alloc::{AllocError, Global};
+use std::marker::Model;
+
+/// The most values of a parcel: an atom counts 1, a tuple 1 and its items.
+pub const MAX_SIZE: u32 = 65_536;
+
+/// The most levels of a parcel: an atom has none, a tuple one more than its deepest item.
+pub const MAX_LEVELS: u8 = 200;
+
+/// A copy of a shareable value (PEP 734, "Shareable Objects"), owned: atoms, and tuples of parcels. A contract sees the
+/// tree alone. It has at most 65,536 values and 200 levels, and each str and bytes in it at most 1,048,576 items.
+#[cycle(parcel)]
+#[derive(Drop)]
+pub struct Parcel {
+    node: Node,
+    size: u32,
+    levels: u8,
+}
+
+#[cycle(parcel)]
+#[derive(Drop)]
+enum Node {
+    Leaf(Atom),
+    Tuple(Vec<Parcel>),
+}
+
+impl Model for Parcel {
+    ghost use Rattle.si_semantics.specs.Parcels.{Tree, size_of};
+    ghost use Rattle.si_parcel.specs.TreeCode.{tree_code};
+
+    ghost Value = { Tree };
+
+    ghost coded = { tree_code };
+
+    ghost use Rattle.si_parcel.specs.Views.{tree_of_node, IsKept};
+
+    ghost view = { λ a. tree_of_node a.node };
+
+    ghost invariant = { IsKept };
+
+    ghost size = { size_of };
+
+    ghost use Rattle.si_parcel.specs.Depths.{depth_le-size};
+
+    ghost size_decreases = { λ a h. depth_le-size a.node };
+}
+
+impl Parcel {
+    /// None.
+    pub fn none() -> Parcel
+        ensures { result ≡ Leaf tree.Nothing }
+    {
+        Parcel::short_atom(Atom::Nothing)
+    }
+
+    /// True or False.
+    pub fn truth(truth: bool) -> Parcel
+        ensures { result ≡ Leaf (tree.Truth truth) }
+    {
+        Parcel::short_atom(Atom::Truth(truth))
+    }
+
+    /// An int.
+    pub fn int(int: i64) -> Parcel
+        ensures { result ≡ Leaf (tree.Int int) }
+    {
+        Parcel::short_atom(Atom::Int(int))
+    }
+
+    /// The queue of this number, which holds at most `maxsize` items, or any number if that is 0.
+    pub fn queue(id: u32, maxsize: u64) -> Parcel
+        ensures { result ≡ Leaf (tree.Queue id maxsize) }
+    {
+        Parcel::short_atom(Atom::Queue(id, maxsize))
+    }
+
+    /// A str. `None` where it has more than 1,048,576 characters.
+    pub fn str(text: Text) -> Option<Parcel>
+        ensures str { IfSome result (λ p. p ≡ Leaf (tree.Str text)) }
+        ensures short { IsSome result ↔ (length text ≤ 1048576) }
+    {
+        if text.len() > MAX_STR_LENGTH {
+            return None;
+        }
+        Some(Parcel::short_atom(Atom::Str(text)))
+    }
+
+    /// A bytes. `None` where it has more than 1,048,576 bytes.
+    pub fn bytes(bytes: Octets) -> Option<Parcel>
+        ensures bytes { IfSome result (λ p. p ≡ Leaf (tree.Bytes bytes)) }
+        ensures short { IsSome result ↔ (length bytes ≤ 1048576) }
+    {
+        if bytes.as_slice().len() > MAX_STR_LENGTH {
+            return None;
+        }
+        Some(Parcel::short_atom(Atom::Bytes(bytes)))
+    }
+
+    /// A tuple of these items. `None` where it would have more than 65,536 values, or more than 200 levels.
+    pub fn tuple(items: Vec<Parcel>) -> Option<Parcel>
+        ensures tuple { IfSome result (λ p. p ≡ tuple_of items.items) }
+        ensures small { IsSome result ↔ IsParcel (tuple_of items.items) }
+    {
+        let mut size = 1;
+        let mut levels = 0;
+        'items: for item in &items {
+            item.facts();
+            if item.size() > MAX_SIZE - size || item.levels() == MAX_LEVELS {
+                return None;
+            }
+            size += item.size();
+            if levels < item.levels() {
+                levels = item.levels();
+            }
+        }
+        Some(Parcel {
+            node: Node::Tuple(items),
+            size,
+            levels: levels + 1,
+        })
+    }
+
+    // One atom, which is not too long.
+    fn short_atom(atom: Atom) -> Parcel
+        requires { length_of (atom_of atom) ≤ 1048576 }
+        ensures { result ≡ Leaf (atom_of atom) }
+    {
+        Parcel {
+            node: Node::Leaf(atom),
+            size: 1,
+            levels: 0,
+        }
+    }
+
+    /// How many values it has: an atom counts 1, a tuple 1 and its items.
+    pub fn size(&self) -> u32
+        ensures { result ≡ size_of self.now }
+    {
+        self.size
+    }
+
+    /// How deep its tuples lie within each other: 0 for an atom, 1 for `()`.
+    pub fn levels(&self) -> u8
+        ensures { result ≡ levels_of self.now }
+    {
+        self.levels
+    }
+
+    /// Its atom or its items.
+    pub fn top(&self) -> Top<'_>
+        ensures { tree_of_top result ≡ self.now }
+    {
+        match &self.node {
+            Node::Leaf(atom) => Top::Atom(atom),
+            Node::Tuple(items) => Top::Tuple(items.as_slice()),
+        }
+    }
+
+    /// It is within the limits. Costs nothing.
+    pub fn facts(&self)
+        ensures { IsParcel self.now }
+    {
+        let _ = &self.node;
+    }
+
+    /// The same tree again. `AllocError` where memory is refused.
+    pub fn clone_parcel(&self, alloc: Global) -> Result<Parcel, AllocError>
+        ensures { IfOk result (λ p. p ≡ self.now) }
+    {
+        let size = self.size;
+        let levels = self.levels;
+        match &self.node {
+            Node::Leaf(atom) => {
+                let node = Node::Leaf(atom.clone_atom()?);
+                Ok(Parcel { node, size, levels })
+            }
+            Node::Tuple(items) => {
+                let mut copies = Vec::with_capacity(alloc, items.len())?;
+                'copies: for item in items {
+                    let copy = item.clone_parcel(alloc)?;
+                    copies.push(copy)?;
+                }
+                let node = Node::Tuple(copies);
+                Ok(Parcel { node, size, levels })
+            }
+        }
+    }
+
+    /// Whether the two are the same tree: True is never 1.
+    pub fn same(&self, other: &Parcel) -> bool
+        ensures { IsTrue result ↔ (self.now ≡ other.now) }
+    {
+        match (&self.node, &other.node) {
+            (Node::Leaf(atom), Node::Leaf(other)) => atom.same(other),
+            (Node::Tuple(items), Node::Tuple(others)) => {
+                let len = items.len();
+                if len != others.len() {
+                    return false;
+                }
+                'items: for i in 0..len {
+                    if !items[i].same(&others[i]) {
+                        return false;
+                    }
+                }
+                true
+            }
+            _ => false,
+        }
+    }
+
+    /// Its `repr` (Python Standard Library 3.14, "Built-in Functions"), however long. `AllocError` where memory is refused.
+    pub fn show(&self, alloc: Global) -> Result<String, AllocError>
+        ensures { IfOk result (λ s. string_bytes s ≡ encode_utf8_all (shown self.now)) }
+    {
+        let mut out = String::new(alloc);
+        self.show_into(alloc, &mut out)?;
+        Ok(out)
+    }
+
+    // Its `repr`, behind what was written.
+    fn show_into(&self, alloc: Global, out: &mut String) -> Result<(), AllocError>
+        ensures { OnOk result (string_bytes out.new ≡ string_bytes out.old ++ encode_utf8_all (shown self.now)) }
+    {
+        match &self.node {
+            Node::Leaf(atom) => atom.show_into(alloc, out),
+            Node::Tuple(items) => {
+                out.push_str("(")?;
+                'items: for (at, item) in items.iter().enumerate() {
+                    separate(out, at)?;
+                    item.show_into(alloc, out)?;
+                }
+                close(out, items.len())
+            }
+        }
+    }
+}
+
+// What stands before the item at a place.
+fn separate(out: &mut String, at: usize) -> Result<(), AllocError>
+    ensures { OnOk result (string_bytes out.new ≡ string_bytes out.old ++ encode_utf8_all (separator at)) }
+{
+    match at {
+        0 => Ok(()),
+        _ => out.push_str(", "),
+    }
+}
+
+// What stands behind so many items.
+fn close(out: &mut String, count: usize) -> Result<(), AllocError>
+    ensures { OnOk result (string_bytes out.new ≡ string_bytes out.old ++ encode_utf8_all (closing count)) }
+{
+    match count {
+        1 => out.push_str(",)"),
+        _ => out.push_str(")"),
+    }
+}

@@ -1,0 +1,10 @@
+// One level of a parcel.
+
+use crate::atom::Atom;
+use crate::parcel::Parcel;
+
+/// The top of a parcel: its atom, or the items of a tuple in order.
+pub enum Top<'a> {
+    Atom(&'a Atom),
+    Tuple(&'a [Parcel]),
+}
