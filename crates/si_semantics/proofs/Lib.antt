@@ -12,3 +12,4 @@ pub mod Scoped
 pub mod WorkedLayout
 pub mod KindsAbove
 pub mod WorkedParcels
+pub mod WorkedShared

@@ -27,3 +27,6 @@ pub mod Grammar
 pub mod Words
 pub mod Layout
 pub mod LayoutCases
+pub mod Shared
+pub mod History
+pub mod SharedCases

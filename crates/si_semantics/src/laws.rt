@@ -9,6 +9,7 @@ ghost use Rattle.si_semantics.specs.ScopeCases.{ScopeCases};
 ghost use Rattle.si_semantics.specs.LiteralCases.{LiteralCases};
 ghost use Rattle.si_semantics.specs.LayoutCases.{LayoutCases};
 ghost use Rattle.si_semantics.specs.ParcelCases.{ParcelCases};
+ghost use Rattle.si_semantics.specs.SharedCases.{SharedCases};
 ghost use Rattle.si_semantics.specs.Laws.{Binding, OneLife, LivesGrow, GoneStays, AnswersWait, OnePieceALine, OneMoment, LeftByExceptions, KindsAbove};
 
 /// The worked cases: what scripts print and how they end.
@@ -54,6 +55,11 @@ pub fn worked_layout()
 /// The worked cases of parcels: how they are written, how they are counted, and which answers fit an action.
 pub fn worked_parcels()
     ensures { ParcelCases }
+{}
+
+/// The worked cases of the shared state: what actions are answered, and the state that they leave.
+pub fn worked_shared()
+    ensures { SharedCases }
 {}
 
 /// A name that was bound has its value, and every other has what it had.
