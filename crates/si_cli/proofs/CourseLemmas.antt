@@ -280,6 +280,7 @@ pub shown :
     → ShowsLife answers solo
 shown answers count standing s solo h p l st = record {
   moment = h.moment;
+  after = h.after;
   shows = after_shows answers h.moment h.after;
   printed = sym (chars_from_encodes _ (string_bytes solo.printed) (IsUtf8-string_bytes solo.printed) (sym (p ∙ h.printed)));
   lines = h.lines ∙ sym l;
@@ -299,6 +300,7 @@ pub unread_shown :
     → ShowsLife (one_run None) solo
 unread_shown solo o p l st is = record {
   moment = after_unread;
+  after = unread_is_after;
   shows = after_shows (one_run None) after_unread unread_is_after;
   printed = ap chars p ∙ chars-nil;
   lines = sym l;

@@ -1,3 +1,5 @@
+mod Answered
 mod CourseLemmas
+mod OneFault
 mod ReportLemmas
 mod SecondWord

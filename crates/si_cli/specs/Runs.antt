@@ -7,6 +7,7 @@ use Rattle.si_semantics.specs.Life.{life_of}
 use Rattle.si_semantics.specs.Machine.{Course, Place, Ending}
 use Rattle.si_semantics.specs.Shows.{Shows, joined, standing_of, texts}
 use Rattle.si_parse.specs.Modules.{IsRead}
+use Rattle.si_compile.specs.Interpreter.{IsAfter}
 use Rattle.si_machine.specs.Outcomes.{outcome_of}
 use Rattle.si_cli.specs.declared.interpreter.Standing.{Standing}
 use Rattle.si_cli.specs.declared.interpreter.Standing.TheVariants.{Ready, AtEnd, Starved}
@@ -28,10 +29,11 @@ Stands (AtEnd outcome) place = place ≡ Ending (outcome_of outcome)
 Stands Ready place = standing_of place ≡ None
 Stands Starved place = standing_of place ≡ None
 
--- interpreter 0 shows its life under these answers: at a moment that shows it, it has run so many lines, has printed
--- this, and stands so
+-- interpreter 0 shows its life under these answers: at the moment of its course after so many lines, which shows that life,
+-- it has printed this, and stands so
 pub record ShowsLife (answers : List Answer) (solo : Solo) : Type 0 where
   pub moment : Course
+  pub after : IsAfter answers moment
   pub shows : Shows (λ n. life_of n answers) moment
   pub printed : printed_by solo ≡ joined (texts moment.printed)
   pub lines : moment.lines ≡ solo.locals

@@ -57,6 +57,12 @@ IsOfScript (Script line) = Unit {0}
 IsOfScript NoMemory = Unit {0}
 IsOfScript _ = ⊥
 
+-- a fault of reading the input
+abbrev pub IsOfInput : CliFault → Type 0
+IsOfInput Input = Unit {0}
+IsOfInput NoMemory = Unit {0}
+IsOfInput _ = ⊥
+
 -- a fault that leaves the writer as it was, unless it is that of a write
 abbrev pub LeavesAlone : Option (List ℕ) → Option (List ℕ) → CliFault → Type 0
 LeavesAlone old new Write = Unit {0}

@@ -1,12 +1,17 @@
 -- The commands of the program, and what their words say by clap's definition of a simple command (this project's own).
-use Rattle.std.specs.Prelude.{◌≡◌, ◌⊎◌, ℕ, map, List, Option, Some, None, codes, drop, slice_get, option_map, true}
+use Rattle.std.specs.Prelude.{◌≡◌, ◌⊎◌, ◌||◌, ◌&&◌, ℕ, Bool, true, false, map, List, [], Option, Some, None, bytes_eq, codes, drop, slice_get, option_map}
+use Rattle.std.specs.List.{list_any}
 use Rattle.std.specs.Borrow.{Bor}
 use Rattle.std.specs.Str.Parse.{IsNumeral, digits_value, without_leading_plus}
-use Rattle.clap.specs.Words.{App, Rule, Text, new_app, new_rule, with_rule, first_of, matches_of, takes}
+use Rattle.clap.specs.Words.{App, Rule, Text, fault_of, new_app, new_rule, with_rule, first_of, matches_of}
 use Rattle.clap.specs.declared.builder.action.ArgAction.TheVariants.{Set}
+use Rattle.clap.specs.declared.error.kind.ErrorKind.{ErrorKind}
+use Rattle.clap.specs.declared.error.kind.ErrorKind.TheVariants.{DisplayHelp, DisplayVersion}
 use Rattle.si_plain.specs.Ranges.{is_turn_count}
 use Rattle.si_cli.specs.declared.asked.Request.{Request}
 use Rattle.si_cli.specs.declared.asked.Request.TheVariants.{Serial, Check}
+use Rattle.si_cli.specs.declared.words.WordsFault.{WordsFault}
+use Rattle.si_cli.specs.declared.words.WordsFault.TheVariants.{Words, NoMemory}
 
 -- the bytes of each word
 abbrev pub texts : List (Bor (List ℕ)) → List Text
@@ -65,15 +70,54 @@ IsReadFrom words (Serial path limits) = (path_of (Serial path limits) ≡ path_a
     × Allows (turns_among serial words) limits.turns
 IsReadFrom words (Check path) = path_of (Check path) ≡ path_among check words
 
--- `serial` takes the words from its name on, and they allow a number of turns
-abbrev pub AreRead : List Text → Type 0
-AreRead words = (takes serial words ≡ true) × ((n : ℕ) × Allows (turns_among serial words) n)
-
 -- a request is what the words say: the second names its command, which reads the words from there on
 abbrev pub IsSaidBy : List Text → Request → Type 0
 IsSaidBy words request = Names words (name_of request) × IsReadFrom (drop 1 words) request
 
+-- a command takes the words from its name on: clap's definition finds no fault in them
+abbrev pub Takes : App → List Text → Type 0
+Takes command words = fault_of command words ≡ []
+
+-- `serial` takes the words from its name on, and they allow a number of turns
+abbrev pub AreRead : List Text → Type 0
+AreRead words = Takes serial words × ((n : ℕ) × Allows (turns_among serial words) n)
+
 -- the words name a command that takes the words from its name on, with numbers within their limits
 abbrev pub AreTaken : List Text → Type 0
 AreTaken words =
-    Names words (codes "serial") × AreRead (drop 1 words) ⊎ Names words (codes "check") × (takes check (drop 1 words) ≡ true)
+    Names words (codes "serial") × AreRead (drop 1 words) ⊎ Names words (codes "check") × Takes check (drop 1 words)
+
+-- what clap finds asks for help, or for a version, which no command here has
+abbrev pub is_help : ErrorKind → Bool
+is_help DisplayHelp = true
+is_help DisplayVersion = true
+is_help kind = false
+
+-- the words from a command's name on ask for its help, by clap's definition
+abbrev pub helps : App → List Text → Bool
+helps command words = list_any is_help (fault_of command words)
+
+-- a word, where there is one, is this
+abbrev pub is_word : Option Text → Text → Bool
+is_word None text = false
+is_word (Some word) text = bytes_eq word text
+
+-- what help is asked of: the program where nothing is named, or a command
+abbrev pub is_topic : Option Text → Bool
+is_topic None = true
+is_topic (Some word) = bytes_eq word (codes "serial") || bytes_eq word (codes "check")
+
+-- the words ask for help: the second is `-h` or `--help`, or `help` with nothing or a command behind it, or names a
+-- command whose help the words from there on ask for
+abbrev pub asks_help : List Text → Bool
+asks_help words =
+    let second = slice_get words 1 in
+    is_word second (codes "-h") || (is_word second (codes "--help")
+    || ((is_word second (codes "help") && is_topic (slice_get words 2))
+    || ((is_word second (codes "serial") && helps serial (drop 1 words))
+    || (is_word second (codes "check") && helps check (drop 1 words)))))
+
+-- a fault tells help just where it is asked for; one of memory tells nothing
+abbrev pub TellsHelp : Bool → WordsFault → Type 0
+TellsHelp asked (Words help text) = help ≡ asked
+TellsHelp asked NoMemory = Unit {0}

@@ -1,7 +1,8 @@
 // Reading a script to its end.
 
-ghost use Rattle.std.specs.Prelude.{◌≤◌, length, IfOk};
+ghost use Rattle.std.specs.Prelude.{◌≤◌, length, IfErr, IfOk};
 ghost use Rattle.std.specs.Io.KnownBytes.{Consumes, IsAtEnd};
+ghost use Rattle.si_cli.specs.Service.{IsOfInput};
 
 use crate::fault::CliFault;
 use std::alloc::Global;
@@ -22,6 +23,7 @@ pub fn read_input<R: Read>(alloc: Global, from: &mut R, limit: u64) -> Result<Ve
     ensures all { IfOk result (λ v. Consumes (R.remaining from.old) (R.remaining from.new) v.items
         × IsAtEnd (R.remaining from.new)) }
     ensures short { IfOk result (λ v. length v.items ≤ limit) }
+    ensures fault { IfErr result IsOfInput }
 {
     let mut all = Vec::new(alloc);
     let mut buffer = [0u8; CHUNK];

@@ -1,10 +1,10 @@
 // The words of a command line: the second names the command, and each command reads the words after it by a clap
 // command of its own.
 
-ghost use Rattle.std.specs.Prelude.{◌≡◌, ℕ, IfNone, IfOk, IfErr, IfSome, codes, option_map, true, false};
-ghost use Rattle.clap.specs.Words.{app_of, kind_of, rule_of, takes};
+ghost use Rattle.std.specs.Prelude.{◌≡◌, ℕ, IfNone, IfOk, IfErr, IfSome, codes, option_map, slice_get, true, false};
+ghost use Rattle.clap.specs.Words.{app_of, kind_of, rule_of};
 ghost use Rattle.si_cli.specs.Status.{status_of_words};
-ghost use Rattle.si_cli.specs.Words.{Allows, AreRead, AreTaken, IsReadFrom, IsSaidBy, check, name_of, script, serial, texts, turns};
+ghost use Rattle.si_cli.specs.Words.{Allows, AreRead, AreTaken, IsReadFrom, IsSaidBy, Takes, TellsHelp, asks_help, check, helps, is_help, is_topic, name_of, script, serial, texts, turns};
 
 use crate::asked::Request;
 use clap::error::ErrorKind;
@@ -77,8 +77,12 @@ impl WordsFault {
 /// is no number from 1 to 1,099,511,627,776, or help is asked for; `WordsFault::NoMemory` where memory was refused.
 pub fn request<'a>(alloc: Global, words: &'a [&'a str]) -> Result<Request<'a>, WordsFault>
     ensures said { IfOk result (IsSaidBy (texts words.entry.now)) }
+    // Words that no command takes are refused.
+    ensures only { IfOk result (λ _. AreTaken (texts words.entry.now)) }
     // Words that a command takes are refused only for want of memory.
     ensures taken { IfErr result (λ fault. AreTaken (texts words.entry.now) → fault ≡ WordsFault.NoMemory) }
+    // Help is told where the words ask for it, and nowhere else.
+    ensures help { IfErr result (TellsHelp (asks_help (texts words.entry.now))) }
 {
     let Some(name) = words.get(1) else {
         return Err(refused(alloc, "no command is named"));
@@ -100,7 +104,9 @@ pub fn request<'a>(alloc: Global, words: &'a [&'a str]) -> Result<Request<'a>, W
 fn serial_request<'a>(alloc: Global, words: &'a [&'a str]) -> Result<Request<'a>, WordsFault>
     ensures name { IfOk result (λ request. name_of request ≡ codes "serial") }
     ensures said { IfOk result (IsReadFrom (texts words.entry.now)) }
+    ensures only { IfOk result (λ _. AreRead (texts words.entry.now)) }
     ensures taken { IfErr result (λ fault. AreRead (texts words.entry.now) → fault ≡ WordsFault.NoMemory) }
+    ensures help { IfErr result (TellsHelp (helps serial (texts words.entry.now))) }
 {
     let command = serial_command(alloc)?;
     match command.try_get_matches_from(words) {
@@ -122,7 +128,9 @@ fn serial_request<'a>(alloc: Global, words: &'a [&'a str]) -> Result<Request<'a>
 fn check_request<'a>(alloc: Global, words: &'a [&'a str]) -> Result<Request<'a>, WordsFault>
     ensures name { IfOk result (λ request. name_of request ≡ codes "check") }
     ensures said { IfOk result (IsReadFrom (texts words.entry.now)) }
-    ensures taken { IfErr result (λ fault. takes check (texts words.entry.now) ≡ true → fault ≡ WordsFault.NoMemory) }
+    ensures only { IfOk result (λ _. Takes check (texts words.entry.now)) }
+    ensures taken { IfErr result (λ fault. Takes check (texts words.entry.now) → fault ≡ WordsFault.NoMemory) }
+    ensures help { IfErr result (TellsHelp (helps check (texts words.entry.now))) }
 {
     let command = check_command(alloc)?;
     match command.try_get_matches_from(words) {
@@ -196,7 +204,8 @@ fn turns_argument<'a>(alloc: Global) -> Arg<'a>
 
 /// What clap's error comes to: help, a refusal in one line, or want of memory.
 fn words_fault(alloc: Global, error: &Error) -> WordsFault
-    ensures { kind_of error.now ≡ ErrorKind.OutOfMemory → result ≡ WordsFault.NoMemory }
+    ensures memory { kind_of error.now ≡ ErrorKind.OutOfMemory → result ≡ WordsFault.NoMemory }
+    ensures help { TellsHelp (is_help (kind_of error.now)) result }
 {
     if error.kind() == ErrorKind::OutOfMemory {
         return WordsFault::NoMemory;
@@ -231,7 +240,9 @@ fn one_line(alloc: Global, error: &Error) -> Result<String, AllocError> {
 }
 
 /// The fault of words that are refused for this reason.
-fn refused(alloc: Global, why: &str) -> WordsFault {
+fn refused(alloc: Global, why: &str) -> WordsFault
+    ensures { TellsHelp false result }
+{
     match format!(in alloc; "{why}; 'subpy --help' lists the commands") {
         Ok(text) => WordsFault::Words { help: false, text },
         Err(_) => WordsFault::NoMemory,
@@ -239,7 +250,9 @@ fn refused(alloc: Global, why: &str) -> WordsFault {
 }
 
 /// The fault of a value of `--turns` that is no number of turns.
-fn no_turns(alloc: Global, turns: Option<&str>) -> WordsFault {
+fn no_turns(alloc: Global, turns: Option<&str>) -> WordsFault
+    ensures { TellsHelp false result }
+{
     let value = turns.unwrap_or("");
     match format!(in alloc; "--turns takes a whole number from 1 to 1099511627776, not {value:?}") {
         Ok(text) => WordsFault::Words { help: false, text },
@@ -247,7 +260,10 @@ fn no_turns(alloc: Global, turns: Option<&str>) -> WordsFault {
     }
 }
 
-fn no_command(alloc: Global, name: &str) -> WordsFault {
+/// The fault of a word that is no command.
+fn no_command(alloc: Global, name: &str) -> WordsFault
+    ensures { TellsHelp false result }
+{
     match format!(in alloc; "there is no command {name:?}; 'subpy --help' lists them") {
         Ok(text) => WordsFault::Words { help: false, text },
         Err(_) => WordsFault::NoMemory,
@@ -255,7 +271,9 @@ fn no_command(alloc: Global, name: &str) -> WordsFault {
 }
 
 /// The help that lists the commands.
-fn general_help(alloc: Global) -> WordsFault {
+fn general_help(alloc: Global) -> WordsFault
+    ensures { TellsHelp true result }
+{
     match String::from_str(alloc, HELP) {
         Ok(text) => WordsFault::Words { help: true, text },
         Err(_) => WordsFault::NoMemory,
@@ -263,7 +281,9 @@ fn general_help(alloc: Global) -> WordsFault {
 }
 
 /// The help that words whose second is `help` ask for.
-fn help_of(alloc: Global, words: &[&str]) -> WordsFault {
+fn help_of(alloc: Global, words: &[&str]) -> WordsFault
+    ensures { TellsHelp (is_topic (slice_get (texts words.entry.now) 2)) result }
+{
     match words.get(2) {
         None => general_help(alloc),
         Some(name) => match *name {
@@ -275,7 +295,9 @@ fn help_of(alloc: Global, words: &[&str]) -> WordsFault {
 }
 
 /// The help of a command, by its definition.
-fn command_help(command: Result<Command, AllocError>) -> WordsFault {
+fn command_help(command: Result<Command, AllocError>) -> WordsFault
+    ensures { TellsHelp true result }
+{
     let rendered = match command {
         Ok(mut command) => command.render_help(),
         Err(error) => Err(error),

@@ -1,7 +1,10 @@
-use Rattle.std.proofs.Common.{◌≡◌, codes, sym}
+use Rattle.std.proofs.Common.{◌≡◌, ◌⊎◌, List, ℕ, Some, codes, sym, subst, slice_get, true, false}
 use Rattle.std.proofs.lemmas.Slice.Eq.{bytes_eq-Decides}
-use Rattle.si_cli.proofs.SecondWord.{is_said, named}
+use Rattle.si_cli.specs.Words.{TellsHelp, asks_help, texts}
+use Rattle.si_cli.specs.declared.words.WordsFault.{WordsFault}
+use Rattle.si_cli.proofs.SecondWord.{check_taken, check_tells, differs, flag_tells, help_tells, is_said, named, none_takes, other_tells, second_word, serial_taken, serial_tells}
 use Rattle.si_cli.proofs.words.request.Goals as goal
+use Rattle.si_cli.proofs.words.request.Goals.{in-help, in_default-name, in_default-name+in-text}
 
 pub returns-then-eq-clause-said : goal.returns-then-eq-clause-said
 returns-then-eq-clause-said c =
@@ -11,6 +14,22 @@ returns-then-eq-clause-said c =
     let same : word.now ≡ codes "serial" = (bytes_eq-Decides word.now (codes "serial")).0 (sym c.if-eq.ensures) in
     is_said words (codes "serial") c.serial_request.result (named words word (codes "serial") found.0 found.1 same) c.serial_request.ensures.name c.serial_request.ensures.said
 
+pub returns-then-eq-clause-only : goal.returns-then-eq-clause-only
+returns-then-eq-clause-only c =
+    let words = c.args.words.now in
+    let found = c.in-Some.ensures.lookup.3 in
+    let word = c.in-Some.name.now in
+    let same : word.now ≡ codes "serial" = (bytes_eq-Decides word.now (codes "serial")).0 (sym c.if-eq.ensures) in
+    serial_taken words c.serial_request.result (named words word (codes "serial") found.0 found.1 same) c.serial_request.ensures.only
+
+pub returns-then-eq-clause-help : goal.returns-then-eq-clause-help
+returns-then-eq-clause-help c =
+    let words = c.args.words.now in
+    let found = c.in-Some.ensures.lookup.3 in
+    let word = c.in-Some.name.now in
+    let same : word.now ≡ codes "serial" = (bytes_eq-Decides word.now (codes "serial")).0 (sym c.if-eq.ensures) in
+    serial_tells words c.serial_request.result (named words word (codes "serial") found.0 found.1 same) c.serial_request.ensures.help
+
 pub returns-then-eq-2-clause-said : goal.returns-then-eq-2-clause-said
 returns-then-eq-2-clause-said c =
     let words = c.args.words.now in
@@ -18,3 +37,44 @@ returns-then-eq-2-clause-said c =
     let word = c.in-Some.name.now in
     let same : word.now ≡ codes "check" = (bytes_eq-Decides word.now (codes "check")).0 (sym c.if-eq-2.ensures) in
     is_said words (codes "check") c.check_request.result (named words word (codes "check") found.0 found.1 same) c.check_request.ensures.name c.check_request.ensures.said
+
+pub returns-then-eq-2-clause-only : goal.returns-then-eq-2-clause-only
+returns-then-eq-2-clause-only c =
+    let words = c.args.words.now in
+    let found = c.in-Some.ensures.lookup.3 in
+    let word = c.in-Some.name.now in
+    let same : word.now ≡ codes "check" = (bytes_eq-Decides word.now (codes "check")).0 (sym c.if-eq-2.ensures) in
+    check_taken words c.check_request.result (named words word (codes "check") found.0 found.1 same) c.check_request.ensures.only
+
+pub returns-then-eq-2-clause-help : goal.returns-then-eq-2-clause-help
+returns-then-eq-2-clause-help c =
+    let words = c.args.words.now in
+    let found = c.in-Some.ensures.lookup.3 in
+    let word = c.in-Some.name.now in
+    let same : word.now ≡ codes "check" = (bytes_eq-Decides word.now (codes "check")).0 (sym c.if-eq-2.ensures) in
+    check_tells words c.check_request.result (named words word (codes "check") found.0 found.1 same) c.check_request.ensures.help
+
+pub returns-clause-taken : goal.returns-clause-taken
+returns-clause-taken c = λ taken.
+    let words = c.args.words.now in
+    let found = c.in-Some.ensures.lookup.3 in
+    let word = c.in-Some.name.now in
+    let not_serial : word.now ≡ codes "serial" → ⊥ = differs word.now (codes "serial") c.if-eq.ensures in
+    let not_check : word.now ≡ codes "check" → ⊥ = differs word.now (codes "check") c.if-eq-2.ensures in
+    absurd (none_takes (texts words) word.now (second_word words word found.0 found.1) not_serial not_check taken)
+
+pub returns-clause-help : goal.returns-clause-help
+returns-clause-help c =
+    let words = c.args.words.now in
+    let found = c.in-Some.ensures.lookup.3 in
+    let word = c.in-Some.name.now in
+    let second = second_word words word found.0 found.1 in
+    let not_serial : word.now ≡ codes "serial" → ⊥ = differs word.now (codes "serial") c.if-eq.ensures in
+    let not_check : word.now ≡ codes "check" → ⊥ = differs word.now (codes "check") c.if-eq-2.ensures in
+    let P : WordsFault → Type 0 = TellsHelp (asks_help (texts words)) in
+    elim c.match-name.branch [
+      | in-help w ↦ subst P (sym w.result-is) (help_tells (texts words) word.now w.help_of.result second w.in-help.is w.help_of.ensures)
+      | in_default-name w ↦ subst P (sym w.result-is) (other_tells (texts words) word.now w.no_command.result second
+        w.in_default-name.not-text w.in_default-name.not-text-2 w.in_default-name.not-help not_serial not_check w.no_command.ensures)
+      | in_default-name+in-text w ↦ subst P (sym w.result-is) (flag_tells (texts words) word.now w.general_help.result second w.in-text.is w.general_help.ensures)
+    ]
