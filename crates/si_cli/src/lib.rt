@@ -19,6 +19,8 @@ pub mod serving;
 #[cfg(test)]
 mod tests;
 #[cfg(test)]
+mod tests_code;
+#[cfg(test)]
 mod tests_scope;
 pub mod words;
 
