@@ -1,11 +1,10 @@
 -- The expressions and the names of arguments: what is passed by name stands behind the others, and no name comes twice.
-use Rattle.std.proofs.Common.{◌≡◌, Bool, true, false, ℕ, zero, suc, ◌+◌, ◌<◌, List, [], ◌∷◌, ◌++◌, length, Option, Some, None, refl, sym, ap, ◌∙◌, subst, map, append_assoc, arith, ◌⊎◌, inl, inr, ⊎_elim, if◌then◌else◌}
+use Rattle.std.proofs.Common.{◌≡◌, Bool, true, false, ℕ, ◌+◌, ◌<◌, List, [], ◌∷◌, ◌++◌, length, Option, Some, None, refl, sym, ap, ◌∙◌, subst, map, append_assoc, arith, ◌⊎◌, inl, inr, ⊎_elim, if◌then◌else◌}
 use Rattle.std.specs.Prelude.{nat_eq, not, ◌&&◌, ◌||◌}
 use Rattle.std.specs.Option.{option_map, is_some}
 use Rattle.std.specs.List.{list_any}
 use Rattle.std.specs.Str.{bytes_eq}
 use Rattle.std.proofs.lemmas.List.{append-nil}
-use Rattle.std.proofs.lemmas.Bool.Decides.{nat_tests}
 use Rattle.std.proofs.lemmas.Option.{cond_some}
 use Rattle.si_plain.specs.Names.{place_in, with_name}
 use Rattle.si_semantics.specs.Value.{Text}
@@ -64,14 +63,6 @@ listed x (y ∷ ys) = ap (λ b. b || list_any (bytes_eq x) ys) (same_bytes x y) 
 -- a name that is none of them is added
 pub with_new_name : (x : Text) (xs : List Text) → is_in x xs ≡ false → with_name xs x ≡ xs ++ x ∷ []
 with_new_name x xs h = ap (λ b. if b then xs else xs ++ x ∷ []) (listed x xs ∙ h)
-
--- what `is_empty` says of a length
-pub not_empty : (n : ℕ) (b : Bool) → b ≡ nat_eq n 0 → b ≡ false → 0 < n
-not_empty zero b is h = cc
-not_empty (suc n) b is h = omega arith
-
-pub empty : (n : ℕ) (b : Bool) → b ≡ nat_eq n 0 → b ≡ true → n ≡ 0
-empty n b is h = grind (arith, nat_tests)
 
 -- ---- one more argument
 

@@ -20,6 +20,3 @@ pub mod text;
 pub use fault::ScopeFault;
 pub use scoped::Scoped;
 pub use text::resolve;
-
-#[cfg(test)]
-mod tests;

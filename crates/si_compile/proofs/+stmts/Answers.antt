@@ -13,7 +13,7 @@ use Rattle.si_compile.proofs.Seen.{if_seen, while_seen, for_seen, finally_seen, 
 use Rattle.si_compile.proofs.Emitted.{next_stmt, last_stmt, next_number, last_number}
 use Rattle.si_compile.proofs.LoopCode.{turn_gains, turn_at, round_gains, round_at, kept_from}
 use Rattle.si_compile.proofs.HandlerCode.{front_gains, plain_number, tried_stmt, tried_number, tried_gains, with_clauses, nameless_suite, plain_try, finally_gains, finally_stmt, finally_number, named_suite, tested_clause, tested_at, next_clause, next_clause_number, last_clause_number, clause_behind, clauses_end, clauses_gains, clauses_number, no_items, some_items}
-use Rattle.si_parse.proofs.Passed.{empty, not_empty}
+use Rattle.si_plain.proofs.Lengths.{empty, not_empty}
 use Rattle.si_code.proofs.Codes.{Gains-append}
 use Rattle.si_code.proofs.Growth.{Extends-same, Extends-trans}
 use Rattle.si_compile.proofs.+stmts.Goals as goal

@@ -6,7 +6,8 @@ use Rattle.si_semantics.specs.Scope.{is_in}
 use Rattle.si_syntax.specs.Trees.{expr_of}
 use Rattle.si_parse.specs.Reading.{passed_from}
 use Rattle.si_parse.specs.Gives.{argument_of}
-use Rattle.si_parse.proofs.Passed.{empty, not_empty, placed, with_new_name, positional_on, positional_stuck, named_on, named_stuck, goes_on, stuck}
+use Rattle.si_plain.proofs.Lengths.{empty, not_empty}
+use Rattle.si_parse.proofs.Passed.{placed, with_new_name, positional_on, positional_stuck, named_on, named_stuck, goes_on, stuck}
 use Rattle.si_parse.proofs.argument.passed.Goals as goal
 
 pub loop-argument-init : goal.loop-argument-init

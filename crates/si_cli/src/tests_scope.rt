@@ -1,7 +1,7 @@
-// Worked cases: each rule with the line that breaks it, and the locals of functions.
+// Where the statements of scripts may stand: each rule with the line that breaks it, and the locals of functions.
 
-use crate::{ScopeFault, resolve};
 use si_parse::parse;
+use si_scope::{ScopeFault, resolve};
 use std::alloc::Global;
 use std::test::Fail;
 
@@ -146,29 +146,5 @@ fn locals_are_parameters_and_what_is_bound(rt: HostRuntime) -> Result<(), Fail> 
     }
     assert_eq!(rt; scoped.locals(2).is_none(), true);
     assert_eq!(rt; scoped.body().len(), 2);
-    Ok(())
-}
-
-#[test]
-fn targets_and_names_behind_as_are_local(rt: HostRuntime) -> Result<(), Fail> {
-    let script =
-        "def f(b):\n for x in b: y = x\n else: z = 1\n try: pass\n except E as e: c = 1\n finally: d = 2\n";
-    let scoped = resolve(rt.alloc(), parse(rt.alloc(), script)?)?;
-    let names = [
-        (0, "b"),
-        (1, "x"),
-        (2, "y"),
-        (3, "z"),
-        (4, "e"),
-        (5, "c"),
-        (6, "d"),
-    ];
-    for (slot, want) in names {
-        let name = match scoped.locals(0) {
-            Some(locals) => locals.get(slot),
-            None => None,
-        };
-        assert_eq!(rt; name, Some(want), "slot {slot}");
-    }
     Ok(())
 }
