@@ -6,9 +6,9 @@
 // as a law of the compiler's says of what it makes, so there is no answer for that. A machine owns its code, its values
 // and what was printed; two machines share nothing. Values are small and are copied; texts lie in a vector of the
 // machine's own and are named by their places, and so are exceptions: both only grow. What was entered and not left,
-// bodies of loops, calls of functions, the suites of a `try` and the items of a `for`, lies on a stack of its own, where
-// `continue`, `break`, `return` and an exception find where they go. The operands and the locals of all calls lie in one
-// vector each.
+// bodies of loops, calls of functions, the suites of a `try` and the items of a `for`, lies on a stack of its own,
+// where `continue`, `break`, `return` and an exception find where they go. The operands and the locals of all calls lie
+// in one vector each.
 //
 // What is rare is kept out of the step by `inline(never)`, so that the rest of it is drawn into the loop of its caller.
 //

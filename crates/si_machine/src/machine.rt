@@ -48,8 +48,8 @@ impl Machine {
     /// Begins anew, at an entry of a table: nothing is bound but `__name__`, and nothing was printed. Refused
     /// memory, the table comes back and the machine is as it was.
     ///
-    /// The run from there may never come to be closed: no instruction of it lacks what it takes, and none is missing. Of
-    /// each text that `si_compile` has compiled, its law `stays_open` says so.
+    /// The run from there may never come to be closed: no instruction of it lacks what it takes, and none is missing.
+    /// Of each text that `si_compile` has compiled, its law `stays_open` says so.
     pub fn load(&mut self, table: CodeTable, entry: Entry) -> Result<(), AllocFailed<CodeTable>>
         requires { NeverCloses (run_at (table_of table, entry.at) first_world) }
         ensures ok { OnOk result (Stands self.new (run_at (table_of table, entry.at) first_world) []) }
