@@ -9,9 +9,9 @@ use Rattle.si_semantics.specs.Operations.{Iterator, call_by_name, call_provided,
 use Rattle.si_semantics.specs.Life as life
 use Rattle.si_semantics.specs.Life.{not_read}
 use Rattle.si_semantics.specs.Machine.{At, Block, Calling, Closed, Course, Ending, Entry, Each, Catch, Final, Pending, Handling, Frame, Instr, LoadGlobal, LoadLocal, ApplyUnary, ApplyBinary, ApplyComparison, EndChain, JumpOrDiscard, JumpIfFalse, CallTop, CallByName, StartFor, NextItem, LeaveBlock, StartFinally, EndFinally, TestClause, PushException, Line, Place, Stamped, Table, Taking, act, calls, depth, ends_finally, enters, fetched, gives_item, goes, next, on, on_callee, stamped, start, starts_for, stuck, yields}
+use Rattle.si_semantics.specs.Running.{run_at}
 use Rattle.si_semantics.specs.Shows.{joined, standing_of, texts}
 use Rattle.si_compile.specs.Code.{compiled}
-use Rattle.si_compile.specs.Correct.{run_at}
 use Rattle.si_compile.specs.Interpreter.{IsAfter}
 use Rattle.si_compile.proofs.Interpreter.{after_shows, line_keeps}
 use Rattle.si_machine.specs.declared.step.Outcome.{Outcome}
@@ -212,26 +212,28 @@ next_line answers k s u =
 pub goes_on : (answers : List Answer) (k : ℕ) (s t : Seen) → IsUnderWay answers k s → Steps s t step.Local → IsUnderWay answers (k + 1) t
 goes_on answers k s t u did =
     let l = next_line answers k s u in
+    let done = did.0 compiled in
     let after = line_keeps answers u.moment u.after in
     record {
       moment = next compiled u.moment;
       after = after;
       lines = l.lines ∙ ap (λ n. n + 1) u.lines;
-      there = l.there ∙ sym did.0.moment;
-      printed = did.0.printed ∙ bytes_behind (texts u.moment.printed) (texts (next compiled (moment_of s)).printed) (texts (next compiled u.moment).printed) s.printed u.printed l.printed;
-      runs = record { at = did.1; fed = did.0.fed };
+      there = l.there ∙ sym done.moment;
+      printed = done.printed ∙ bytes_behind (texts u.moment.printed) (texts (next compiled (moment_of s)).printed) (texts (next compiled u.moment).printed) s.printed u.printed l.printed;
+      runs = record { at = did.1; fed = done.fed };
     }
 
 -- one line more, with which the run has ended
 pub has_ended : (answers : List Answer) (k : ℕ) (o : Outcome) (s t : Seen) → IsUnderWay answers k s → Steps s t step.Ended → outcome_of o ≡ t.outcome → HasRun answers (k + 1) (AtEnd o) t
 has_ended answers k o s t u did is =
     let l = next_line answers k s u in
+    let done = did compiled in
     record {
       moment = next compiled u.moment;
       after = line_keeps answers u.moment u.after;
       lines = l.lines ∙ ap (λ n. n + 1) u.lines;
-      printed = did.1.printed ∙ u.printed ∙ ap (λ ts. encode_utf8_all (joined ts)) (sym (l.ends _ did.0));
-      stands = ap (λ (c : Course). c.place) l.there ∙ did.0 ∙ ap Ending (sym is);
+      printed = done.1.printed ∙ u.printed ∙ ap (λ ts. encode_utf8_all (joined ts)) (sym (l.ends _ done.0));
+      stands = ap (λ (c : Course). c.place) l.there ∙ done.0 ∙ ap Ending (sym is);
     }
 
 -- the outcome is asked for of a machine that has run

@@ -4,11 +4,11 @@ use Rattle.std.specs.Prelude.{encode_utf8_all}
 use Rattle.si_semantics.specs.Value as pure
 use Rattle.si_semantics.specs.World.{World}
 use Rattle.si_semantics.specs.Life.{Take}
-use Rattle.si_semantics.specs.Machine.{Place, At, Calling, Taking, Ending, Closed, Line, Table, Course, stamped, after, on, next, course}
+use Rattle.si_semantics.specs.Machine.{Place, At, Calling, Taking, Ending, Closed, Line, Table, Compiler, Course, stamped, after, on, next, course}
+use Rattle.si_semantics.specs.Running.{NeverCloses}
 use Rattle.si_semantics.specs.Shows.{texts, joined, standing_of}
 use Rattle.si_semantics.proofs.Courses.{stays, fixed}
-use Rattle.si_compile.specs.Code.{compiled}
-use Rattle.si_compile.specs.Correct.{NeverCloses}
+use Rattle.si_semantics.proofs.Unanswered.{still_unanswered, unanswered}
 use Rattle.si_code.specs.Views.{table_of}
 use Rattle.si_machine.specs.declared.state.Standing.TheVariants as standing
 use Rattle.si_machine.specs.declared.state.State.{State}
@@ -27,58 +27,55 @@ use Rattle.si_machine.specs.States.{AreSound, IsSound, IsKept, IsOpen, Moves, Di
 -- ---- courses
 
 -- what a course does doesn't depend on its count of lines, nor on what it has printed
-next_alike : (p : Place) (c : Course) → from_here (on compiled p [] c) ≡ from_here (on compiled p [] (from_here c))
-next_alike (At pc ops slots bs) c = refl
-next_alike (Calling r pc ops slots bs) c = refl
-next_alike Taking c = refl
-next_alike (Ending o) c = refl
-next_alike Closed c = refl
+on_from_here : (compile : Compiler) (p : Place) (c : Course) → from_here (on compile p [] c) ≡ from_here (on compile p [] (from_here c))
+on_from_here compile (At pc ops slots bs) c = refl
+on_from_here compile (Calling r pc ops slots bs) c = refl
+on_from_here compile Taking c = refl
+on_from_here compile (Ending o) c = refl
+on_from_here compile Closed c = refl
 
--- without answers it goes on without
-next_none : (p : Place) (c : Course) → c.answers ≡ [] → (on compiled p [] c).answers ≡ []
-next_none (At pc ops slots bs) c e = e
-next_none (Calling r pc ops slots bs) c e = e
-next_none Taking c e = e
-next_none (Ending o) c e = e
-next_none Closed c e = e
+next_from_here : (compile : Compiler) (c : Course) → c.answers ≡ [] → from_here (next compile c) ≡ from_here (next compile (from_here c))
+next_from_here compile c e =
+    ap from_here (unanswered compile c e) ∙ on_from_here compile c.place c ∙ ap from_here (sym (unanswered compile (from_here c) e))
 
-unanswered : (c : Course) → c.answers ≡ [] → next compiled c ≡ on compiled c.place [] c
-unanswered c e = ap (λ l. on compiled c.place l c) e
-
-next_from_here : (c : Course) → c.answers ≡ [] → from_here (next compiled c) ≡ from_here (next compiled (from_here c))
-next_from_here c e = ap from_here (unanswered c e) ∙ next_alike c.place c ∙ ap from_here (sym (unanswered (from_here c) e))
-
-still_unanswered : (c : Course) → c.answers ≡ [] → (next compiled c).answers ≡ []
-still_unanswered c e = ap (λ d. d.answers) (unanswered c e) ∙ next_none c.place c e
-
-course_alike : (n : ℕ) (c d : Course) → c.answers ≡ [] → from_here c ≡ from_here d → from_here (course compiled n c) ≡ from_here (course compiled n d)
-course_alike zero c d e h = h
-course_alike (suc n) c d e h =
+course_alike : (compile : Compiler) (n : ℕ) (c d : Course) → c.answers ≡ [] → from_here c ≡ from_here d → from_here (course compile n c) ≡ from_here (course compile n d)
+course_alike compile zero c d e h = h
+course_alike compile (suc n) c d e h =
     let f : d.answers ≡ [] = sym (ap (λ x. x.answers) h) ∙ e in
-    course_alike n (next compiled c) (next compiled d) (still_unanswered c e) (next_from_here c e ∙ ap (λ x. from_here (next compiled x)) h ∙ sym (next_from_here d f))
+    course_alike compile n (next compile c) (next compile d) (still_unanswered compile c e)
+    (next_from_here compile c e ∙ ap (λ x. from_here (next compile x)) h ∙ sym (next_from_here compile d f))
+
+-- a line leads to this moment, whatever the compiler
+abbrev LeadsTo : Course → Course → Type 0
+LeadsTo c d = (compile : Compiler) → d ≡ from_here (next compile c)
 
 -- a course that never closes doesn't from a later moment on
-never_later : (c : Course) → c.answers ≡ [] → NeverCloses c → NeverCloses (from_here (next compiled c))
-never_later c e h n k =
-    let d = next compiled c in
-    h (suc n) (ap (λ x. x.place) (course_alike n d (from_here d) (still_unanswered c e) refl) ∙ k)
+never_later : (c d : Course) → c.answers ≡ [] → LeadsTo c d → NeverCloses c → NeverCloses d
+never_later c d e leads h compile n k =
+    let x = next compile c in
+    h compile (suc n)
+    (ap (λ y. y.place) (course_alike compile n x (from_here x) (still_unanswered compile c e) refl ∙ ap (λ y. from_here (course compile n y)) (sym (leads compile))) ∙ k)
 
 -- a course that waits for a text and is given none
 never_taking : (c : Course) → c.answers ≡ [] → c.place ≡ Taking → NeverCloses c
-never_taking c e p n k =
-    let st = fixed compiled (Some Take) c e (ap (λ x. standing_of x) p) in
-    let two : Taking ≡ Closed = sym p ∙ ap (λ x. x.place) (sym (stays compiled n c st)) ∙ k in
+never_taking c e p compile n k =
+    let st = fixed compile (Some Take) c e (ap (λ x. standing_of x) p) in
+    let two : Taking ≡ Closed = sym p ∙ ap (λ x. x.place) (sym (stays compile n c st)) ∙ k in
     cc
 
 -- ---- states
 
 -- the next line of a machine's course
-line_is : (s : State) → s.standing ≡ standing.Running → next compiled (moment_of (seen s)) ≡ after (next_line s) (moment_of (seen s))
-line_is s run = ap (λ st. on compiled (place_in st s.pc (operands_of s) (slots_of s) (blocks_of s)) [] (moment_of (seen s))) run
+line_is : (compile : Compiler) (s : State) → s.standing ≡ standing.Running → next compile (moment_of (seen s)) ≡ after (next_line s) (moment_of (seen s))
+line_is compile s run = ap (λ st. on compile (place_in st s.pc (operands_of s) (slots_of s) (blocks_of s)) [] (moment_of (seen s))) run
+
+-- a compiler that adds nothing
+abbrev no_compiler : Compiler
+no_compiler t m = (t, 0)
 
 -- it leads on
 pub open_next : (s : State) → IsKept s → s.standing ≡ standing.Running → IsOpen (next_line s)
-open_next s h run e = h.never 1 (ap (λ c. c.place) (line_is s run) ∙ e)
+open_next s h run e = h.never no_compiler 1 (ap (λ c. c.place) (line_is no_compiler s run) ∙ e)
 
 sound_starved : (old new : State) → IsSound old → new ≡ record old { standing = standing.Starved; line = new.line; printed = new.printed; store = new.store } → new.store.items ≡ old.store.items → IsSound new
 sound_starved old new h e same =
@@ -120,23 +117,26 @@ idle_waits s e = ap (λ st. place_in st s.pc (operands_of s) (slots_of s) (block
 
 -- what a step has done, as it is seen
 pub steps_seen : (old new : State) (r : Step) → old.standing ≡ standing.Running → Did (next_line old) old new r → Steps (seen old) (seen new) r
-steps_seen old new Local run did =
+steps_seen old new Local run did = (
+  λ compile.
     let m = moment_of (seen old) in
-    let l = next_line old in (
-      record {
-        moment = sym (ap from_here (line_is old run) ∙ ap (λ p. from_here (record (after l m) { place = p })) did.0.place ∙ moment_next l (place_of new) old new did.0);
-        printed = did.0.printed ∙ ap (λ b. string_bytes old.printed ++ b) (sym (bytes_printed l.out 1) ∙ ap printed_of (sym (line_is old run)));
-        fed = ap is_starved did.1;
-      },
-      subst (λ st. IsAt (place_in st new.pc (operands_of new) (slots_of new) (blocks_of new))) (sym did.1) tt,
-    )
-steps_seen old new Ended run did =
+    let l = next_line old in
+    let is = line_is compile old run in
+    record {
+      moment = sym (ap from_here is ∙ ap (λ p. from_here (record (after l m) { place = p })) did.0.place ∙ moment_next l (place_of new) old new did.0);
+      printed = did.0.printed ∙ ap (λ b. string_bytes old.printed ++ b) (sym (bytes_printed l.out 1) ∙ ap printed_of (sym is));
+      fed = ap is_starved did.1;
+    },
+  subst (λ st. IsAt (place_in st new.pc (operands_of new) (slots_of new) (blocks_of new))) (sym did.1) tt,
+)
+steps_seen old new Ended run did = λ compile.
     let m = moment_of (seen old) in
-    let l = next_line old in (
-      ap (λ c. c.place) (line_is old run) ∙ did.0.place,
+    let l = next_line old in
+    let is = line_is compile old run in (
+      ap (λ c. c.place) is ∙ did.0.place,
       record {
         moment = sym (
-            ap (λ (c : Course). from_here (record c { place = Taking })) (line_is old run)
+            ap (λ (c : Course). from_here (record c { place = Taking })) is
             ∙ ap (λ p. from_here (record (after l m) { place = p })) (sym (idle_waits new did.1))
             ∙ moment_next l (Ending (outcome_of new.outcome)) old new did.0
             );
@@ -150,7 +150,7 @@ steps_seen old new Starved run did = starved_seen old new run did
 pub keeps : (old new : State) (r : Step) → IsKept old → old.standing ≡ standing.Running → Did (next_line old) old new r → IsKept new
 keeps old new Local h run did = record {
   sound = did.0.sound;
-  never = subst NeverCloses (sym (steps_seen old new Local run did).0.moment) (never_later (moment_of (seen old)) refl h.never);
+  never = never_later (moment_of (seen old)) (moment_of (seen new)) refl (λ compile. ((steps_seen old new Local run did).0 compile).moment) h.never;
 }
 keeps old new Ended h run did = record { sound = did.0.sound; never = never_taking (moment_of (seen new)) refl (idle_waits new did.1) }
 keeps old new Starved h run did = record {

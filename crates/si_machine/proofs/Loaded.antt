@@ -2,15 +2,11 @@
 use Rattle.std.proofs.Common.{ℕ, [], sym, subst}
 use Rattle.si_semantics.specs.World.{first_world}
 use Rattle.si_semantics.specs.Machine.{Table}
-use Rattle.si_compile.specs.Correct.{NeverCloses, run_at}
-use Rattle.si_compile.proofs.Opened.{stays_open}
+use Rattle.si_semantics.specs.Running.{NeverCloses, run_at}
 use Rattle.si_machine.specs.declared.state.State.{State}
-use Rattle.si_machine.specs.Machines.{Stands, IsEntry}
+use Rattle.si_machine.specs.Machines.{Stands}
 use Rattle.si_machine.specs.States.{IsSound, IsKept, seen}
 
 -- the code that it runs never comes to where something is lacking
-pub begun_kept : (entry : Table × ℕ) (s : State) → IsSound s → IsEntry entry → Stands (seen s) (run_at entry first_world) [] → IsKept s
-begun_kept entry s h e st = record {
-  sound = h;
-  never = subst NeverCloses (sym st.moment) (subst (λ x. NeverCloses (run_at x first_world)) (sym e.4) (stays_open e.0 e.1 e.3 first_world e.2));
-}
+pub begun_kept : (entry : Table × ℕ) (s : State) → IsSound s → NeverCloses (run_at entry first_world) → Stands (seen s) (run_at entry first_world) [] → IsKept s
+begun_kept entry s h never st = record { sound = h; never = subst NeverCloses (sym st.moment) never }

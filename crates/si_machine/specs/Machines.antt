@@ -1,13 +1,10 @@
 -- What is seen of a machine, and what its calls make of that.
 use Rattle.std.specs.Prelude.{◌≡◌, ℕ, List, [], ◌++◌, Option, Bool, true, false, encode_utf8_all}
-use Rattle.si_semantics.specs.Tree.{Function, Module}
 use Rattle.si_semantics.specs.Value.{Text, Value, Object}
 use Rattle.si_semantics.specs.World.{World}
 use Rattle.si_semantics.specs.Life.{Outcome}
-use Rattle.si_semantics.specs.Machine.{Place, At, Calling, Taking, Ending, Closed, Table, Course, next}
+use Rattle.si_semantics.specs.Machine.{Place, At, Calling, Taking, Ending, Closed, Table, Compiler, Course, next}
 use Rattle.si_semantics.specs.Shows.{texts, joined}
-use Rattle.si_compile.specs.Code.{compiled}
-use Rattle.si_compile.specs.Correct.{Knows}
 use Rattle.si_machine.specs.declared.step.Step.{Step}
 use Rattle.si_machine.specs.declared.step.Step.TheVariants.{Local, Ended, Starved}
 use Rattle.si_machine.specs.Values.{globals_of}
@@ -42,10 +39,6 @@ pub record Stands (s : Seen) (c : Course) (text : List ℕ) : Type 0 where
   pub printed : s.printed ≡ text
   pub fed : s.starved ≡ false
 
--- a table and a place in it are what the compiler makes of some text, added to some table that knows its functions
-abbrev pub IsEntry : Table × ℕ → Type 0
-IsEntry entry = (t : Table) × (fs : List Function) × Knows t fs × (m : Module) × (entry ≡ compiled t m)
-
 -- a place is at an instruction
 abbrev pub IsAt : Place → Type 0
 IsAt (At pc ops slots bs) = Unit {0}
@@ -63,9 +56,12 @@ pub record IsRunning (s : Seen) : Type 0 where
 abbrev pub printed_of : Course → List ℕ
 printed_of c = encode_utf8_all (joined (texts c.printed))
 
--- what a step does where a machine runs: one line of the course, and the run goes on; one line with which the run ended, that printed
--- nothing, and the machine waits for a text; or memory was refused, and nothing else has changed
+-- what a step does where a machine runs, by whatever compiler further texts would be added: one line of the course, and the run goes on; one
+-- line with which the run ended, that printed nothing, and the machine waits for a text; or memory was refused, and nothing else has changed
 abbrev pub Steps : Seen → Seen → Step → Type 0
-Steps old new Local = let c = next compiled (moment_of old) in Stands new (from_here c) (old.printed ++ printed_of c) × IsAt new.place
-Steps old new Ended = let c = next compiled (moment_of old) in (c.place ≡ Ending new.outcome) × Stands new (from_here (record c { place = Taking })) old.printed
+Steps old new Local =
+    ((compile : Compiler) → let c = next compile (moment_of old) in Stands new (from_here c) (old.printed ++ printed_of c)) × IsAt new.place
+Steps old new Ended =
+    (compile : Compiler)
+    → let c = next compile (moment_of old) in (c.place ≡ Ending new.outcome) × Stands new (from_here (record c { place = Taking })) old.printed
 Steps old new Starved = new ≡ record old { starved = true }

@@ -6,7 +6,7 @@ use Rattle.si_semantics.specs.Machine as machine
 use Rattle.si_semantics.specs.Machine.{Instr, Loop, Each, Catch, Final, Pending, Handling, Frame, Place, At, Taking, Ending, Closed, Line, act, fetched, goes, raises, leave}
 use Rattle.si_code.specs.Views.{code_of, entries_of, table_of}
 use Rattle.si_code.specs.declared.routine.Routine.{Routine}
-use Rattle.si_compile.specs.Correct.{NeverCloses}
+use Rattle.si_semantics.specs.Running.{NeverCloses}
 use Rattle.si_machine.specs.declared.value.Value.{Value}
 use Rattle.si_machine.specs.declared.value.Value.TheVariants as value
 use Rattle.si_machine.specs.declared.blocks.Block.{Block}

@@ -2,12 +2,13 @@
 //
 // What is seen of a machine is a moment of a course (specs/Machines.antt). `load` begins the run of a text; a step of a
 // machine that runs does exactly one line of the course, and says how the run ended just where it ends; refused memory,
-// the machine stands still, with nothing changed. Code that the compiler made never lacks an operand nor an
-// instruction, so there is no answer for that. A machine owns its code, its values and what was printed; two machines
-// share nothing. Values are small and are copied; texts lie in a vector of the machine's own and are named by their
-// places, and so are exceptions: both only grow. What was entered and not left, bodies of loops, calls of
-// functions, the suites of a `try` and the items of a `for`, lies on a stack of its own, where `continue`, `break`,
-// `return` and an exception find where they go. The operands and the locals of all calls lie in one vector each.
+// the machine stands still, with nothing changed. `load` asks for code that never lacks an operand nor an instruction,
+// as a law of the compiler's says of what it makes, so there is no answer for that. A machine owns its code, its values
+// and what was printed; two machines share nothing. Values are small and are copied; texts lie in a vector of the
+// machine's own and are named by their places, and so are exceptions: both only grow. What was entered and not left,
+// bodies of loops, calls of functions, the suites of a `try` and the items of a `for`, lies on a stack of its own,
+// where `continue`, `break`, `return` and an exception find where they go. The operands and the locals of all calls lie
+// in one vector each.
 //
 // What is rare is kept out of the step by `inline(never)`, so that the rest of it is drawn into the loop of its caller.
 //

@@ -3,9 +3,9 @@
 ghost use Rattle.std.specs.Prelude.{◌≡◌, ◌↔◌, [], IsTrue, OnOk, IfErr, OnErr, string_bytes};
 ghost use Rattle.si_semantics.specs.World.{first_world};
 ghost use Rattle.si_semantics.specs.Machine.{start};
-ghost use Rattle.si_compile.specs.Correct.{run_at};
+ghost use Rattle.si_semantics.specs.Running.{NeverCloses, run_at};
 ghost use Rattle.si_code.specs.Views.{table_of};
-ghost use Rattle.si_machine.specs.Machines.{IsEntry, Stands, IsRunning, Steps};
+ghost use Rattle.si_machine.specs.Machines.{Stands, IsRunning, Steps};
 ghost use Rattle.si_machine.specs.Outcomes.{outcome_of};
 ghost use Rattle.si_semantics.specs.Life as life;
 
@@ -47,8 +47,11 @@ impl Machine {
 
     /// Begins anew, at an entry of a table: nothing is bound but `__name__`, and nothing was printed. Refused
     /// memory, the table comes back and the machine is as it was.
+    ///
+    /// The run from there may never come to be closed: no instruction of it lacks what it takes, and none is missing.
+    /// Of each text that `si_compile` has compiled, its law `stays_open` says so.
     pub fn load(&mut self, table: CodeTable, entry: Entry) -> Result<(), AllocFailed<CodeTable>>
-        requires { IsEntry (table_of table, entry.at) }
+        requires { NeverCloses (run_at (table_of table, entry.at) first_world) }
         ensures ok { OnOk result (Stands self.new (run_at (table_of table, entry.at) first_world) []) }
         ensures untold { OnOk result (self.new.outcome ≡ life.Returned) }
         ensures err { OnErr result (self.new ≡ self.old) }

@@ -8,6 +8,7 @@ pub mod Meaning
 pub mod Scope
 pub mod Life
 pub mod Machine
+pub mod Running
 pub mod Shows
 pub mod Report
 pub mod Cases

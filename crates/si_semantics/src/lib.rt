@@ -2,12 +2,13 @@
 //
 // In reading order: `Value` and `Text` (values, and how they are written), `Tree` (what a text is read as), `World` and
 // `Operations` (what a script changes, and what an operation does to it), `Scope` (which names are local, and where
-// `break`, `continue`, `return`, `global` and `def` stand), `Meaning` (the evaluation of a tree, and what a call means),
-// `Life` (an interpreter's life, one function of the answers that it is given), `Machine` (the machine that runs compiled
-// code, one line an instruction), `Shows` (what an interpreter shows of its life at any moment), `Report` (what the
-// program prints, and its status), `Cases`, `FunctionCases`, `ExceptionCases`, `FinallyCases`, `ItemCases` and
-// `ScopeCases` (worked cases; `Scripts` has short forms for them), `Laws` (what is proved of lives and of courses). How a
-// text is read: `Tokens`, `Literals` with `LiteralCases`, `Words`, `Layout` with `LayoutCases`, `Grammar`.
+// `break`, `continue`, `return`, `global` and `def` stand), `Meaning` (the evaluation of a tree, and what a call
+// means), `Life` (an interpreter's life, one function of the answers that it is given), `Machine` (the machine that
+// runs compiled code, one line an instruction), `Running` (the run of one text, and what never comes to be closed),
+// `Shows` (what an interpreter shows of its life at any moment), `Report` (what the program prints, and its status),
+// `Cases`, `FunctionCases`, `ExceptionCases`, `FinallyCases`, `ItemCases` and `ScopeCases` (worked cases; `Scripts` has
+// short forms for them), `Laws` (what is proved of lives and of courses). How a text is read: `Tokens`, `Literals` with
+// `LiteralCases`, `Words`, `Layout` with `LayoutCases`, `Grammar`.
 //
 // The one contract is that they hold together (`laws`): the cases compute, and a life and a course only ever grow.
 #![tactic(auto)]

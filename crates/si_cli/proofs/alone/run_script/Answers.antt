@@ -1,11 +1,12 @@
-use Rattle.std.proofs.Common.{◌∙◌, ℕ, [], Some, ap, refl, subst}
+use Rattle.std.proofs.Common.{◌∙◌, ℕ, [], Some, ap, refl, subst, sym}
 use Rattle.si_semantics.specs.Tree.{Module}
 use Rattle.si_scope.specs.Scripts.{script_of}
 use Rattle.si_compile.specs.Code.{compiled}
 use Rattle.si_code.specs.Contents.{Contents, no_code}
 use Rattle.si_code.specs.Views.{table_of}
-use Rattle.si_compile.specs.Correct.{run_at}
+use Rattle.si_compile.proofs.Opened.{stays_open}
 use Rattle.si_semantics.specs.Machine.{Table}
+use Rattle.si_semantics.specs.Running.{NeverCloses, run_at}
 use Rattle.si_semantics.specs.World.{first_world}
 use Rattle.si_machine.specs.Machines.{Stands}
 use Rattle.si_cli.proofs.CourseLemmas.{begins, shown}
@@ -24,4 +25,5 @@ pub load-requires : goal.load-requires
 load-requires c =
     let tree : Module = record { body = script_of c.args.tree.now } in
     let entry = c.in_ok-entry.ensures.ok ∙ ap (λ (t : Contents). compiled (table_of t) tree) c.new-table.ensures in
-    (table_of no_code, [], tt, tree, entry)
+    let P : Table × ℕ → Type 0 = λ at. NeverCloses (run_at at first_world) in
+    subst P (sym entry) (stays_open (table_of no_code) [] tree first_world tt)
