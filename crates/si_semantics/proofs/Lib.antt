@@ -10,4 +10,5 @@ pub mod Names
 pub mod WorkedLiterals
 pub mod Scoped
 pub mod WorkedLayout
+pub mod WorkedLimits
 pub mod KindsAbove

@@ -21,6 +21,8 @@ pub mod Laws
 pub mod Literals
 pub mod LiteralCases
 pub mod Grammar
+pub mod Limits
+pub mod LimitCases
 pub mod Words
 pub mod Layout
 pub mod LayoutCases
