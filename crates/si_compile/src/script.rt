@@ -21,8 +21,8 @@ use std::alloc::AllocError;
 /// Adds the code of a script to a table, that of its functions first, and says where the code of its statements begins.
 /// That ends in `Instr::Finish`.
 ///
-/// `NoMemory`: memory was refused, or the table would have more than 2^32 slots, literals or functions. The table then
-/// is as it was.
+/// `NoMemory`: memory was refused, or the table would have more than 2^32 slots, literals or functions, or as many
+/// instructions. The table then is as it was.
 pub fn compile(tree: &Scoped, table: &mut CodeTable) -> Result<Entry, NoMemory>
     ensures ok { IfOk result (λ entry. (table_of table.new, entry.at) ≡ compiled (table_of table.old) (record { body = script_of tree.now })) }
     ensures gains { let functions = functions_in (script_of tree.now) in

@@ -8,8 +8,9 @@ use Rattle.si_semantics.specs.Tree.{BinaryOperator, UnaryOperator, ComparisonOpe
 use Rattle.si_semantics.specs.Tree as tree
 use Rattle.si_semantics.specs.Tokens.{Symbol, Keyword}
 use Rattle.si_semantics.specs.Tokens as token
+use Rattle.si_semantics.specs.Text.{max_length}
 use Rattle.si_semantics.specs.Grammar.{Terminal, NAME, NUMBER, STRING, Sign, Word, level_of, left_level, right_level, symbol_of, prefix_level, prefix_of, boolean_level, item_level, word_of, comparison_of, is_identity, Many, Behind, Separated, Argument, Positional, ByName, Passes, IsPassed, exprs_of, items_of, Link, links_of, chain_of, Compares, Strings, Spells}
-use Rattle.si_parse.specs.Reading.{Argued, after_equal, named_at, argument_from, argument_by, called, comparison, boolean, continuation_at, strength_of, strength_at, begins_str, then_read, after_close, after_comma, after_else, after_boolean, with_word, comparison_at, identity_from, after_not, Found, Parsed, Parser, with_argument, arguments_from, arguments_by, within, call_by, is_singleton, compared_to, compared_by, other_by, conditional_by, extended_by, continued_by, closed, strings_by, bracketed_by, operand_from, operand_by, expression_at}
+use Rattle.si_parse.specs.Reading.{short, Argued, after_equal, named_at, argument_from, argument_by, called, comparison, boolean, continuation_at, strength_of, strength_at, begins_str, then_read, after_close, after_comma, after_else, after_boolean, with_word, comparison_at, identity_from, after_not, Found, Parsed, Parser, with_argument, arguments_from, arguments_by, within, call_by, is_singleton, compared_to, compared_by, other_by, conditional_by, extended_by, continued_by, closed, strings_by, bracketed_by, operand_from, operand_by, expression_at}
 use Rattle.si_parse.proofs.Laws.{some_inj, named_at_some, exprs_of_items, chain_of_links}
 use Rattle.si_parse.proofs.Levels.{right_weaker, right_bound, level_under, role_of_symbol, prefix_gap, prefix_bound, prefix_begins, conditional_gap, boolean_strength, item_bound, role_of_word, after_word, role_of_comparison, boolean_none, comparison_none}
 use Rattle.si_parse.proofs.Lists.{le_to, added, Pairwise, separated_complete}
@@ -50,10 +51,15 @@ strings_complete text s (STRING literal ∷ ts) rest h b =
     ∙ ap (λ t. Some (t, rest)) (append_assoc text h.0 h.1 ∙ ap (λ s. text ++ s) (sym h.2))
 strings_complete text s (_ ∷ ts) rest h b = absurd h
 
-string_operand : (sub : Parser) (l : ℕ) (s : List ℕ) (f rest : List Terminal) → 0 < length f → Strings s f → begins_str rest ≡ false → operand_by sub l (f ++ rest) ≡ Some (Constant (Str s), 1, rest)
-string_operand sub l s [] rest some h b = absurd (omega arith)
-string_operand sub l s (STRING literal ∷ ts) rest some h b = ap (λ o. then_read o (λ r. Some (Constant (Str r.0), 1, r.1))) (strings_complete [] s (STRING literal ∷ ts) rest h b)
-string_operand sub l s (_ ∷ ts) rest some h b = absurd h
+abbrev with_text : List ℕ × List Terminal → Parsed
+with_text r = Some (Constant (Str r.0), 1, r.1)
+
+string_operand : (sub : Parser) (l : ℕ) (s : List ℕ) (f rest : List Terminal) → 0 < length f → length s ≤ max_length → Strings s f → begins_str rest ≡ false → operand_by sub l (f ++ rest) ≡ Some (Constant (Str s), 1, rest)
+string_operand sub l s [] rest some few h b = absurd (omega arith)
+string_operand sub l s (STRING literal ∷ ts) rest some few h b =
+    ap (λ (o : Option (List ℕ × List Terminal)). then_read (then_read o short) with_text) (strings_complete [] s (STRING literal ∷ ts) rest h b)
+    ∙ ap (λ b. then_read (if b then Some (s, rest) else None) with_text) (le_to (length s) max_length few)
+string_operand sub l s (_ ∷ ts) rest some few h b = absurd h
 
 -- ---- comparisons
 
@@ -411,7 +417,7 @@ module _ (n : ℕ) (sub : Parser) (complete : IsComplete n sub) where
         moved (suc m) (Constant (Int i)) (NUMBER h.0 ∷ []) front rest h.1
         (starts (suc m) (Constant (Int i)) (NUMBER h.0 ∷ []) rest 1 (omega arith) (omega arith) (ap (λ o. then_read o (λ n. Some (Constant (Int n), 1, rest))) h.2))
     reached (suc m) le level (Constant (Str s)) front rest (inl h) weak plain at =
-        starts (suc m) (Constant (Str s)) front rest 1 (omega arith) (omega arith) (string_operand sub l s front rest h.0 h.1 plain)
+        starts (suc m) (Constant (Str s)) front rest 1 (omega arith) (omega arith) (string_operand sub l s front rest h.0 h.1 h.2 plain)
     reached (suc m) le level (Constant Nothing) front rest (inl h) weak plain at =
         moved (suc m) (Constant Nothing) (Word token.NoneWord ∷ []) front rest h (starts (suc m) (Constant Nothing) (Word token.NoneWord ∷ []) rest 1 (omega arith) (omega arith) refl)
     reached (suc m) le level (Constant (Truth true)) front rest (inl h) weak plain at =

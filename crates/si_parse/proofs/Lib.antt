@@ -15,6 +15,6 @@ pub mod Complete
 pub mod Statements
 pub mod Handlers
 pub mod Blocks
-pub mod Depths
+pub mod Limits
 pub mod Modules
 pub mod Refusals

@@ -1,15 +1,13 @@
--- A module: what is read is in the grammar, what is in the grammar is read, and no tree is too deep.
+-- A module: what is read is in the grammar, and what is in the grammar is read.
 use Rattle.std.proofs.Common.{◌≡◌, ◌<◌, List, [], ◌∷◌, ◌++◌, length, Option, Some, None, true, false, refl, sym, ap, ◌∙◌, subst, arith, length-append}
 use Rattle.std.specs.Prelude.{option_map}
-use Rattle.std.specs.List.{AllByRecursion}
 use Rattle.si_semantics.specs.Tree.{Stmt, Stmts}
-use Rattle.si_semantics.specs.Grammar.{Terminal, ENDMARKER, Many, stmts_of, Nests, max_nesting, Derives, IsShallow}
+use Rattle.si_semantics.specs.Grammar.{Terminal, ENDMARKER, Many, stmts_of, Nests, max_nesting, Derives}
 use Rattle.si_parse.specs.Reading.{block_at, many_by, is_end, module_by}
 use Rattle.si_parse.proofs.Laws.{some_inj}
 use Rattle.si_parse.proofs.Lists.{many_sound, many_complete}
 use Rattle.si_parse.proofs.Statements.{with_line}
 use Rattle.si_parse.proofs.Blocks.{all_of, added_lines, block_sound, Ends, begun, block_complete}
-use Rattle.si_parse.proofs.Depths.{lines_shallow, nests_shallow}
 
 two : (t u : Terminal) (ts : List Terminal) → is_end (t ∷ (u ∷ ts)) ≡ false
 two ENDMARKER u ts = refl
@@ -64,10 +62,6 @@ one_module a b ts g h =
     let y = module_complete b ts h in
     x.1 ∙ ap (λ r. stmts_of r.0) (some_inj (x.0, ENDMARKER ∷ []) (y.0, ENDMARKER ∷ []) (sym x.2 ∙ y.2)) ∙ sym y.1
 
-pub module_shallow : (ts : List Terminal) (r : List Stmt × List Terminal) → module_by ts ≡ Some r → AllByRecursion IsShallow r.0
-module_shallow ts r h =
-    let m = module_read ts r h in subst (AllByRecursion IsShallow) (sym m.2) (lines_shallow (Nests max_nesting) (nests_shallow max_nesting) m.0 m.1 m.4)
-
 -- ---- what the parser keeps of it
 
 whole : (ts : List Terminal) (o : Option (List Stmt × List Terminal)) → module_by ts ≡ o → (ss : List Stmt) → option_map (λ r. r.0) o ≡ Some ss → (r : List Stmt × List Terminal) × (module_by ts ≡ Some r) × (r.0 ≡ ss)
@@ -76,9 +70,6 @@ whole ts (Some r) is ss h = (r, is, some_inj r.0 ss h)
 
 pub found : (ts : List Terminal) (ss : List Stmt) → option_map (λ r. r.0) (module_by ts) ≡ Some ss → Derives (stmts_of ss) ts
 found ts ss h = let w = whole ts (module_by ts) refl ss h in subst (λ l. Derives (stmts_of l) ts) w.2 (module_sound ts w.0 w.1)
-
-pub shallow : (ts : List Terminal) (ss : List Stmt) → option_map (λ r. r.0) (module_by ts) ≡ Some ss → AllByRecursion IsShallow ss
-shallow ts ss h = let w = whole ts (module_by ts) refl ss h in subst (AllByRecursion IsShallow) w.2 (module_shallow ts w.0 w.1)
 
 pub none_derived : (ts : List Terminal) → option_map (λ r. r.0) (module_by ts) ≡ None → (body : Stmts) → Derives body ts → ⊥
 none_derived ts h body d =

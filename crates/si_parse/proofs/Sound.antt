@@ -9,8 +9,9 @@ use Rattle.si_semantics.specs.Tree.{BinaryOperator, Add, Subtract, Multiply, Flo
 use Rattle.si_semantics.specs.Tree as tree
 use Rattle.si_semantics.specs.Tokens.{Symbol, Keyword}
 use Rattle.si_semantics.specs.Tokens as token
+use Rattle.si_semantics.specs.Text.{max_length}
 use Rattle.si_semantics.specs.Grammar.{Terminal, NAME, NUMBER, STRING, Sign, Word, value_of_int, value_of_str, level_of, left_level, right_level, symbol_of, prefix_level, prefix_of, boolean_level, item_level, word_of, comparison_of, is_identity, Many, Behind, Following, Separated, Argument, Positional, ByName, Passes, IsPassed, exprs_of, items_of, links_of, chain_of, Compares, Strings, Spells}
-use Rattle.si_parse.specs.Reading.{Argued, named_at, argument_from, argument_by, passed_from, called, boolean, continuation_at, strength_of, strength_at, then_read, rest_of, after_close, after_comma, after_else, after_boolean, with_word, comparison_at, Found, Parser, with_argument, arguments_from, arguments_by, within, binary_by, call_by, operands_by, boolean_by, is_singleton, compared_to, compared_by, links_by, compare_by, other_by, conditional_by, extended_by, identity_from, after_not, continued_by, closed, strings_by, prefix_at, unary_by, bracketed_by, atom_by, operand_from, operand_by, expression_at}
+use Rattle.si_parse.specs.Reading.{short, str_by, Argued, named_at, argument_from, argument_by, passed_from, called, boolean, continuation_at, strength_of, strength_at, then_read, rest_of, after_close, after_comma, after_else, after_boolean, with_word, comparison_at, Found, Parser, with_argument, arguments_from, arguments_by, within, binary_by, call_by, operands_by, boolean_by, is_singleton, compared_to, compared_by, links_by, compare_by, other_by, conditional_by, extended_by, identity_from, after_not, continued_by, closed, strings_by, prefix_at, unary_by, bracketed_by, atom_by, operand_from, operand_by, expression_at}
 use Rattle.si_parse.proofs.Laws.{named_at_some, passes_mono, spells_looser, spells_deeper, node, bracketed, then_read_some, some_inj, after_close_some, after_comma_some, after_else_some, with_word_some, with_word_none, prefix_at_some, comparison_at_some, links_of_chain, items_of_exprs, separated_mono, many_mono, compares_mono, behind_mono}
 use Rattle.si_parse.proofs.Levels.{strength_at_most, right_stops, right_bound, level_reached, Apart, high, at_condition, at_disjunction, at_comparison, right_apart, level_apart, prefix_apart, prefix_bound, boolean_apart, item_apart, item_bound, condition_up, condition_down, comparison_up, comparison_down, boolean_up, boolean_down, boolean_strength, after_word, boolean_ends, comparison_ends}
 use Rattle.si_parse.proofs.Lists.{le_from, chosen, added, separated_sound}
@@ -59,6 +60,14 @@ strings_read text (STRING literal ∷ ts) r h =
 strings_read text (t ∷ ts) r h =
     let P : List ℕ × List Terminal → Type 0 = λ r. (f : List Terminal) × (s : List ℕ) × (r.0 ≡ text ++ s) × (t ∷ ts ≡ f ++ r.1) × Strings s f in
     subst P (some_inj (text, t ∷ ts) r h) ([], [], sym (append-nil text), refl, refl)
+
+-- what is short was read, and is no longer than the limit
+short_read : (ts : List Terminal) (r : List ℕ × List Terminal) → str_by ts ≡ Some r → (strings_by [] ts ≡ Some r) × (length r.0 ≤ max_length)
+short_read ts r h =
+    let s = then_read_some (strings_by [] ts) short r h in
+    let c = cond_some (nat_le (length s.0.0) max_length) s.0 r s.2 in
+    let P : List ℕ × List Terminal → Type 0 = λ r. (strings_by [] ts ≡ Some r) × (length r.0 ≤ max_length) in
+    subst P c.1 (s.1, le_from (length s.0.0) max_length c.0)
 
 -- ---- arguments
 
@@ -208,16 +217,17 @@ module _ (n : ℕ) (sub : Parser) (sound : IsSound n sub) where
 
     string_reads : (literal : List ℕ) (ts : List Terminal) (r : Found) → atom_by sub (STRING literal ∷ ts) ≡ Some r → Begins (STRING literal ∷ ts) r
     string_reads literal ts r h =
-        let s = then_read_some (strings_by [] (STRING literal ∷ ts)) (λ r. Some (Constant (Str r.0), 1, r.1)) r h in
-        let v = then_read_some (value_of_str literal) (λ s. strings_by s ts) s.0 s.1 in
-        let y = strings_read v.0 ts s.0 v.2 in
+        let w = then_read_some (str_by (STRING literal ∷ ts)) (λ r. Some (Constant (Str r.0), 1, r.1)) r h in
+        let s = short_read (STRING literal ∷ ts) w.0 w.1 in
+        let v = then_read_some (value_of_str literal) (λ s. strings_by s ts) w.0 s.0 in
+        let y = strings_read v.0 ts w.0 v.2 in
         let P : Found → Type 0 = Begins (STRING literal ∷ ts) in
         let Q : List ℕ → Type 0 = λ t. Strings t (STRING literal ∷ y.0) in
-        let whole : Strings s.0.0 (STRING literal ∷ y.0) = subst Q (sym y.2) (v.0, y.1, refl, v.1, y.4) in
-        let B : List Terminal → Type 0 = λ l. Begins (STRING literal ∷ l) (Constant (Str s.0.0), 1, s.0.1) in
-        subst P (some_inj (Constant (Str s.0.0), 1, s.0.1) r s.2) (
+        let whole : Strings w.0.0 (STRING literal ∷ y.0) = subst Q (sym y.2) (v.0, y.1, refl, v.1, y.4) in
+        let B : List Terminal → Type 0 = λ l. Begins (STRING literal ∷ l) (Constant (Str w.0.0), 1, w.0.1) in
+        subst P (some_inj (Constant (Str w.0.0), 1, w.0.1) r w.2) (
         subst B (sym y.3) (
-        atom (STRING literal ∷ y.0) s.0.1 (Constant (Str s.0.0)) (node 0 18 (Constant (Str s.0.0)) (STRING literal ∷ y.0) (omega arith, whole))))
+        atom (STRING literal ∷ y.0) w.0.1 (Constant (Str w.0.0)) (node 0 18 (Constant (Str w.0.0)) (STRING literal ∷ y.0) (omega arith, s.1, whole))))
 
     atom_reads : (ts : List Terminal) (r : Found) → atom_by sub ts ≡ Some r → Begins ts r
     atom_reads [] r h = cc

@@ -6,6 +6,7 @@ use Rattle.si_semantics.specs.Tree as tree
 use Rattle.si_semantics.specs.Scope.{is_in}
 use Rattle.si_semantics.specs.Tokens.{Symbol, Keyword}
 use Rattle.si_semantics.specs.Tokens as token
+use Rattle.si_semantics.specs.Text.{max_length}
 use Rattle.si_semantics.specs.Grammar.{Terminal, NAME, NUMBER, STRING, Sign, Word, NEWLINE, INDENT, DEDENT, ENDMARKER, Argument, Positional, ByName, value_of_int, value_of_str, left_level, right_level, prefix_level, item_level, is_identity, Link, chain_of, exprs_of, max_depth, Branch, stmts_of, elifs_of, Clause, clauses_of, max_nesting, max_parameters}
 
 -- ---- one terminal of look-ahead
@@ -469,6 +470,14 @@ strings_by text [] = Some (text, [])
 strings_by text (STRING literal ∷ ts) = then_read (value_of_str literal) (λ s. strings_by (text ++ s) ts)
 strings_by text (t ∷ ts) = Some (text, t ∷ ts)
 
+-- a text that is no longer than a str may be
+abbrev pub short : Text × List Terminal → Option (Text × List Terminal)
+short r = if nat_le (length r.0) max_length then Some r else None
+
+-- the text of the str literals that stand first, where it is short
+abbrev pub str_by : List Terminal → Option (Text × List Terminal)
+str_by ts = then_read (strings_by [] ts) short
+
 -- the operator that stands before an operand
 abbrev pub prefix_at : List Terminal → Option UnaryOperator
 prefix_at [] = None
@@ -488,7 +497,7 @@ abbrev pub atom_by : Parser → List Terminal → Parsed
 atom_by sub [] = None
 atom_by sub (NAME x ∷ ts) = Some (Name x, 1, ts)
 atom_by sub (NUMBER digits ∷ ts) = then_read (value_of_int digits) (λ n. Some (Constant (Int n), 1, ts))
-atom_by sub (STRING literal ∷ ts) = then_read (strings_by [] (STRING literal ∷ ts)) (λ r. Some (Constant (Str r.0), 1, r.1))
+atom_by sub (STRING literal ∷ ts) = then_read (str_by (STRING literal ∷ ts)) (λ r. Some (Constant (Str r.0), 1, r.1))
 atom_by sub (Word token.NoneWord ∷ ts) = Some (Constant Nothing, 1, ts)
 atom_by sub (Word token.TrueWord ∷ ts) = Some (Constant (Truth true), 1, ts)
 atom_by sub (Word token.FalseWord ∷ ts) = Some (Constant (Truth false), 1, ts)

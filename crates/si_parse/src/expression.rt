@@ -3,7 +3,7 @@
 ghost use Rattle.std.specs.Prelude.{◌≡◌, ℕ, ◌+◌, ◌-◌, ◌*◌, ◌<◌, ◌≤◌, [], map, length, option_map, IfOk};
 ghost use Rattle.si_semantics.specs.Grammar.{is_identity};
 ghost use Rattle.si_syntax.specs.Trees.{binary_of, unary_of, boolean_of, comparison_of, expr_of, link_of};
-ghost use Rattle.si_parse.specs.Reading.{rest_of, within, strings_by, is_singleton, compared_by, operand_by, atom_by, unary_by, bracketed_by, continued_by, binary_by, call_by, compare_by, boolean_by, conditional_by, extended_by, argument_by, arguments_by, operands_by, links_by, expression_at};
+ghost use Rattle.si_parse.specs.Reading.{rest_of, within, strings_by, str_by, is_singleton, compared_by, operand_by, atom_by, unary_by, bracketed_by, continued_by, binary_by, call_by, compare_by, boolean_by, conditional_by, extended_by, argument_by, arguments_by, operands_by, links_by, expression_at};
 ghost use Rattle.si_parse.specs.Gives.{Gives, from, continuation_view, argument_of};
 
 use crate::argument::{Argument, named_at, passed};
@@ -17,6 +17,7 @@ use crate::precedence::{
     right_level, strength, what_follows,
 };
 use si_plain::Text;
+use si_plain::limits::MAX_STR_LENGTH;
 use si_syntax::{BinaryOperator, BooleanOperator, ComparisonOperator, Expr, UnaryOperator};
 use si_token::{Keyword, Symbol, Token, TokenKind, int_value};
 use std::alloc::Global;
@@ -52,6 +53,17 @@ fn strings(alloc: Global, tokens: &[Token], at: usize) -> Result<(Text, usize), 
         text.append(&value)?;
     }
     Ok((text, tokens.len()))
+}
+
+// The same, no longer than a str may be.
+fn str_at(alloc: Global, tokens: &[Token], at: usize) -> Result<(Text, usize), ParseFault>
+    ensures { Gives (λ x. (x.0, from tokens.now x.1)) result (str_by (from tokens.now at)) }
+{
+    let (text, end) = strings(alloc, tokens, at)?;
+    if text.len() > MAX_STR_LENGTH {
+        return Err(ParseFault::Syntax(line_at(tokens, at)));
+    }
+    Ok((text, end))
 }
 
 // An expression of a level, no deeper than the budget.
@@ -105,7 +117,7 @@ fn atom(alloc: Global, parts: u32, tokens: &[Token], at: usize) -> Read
             None => Err(ParseFault::Syntax(token.span.line)),
         },
         TokenKind::Str => {
-            let (text, at) = strings(alloc, tokens, at)?;
+            let (text, at) = str_at(alloc, tokens, at)?;
             Ok((Expr::Str(text), 1, at))
         }
         TokenKind::Keyword(Keyword::None) => Ok((Expr::Nothing, 1, at + 1)),

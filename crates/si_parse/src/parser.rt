@@ -3,6 +3,7 @@
 ghost use Rattle.std.specs.Prelude.{◌≡◌, List, IfOk, IfErr};
 ghost use Rattle.si_semantics.specs.Tree.{Stmts};
 ghost use Rattle.si_semantics.specs.Grammar.{Terminal, Derives};
+ghost use Rattle.si_semantics.specs.Limits.{IsWithinLimits};
 ghost use Rattle.si_syntax.specs.Modules.{tree_of};
 ghost use Rattle.si_parse.specs.Modules.{IsRead};
 ghost use Rattle.si_parse.specs.Gives.{from, IsSyntax};
@@ -51,6 +52,11 @@ pub fn parse(alloc: Global, text: &str) -> Result<Module, ParseFault>
     let all = tokens(alloc, text)?;
     module_of(alloc, all.as_slice())
 }
+
+/// Every tree that tokens derive is within the limits.
+pub fn derived_within_limits()
+    ensures { (body : Stmts) (ts : List Terminal) → Derives body ts → IsWithinLimits body }
+{}
 
 /// The grammar is unambiguous: tokens derive at most one tree.
 pub fn one_tree()

@@ -11,6 +11,7 @@ pub mod Names
 pub mod WorkedLiterals
 pub mod Scoped
 pub mod WorkedLayout
+pub mod WorkedLimits
 pub mod KindsAbove
 pub mod WorkedParcels
 pub mod WorkedShared

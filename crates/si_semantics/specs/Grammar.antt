@@ -1,10 +1,11 @@
 -- The grammar: which tokens derive which tree (Python Language Reference 3.14, 6, 7, 8 and 10).
 -- Each rule stands in the line above its production, in the notation of the reference.
-use Rattle.std.specs.Prelude.{◌≡◌, ℕ, zero, suc, ◌+◌, ◌<◌, ◌≤◌, max, Bool, true, false, List, [], ◌∷◌, ◌++◌, length, map, flat_map, ◌⊎◌, Option, Some, None}
+use Rattle.std.specs.Prelude.{◌≡◌, ℕ, zero, suc, ◌+◌, ◌<◌, ◌≤◌, Bool, true, false, List, [], ◌∷◌, ◌++◌, length, map, flat_map, ◌⊎◌, Option, Some, None}
 use Rattle.si_semantics.specs.Value.{Text, Nothing, Truth, Int, Str, Provided, Function, Range, Class, Address}
 use Rattle.si_semantics.specs.Tree.{BinaryOperator, Add, Subtract, Multiply, FloorDivide, Modulo, Power, BitOr, BitXor, BitAnd, ShiftLeft, ShiftRight, UnaryOperator, ComparisonOperator, BooleanOperator, Expr, Constant, Name, Unary, Binary, Call, Boolean, Compare, Conditional, Exprs, NoExprs, MoreExprs, Comparisons, NoComparisons, MoreComparisons, Stmt, Evaluate, Assign, Augment, Pass, If, While, For, Break, Continue, Define, Return, Global, Raise, Try, Finally, Stmts, NoStmts, MoreStmts, Clauses, NoClauses, MoreClauses}
 use Rattle.si_semantics.specs.Tree as tree
 use Rattle.si_semantics.specs.Scope.{are_distinct}
+use Rattle.si_semantics.specs.Text.{max_length}
 use Rattle.si_semantics.specs.Tokens.{Symbol, Keyword, TokenKind, Token}
 use Rattle.si_semantics.specs.Tokens as token
 pub use Rattle.si_semantics.specs.Literals.{value_of_int, value_of_str}
@@ -221,9 +222,10 @@ pub record IsPassed (arguments : List Argument) (values : List Expr) (names : Li
 -- one production for each kind of tree, over the language of the parts
 abbrev pub Produces : Language → Language
 -- atom: NAME | NUMBER | STRING+ | 'None' | 'True' | 'False'
+-- The text of str literals beside each other is no longer than a str may be, which is a choice of this project.
 Produces E l (Name x) ts = ts ≡ NAME x ∷ []
 Produces E l (Constant (Int n)) ts = (digits : List ℕ) × (ts ≡ NUMBER digits ∷ []) × (value_of_int digits ≡ Some n)
-Produces E l (Constant (Str s)) ts = (0 < length ts) × Strings s ts
+Produces E l (Constant (Str s)) ts = (0 < length ts) × (length s ≤ max_length) × Strings s ts
 Produces E l (Constant Nothing) ts = ts ≡ Word token.NoneWord ∷ []
 Produces E l (Constant (Truth b)) ts = ts ≡ Word (truth_word b) ∷ []
 Produces E l (Constant (Provided b)) ts = ⊥
@@ -432,57 +434,3 @@ max_nesting = 20
 -- module: { line } ENDMARKER
 abbrev pub Derives : Stmts → List Terminal → Type 0
 Derives body ts = (f : List Terminal) × (ts ≡ f ++ ENDMARKER ∷ []) × Block (Nests max_nesting) body f
-
--- ---- depth
-
--- the depth of a tree: a name or a literal has 1, others 1 more than their deepest part
-abbrev mutual
-  pub depth_of : Expr → ℕ
-  depth_of (Constant v) = 1
-  depth_of (Name x) = 1
-  depth_of (Unary op a) = depth_of a + 1
-  depth_of (Binary op a b) = max (depth_of a) (depth_of b) + 1
-  depth_of (Call a args names) = max (depth_of a) (depth_of_all args) + 1
-  depth_of (Boolean o a more) = max (depth_of a) (depth_of_all more) + 1
-  depth_of (Compare a cs) = max (depth_of a) (depth_of_chain cs) + 1
-  depth_of (Conditional a b c) = max (depth_of a) (max (depth_of b) (depth_of c)) + 1
-
-  pub depth_of_all : Exprs → ℕ
-  depth_of_all NoExprs = 0
-  depth_of_all (MoreExprs e es) = max (depth_of e) (depth_of_all es)
-
-  pub depth_of_chain : Comparisons → ℕ
-  depth_of_chain NoComparisons = 0
-  depth_of_chain (MoreComparisons o e cs) = max (depth_of e) (depth_of_chain cs)
-
--- the depth of an expression that may be left out
-abbrev pub depth_of_value : Option Expr → ℕ
-depth_of_value None = 0
-depth_of_value (Some e) = depth_of e
-
--- no expression of the statement is deeper than the limit, and no function of it has more parameters than the limit
-abbrev mutual
-  pub IsShallow : Stmt → Type 0
-  IsShallow (Evaluate e) = depth_of e ≤ max_depth
-  IsShallow (Assign x e) = depth_of e ≤ max_depth
-  IsShallow (Augment x op e) = depth_of e ≤ max_depth
-  IsShallow Pass = Unit {0}
-  IsShallow (If test body other) = (depth_of test ≤ max_depth) × AreShallow body × AreShallow other
-  IsShallow (While test body other) = (depth_of test ≤ max_depth) × AreShallow body × AreShallow other
-  IsShallow Break = Unit {0}
-  IsShallow Continue = Unit {0}
-  IsShallow (Define x ps body) = (length ps ≤ max_parameters) × AreShallow body
-  IsShallow (Return a) = depth_of_value a ≤ max_depth
-  IsShallow (Global xs) = Unit {0}
-  IsShallow (For x over body other) = (depth_of over ≤ max_depth) × AreShallow body × AreShallow other
-  IsShallow (Raise a) = depth_of_value a ≤ max_depth
-  IsShallow (Try body cs other) = AreShallow body × ClausesAreShallow cs × AreShallow other
-  IsShallow (Finally body cs other last) = AreShallow body × ClausesAreShallow cs × AreShallow other × AreShallow last
-
-  pub AreShallow : Stmts → Type 0
-  AreShallow NoStmts = Unit {0}
-  AreShallow (MoreStmts s ss) = IsShallow s × AreShallow ss
-
-  pub ClausesAreShallow : Clauses → Type 0
-  ClausesAreShallow NoClauses = Unit {0}
-  ClausesAreShallow (MoreClauses a y b cs) = (depth_of_value a ≤ max_depth) × AreShallow b × ClausesAreShallow cs

@@ -25,6 +25,8 @@ pub mod ParcelCases
 pub mod Literals
 pub mod LiteralCases
 pub mod Grammar
+pub mod Limits
+pub mod LimitCases
 pub mod Words
 pub mod Layout
 pub mod LayoutCases

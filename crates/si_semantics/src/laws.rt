@@ -10,6 +10,7 @@ ghost use Rattle.si_semantics.specs.LiteralCases.{LiteralCases};
 ghost use Rattle.si_semantics.specs.LayoutCases.{LayoutCases};
 ghost use Rattle.si_semantics.specs.ParcelCases.{ParcelCases};
 ghost use Rattle.si_semantics.specs.SharedCases.{SharedCases};
+ghost use Rattle.si_semantics.specs.LimitCases.{LimitCases};
 ghost use Rattle.si_semantics.specs.Laws.{Binding, OneLife, LivesGrow, GoneStays, AnswersWait, OnePieceALine, OneMoment, LeftByExceptions, KindsAbove};
 
 /// The worked cases: what scripts print and how they end.
@@ -60,6 +61,11 @@ pub fn worked_parcels()
 /// The worked cases of the shared state: what actions are answered, and the state that they leave.
 pub fn worked_shared()
     ensures { SharedCases }
+{}
+
+/// The worked cases of limits: how deep expressions and statements are, how long literals, how many parameters.
+pub fn worked_limits()
+    ensures { LimitCases }
 {}
 
 /// A name that was bound has its value, and every other has what it had.

@@ -1,7 +1,7 @@
 // The trees of scripts.
 //
 // Each value stands for one tree of `si_semantics`: specs/Trees.antt says which, and specs/Modules.antt for a whole
-// script.
+// script. The type of a whole script keeps that its tree is within the limits.
 //
 // In reading order: `operators`, `expr` (expressions), `stmt` (statements), and `modules` (whole scripts).
 #![tactic(auto)]

@@ -1,0 +1,21 @@
+-- The worked cases of limits compute.
+use Rattle.std.specs.Prelude.{refl}
+use Rattle.si_semantics.specs.LimitCases.{LimitCases}
+
+pub worked_limits : LimitCases
+worked_limits = record {
+  deepest = refl;
+  depth_in_suites = refl;
+  longest = refl;
+  longest_in_a_finally_suite = refl;
+  parameters = refl;
+  simple_statements = refl;
+  ifs_in_each_other = refl;
+  elifs_behind_each_other = refl;
+  if_in_an_else_suite = refl;
+  loop_in_an_else_suite = refl;
+  loop_behind_an_elif = refl;
+  if_in_a_loops_else_suite = refl;
+  ifs_in_a_clause = refl;
+  ifs_in_a_finally_suite = refl;
+}
