@@ -1,7 +1,12 @@
 -- Worked cases: what literals are, computed from the definitions.
-use Rattle.std.specs.Prelude.{◌≡◌, codes, [], ◌∷◌, pos, Some, None, true, false}
+use Rattle.std.specs.Prelude.{◌≡◌, codes, List, ℕ, Bool, [], ◌∷◌, pos, Some, None, true, false}
 use Rattle.si_semantics.specs.Literals.{value_of_int, value_of_str}
-use Rattle.si_semantics.specs.Words.{is_text}
+use Rattle.si_semantics.specs.Words as words
+use Rattle.si_semantics.specs.Words.{is_text, is_allowed}
+
+-- a literal may be a word of a text, at its end
+abbrev pub may_stand : List ℕ → Bool
+may_stand literal = is_allowed words.Text literal []
 
 pub record LiteralCases : Type 0 where
   pub decimal : value_of_int (codes "1_000_000") ≡ Some (pos 1000000)
@@ -52,3 +57,24 @@ pub record LiteralCases : Type 0 where
   pub surrogate : value_of_str (codes "'\\ud800'") ≡ None
   pub past_the_characters : value_of_str (codes "'\\U00110000'") ≡ None
   pub named_character : value_of_str (codes "'\\N{DIGIT ONE}'") ≡ None
+  pub greatest_octal : may_stand (codes "'\\377'") ≡ true
+  pub past_the_greatest_octal : may_stand (codes "'\\400'") ≡ false
+  pub two_digits_behind_x : may_stand (codes "'\\x41'") ≡ true
+  pub one_digit_behind_x : may_stand (codes "'\\x4'") ≡ false
+  pub no_digit_behind_x : may_stand (codes "'\\x'") ≡ false
+  pub before_the_surrogates : may_stand (codes "'\\ud7ff'") ≡ true
+  pub first_surrogate : may_stand (codes "'\\ud800'") ≡ false
+  pub last_surrogate : may_stand (codes "'\\udfff'") ≡ false
+  pub behind_the_surrogates : may_stand (codes "'\\ue000'") ≡ true
+  pub three_digits_behind_u : may_stand (codes "'\\u123'") ≡ false
+  pub greatest_character : may_stand (codes "'\\U0010ffff'") ≡ true
+  pub past_the_greatest_character : may_stand (codes "'\\U00110000'") ≡ false
+  pub seven_digits_behind_upper_u : may_stand (codes "'\\U0010fff'") ≡ false
+  pub named_character_refused : may_stand (codes "'\\N{a}'") ≡ false
+  pub behind_a_good_escape : may_stand (codes "'a\\n\\x4'") ≡ false
+  pub in_three_quotes : may_stand (codes "'''\r\n\\400'''") ≡ false
+  pub behind_the_prefix_u : may_stand (codes "u'\\400'") ≡ false
+  pub raw_octal : may_stand (codes "r'\\400'") ≡ true
+  pub raw_named_character : may_stand (codes "R'\\N{a}'") ≡ true
+  pub backslash_before_the_escape : may_stand (codes "'\\\\400'") ≡ true
+  pub unknown_escape : may_stand (codes "'\\q'") ≡ true

@@ -3,7 +3,7 @@
 use Rattle.std.specs.Prelude.{◌≡◌, ℕ, ◌+◌, ◌<◌, ◌==◌, ◌&&◌, ◌||◌, not, List, [], ◌∷◌, ◌++◌, ◌⊎◌, length, drop, Bool, true, false, Option, Some, None, nat_le, codes, if◌then◌else◌}
 use Rattle.std.specs.List.{AllByRecursion}
 use Rattle.std.specs.Option.{is_some}
-use Rattle.si_semantics.specs.Literals.{value_of_int, is_quote, is_prefix, unprefixed, quotes_at}
+use Rattle.si_semantics.specs.Literals.{value_of_int, value_of_str, is_quote, is_prefix, unprefixed, quotes_at}
 use Rattle.si_semantics.specs.Tokens as tokens
 use Rattle.si_semantics.specs.Tokens.{Symbol, Keyword}
 
@@ -165,6 +165,10 @@ abbrev pub is_prefixing : List ℕ → List ℕ → Bool
 is_prefixing (p ∷ []) (b ∷ bs) = is_prefix p && is_quote b
 is_prefixing _ _ = false
 
+-- A str literal has a value: its escapes are those of the rules ("Escape sequences").
+abbrev pub has_value : List ℕ → Bool
+has_value w = is_some (value_of_str w)
+
 -- Behind two quotes no third one follows: three always open a literal in three quotes.
 abbrev pub is_closed : List ℕ → List ℕ → Bool
 is_closed (p ∷ q ∷ []) (b ∷ bs) = not (b == q)
@@ -174,7 +178,7 @@ is_closed _ _ = true
 abbrev pub is_allowed : Sort → List ℕ → List ℕ → Bool
 is_allowed Name w rest = not (is_prefixing w rest)
 is_allowed Int w rest = is_number w && is_apart rest
-is_allowed Text w rest = is_closed (unprefixed w) rest
+is_allowed Text w rest = has_value w && is_closed (unprefixed w) rest
 is_allowed _ w rest = true
 
 -- ---- a text

@@ -11,7 +11,7 @@ use Rattle.si_semantics.specs.Tokens.{Symbol}
 use Rattle.si_semantics.specs.Literals.{is_quote, is_prefix}
 use Rattle.si_semantics.specs.Words.{Sort, Name, Int, Text, Operator, Spaces, Tabs, Comment, LineEnd, is_digit, begins_name, continues_name, is_space, is_tab, is_hash, in_comment, is_plain, is_body, is_escaped, is_quoted, is_text, spelled, symbols, line_ends, each, IsRun, IsIn, IsWord}
 use Rattle.si_token.proofs.Texts.{and_both, drop_none}
-use Rattle.si_token.proofs.Runs.{Found, spelled_test}
+use Rattle.si_token.proofs.Runs.{Longest, spelled_test}
 
 -- the last byte, or 0
 abbrev last : List ℕ → ℕ
@@ -160,14 +160,14 @@ longer first p b (c ∷ w) t h = (h.0, all w h.1)
     all [] h = (t, tt)
     all (c ∷ w) h = (h.0, all w h.1)
 
-comment_ends : (bs : List ℕ) (n : ℕ) → Found bs Comment n → n < length bs → get_or bs n 0 < 128
+comment_ends : (bs : List ℕ) (n : ℕ) → Longest bs Comment n → n < length bs → get_or bs n 0 < 128
 comment_ends bs n f lt = by (in_comment (get_or bs n 0)) refl
   where
     by : (t : Bool) → in_comment (get_or bs n 0) ≡ t → get_or bs n 0 < 128
     by false e = small_end (get_or bs n 0) e
     by true e = absurd (f.longest (get_or bs n 0 ∷ []) (drop (suc n) bs) Comment (omega arith) (drop-cons bs n 0 lt) (longer is_hash in_comment (get_or bs n 0) (take n bs) e f.word))
 
-pub cut_at : (bs : List ℕ) (k : Sort) (n : ℕ) → IsUtf8 bs → Found bs k n → IsCharBoundary bs n
+pub cut_at : (bs : List ℕ) (k : Sort) (n : ℕ) → IsUtf8 bs → Longest bs k n → IsCharBoundary bs n
 cut_at bs Name n u f = cut_last bs n u f.some f.within (word_last Name (take n bs) tt f.word)
 cut_at bs Int n u f = cut_last bs n u f.some f.within (word_last Int (take n bs) tt f.word)
 cut_at bs Text n u f = cut_last bs n u f.some f.within (word_last Text (take n bs) tt f.word)

@@ -8,3 +8,4 @@ pub mod Steps
 pub mod Slices
 pub mod Added
 pub mod Loop
+pub mod Literals

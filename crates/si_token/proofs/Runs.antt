@@ -6,8 +6,8 @@ use Rattle.std.proofs.lemmas.Bool.Decides.{nat_tests}
 use Rattle.std.proofs.lemmas.Bool.{eqb-true}
 use Rattle.si_semantics.specs.Tokens.{Symbol}
 use Rattle.si_semantics.specs.Literals.{is_quote, is_prefix}
-use Rattle.si_semantics.specs.Words.{Sort, Name, Int, Text, Operator, Spaces, Tabs, Comment, LineEnd, is_digit, begins_name, continues_name, is_space, is_tab, is_hash, in_comment, is_quoted, is_text, is_prefixing, same, spelled, symbols, line_ends, each, IsRun, IsIn, IsWord, IsLongest, is_allowed}
-use Rattle.si_token.specs.Reading.{then_read, sort_of_byte, sort_at, text_length, some_if, symbol_length, line_end_length, length_of, if_allowed, word_at}
+use Rattle.si_semantics.specs.Words.{Sort, Name, Int, Text, Operator, Spaces, Tabs, Comment, LineEnd, is_digit, begins_name, continues_name, is_space, is_tab, is_hash, in_comment, is_quoted, is_text, is_prefixing, same, spelled, symbols, line_ends, each, IsRun, IsIn, IsWord, IsLongest, has_value, is_allowed}
+use Rattle.si_token.specs.Reading.{then_read, sort_of_byte, sort_at, text_length, some_if, symbol_length, line_end_length, length_of, if_allowed, longest_at, word_at}
 use Rattle.si_token.proofs.Texts.{if_true, if_false, and_both, some_inj, text_found, text_reaches, text_is}
 
 -- ---- tests
@@ -423,7 +423,7 @@ no_shorter k w rest n h e = by k h (reaches k w rest h) e
 
 -- one is found where the word may stand there
 some_found : (k : Sort) (w rest : List ℕ) → IsWord k w → is_allowed k w rest ≡ true → AtLeast (length_of k (w ++ rest)) (length w)
-some_found Text w rest h a = (length w, text_found w rest h a, omega arith)
+some_found Text w rest h a = (length w, text_found w rest h (and_both (has_value w) _ a).1, omega arith)
 some_found Name w rest h a = reaches Name w rest h
 some_found Int w rest h a = reaches Int w rest h
 some_found Operator w rest h a = reaches Operator w rest h
@@ -493,6 +493,13 @@ take_more (b ∷ w) rest zero lt le = absurd (omega (arith, lt))
 take_more (b ∷ w) rest (suc n) lt le =
     let r = take_more w rest n (omega (arith, lt)) (omega (arith, le)) in (r.0, r.1, ap (λ l. b ∷ l) r.2, r.3, r.4)
 
+-- The longest word at the front.
+pub record Longest (bs : List ℕ) (k : Sort) (n : ℕ) : Type 0 where
+  pub word : IsWord k (take n bs)
+  pub some : 0 < n
+  pub within : n ≤ length bs
+  pub longest : IsLongest (take n bs) (drop n bs)
+
 -- The word at the front, and what it is to be that.
 pub record Found (bs : List ℕ) (k : Sort) (n : ℕ) : Type 0 where
   pub word : IsWord k (take n bs)
@@ -514,6 +521,26 @@ longest_front k b bs n s h some le more after j pos e w =
     let found : length_of j ((take n (b ∷ bs) ++ more) ++ after) ≡ Some n = ap (λ l. length_of j l) (sym whole) ∙ ap (λ x. length_of x (b ∷ bs)) same ∙ h in
     let r = no_shorter j (take n (b ∷ bs) ++ more) after n w found in
     absurd (omega (arith, l, t, pos, r))
+
+pub longest_found : (bs : List ℕ) (k : Sort) (n : ℕ) → longest_at bs ≡ Some (k, n) → Longest bs k n
+longest_found [] k n h = cc
+longest_found (b ∷ bs) k n h =
+    let r = then_some (length_of (sort_at (b ∷ bs)) (b ∷ bs)) _ (k, n) h in
+    let f = front (sort_at (b ∷ bs)) b bs r.0 refl r.1 in
+    let found : Longest (b ∷ bs) (sort_at (b ∷ bs)) r.0 = record { word = f.0; some = f.1; within = f.2; longest = longest_front (sort_at (b ∷ bs)) b bs r.0 refl r.1 f.1 f.2 } in
+    subst (λ x. Longest (b ∷ bs) x.0 x.1) (some_inj (sort_at (b ∷ bs), r.0) (k, n) r.2) found
+
+-- the longest word is the one at the front, where it may stand there
+pub word_by : (bs front after : List ℕ) (k : Sort) (n : ℕ) (allowed : Bool) → longest_at bs ≡ Some (k, n) → front ≡ take n bs → after ≡ drop n bs → allowed ≡ is_allowed k front after
+    → word_at bs ≡ (if allowed then Some (k, n) else None)
+word_by [] front after k n allowed h e f is = cc
+word_by (b ∷ bs) front after k n allowed h e f is =
+    let r = then_some (length_of (sort_at (b ∷ bs)) (b ∷ bs)) _ (k, n) h in
+    let found : (sort_at (b ∷ bs), r.0) ≡ (k, n) = some_inj (sort_at (b ∷ bs), r.0) (k, n) r.2 in
+    ap (λ o. then_read o (if_allowed (sort_at (b ∷ bs)) (b ∷ bs))) r.1
+    ∙ ap (λ (x : Sort × ℕ). if_allowed x.0 (b ∷ bs) x.1) found
+    ∙ (λ i. if is_allowed k (sym e i) (sym f i) then Some (k, n) else None)
+    ∙ ap (λ t. if t then Some (k, n) else None) (sym is)
 
 pub word_found : (bs : List ℕ) (k : Sort) (n : ℕ) → word_at bs ≡ Some (k, n) → Found bs k n
 word_found [] k n h = cc
@@ -544,8 +571,3 @@ word_only (b ∷ w) rest k h l a =
     le_or : (a b : ℕ) → (t : Bool) → nat_le a b ≡ t → (a ≤ b) ⊎ (b < a)
     le_or a b true e = inl (grind (arith, nat_tests))
     le_or a b false e = inr (grind (arith, nat_tests))
-
--- a length that is found lies within the bytes
-pub length_within : (bs : List ℕ) (k : Sort) (n : ℕ) → 0 < length bs → k ≡ sort_at bs → length_of k bs ≡ Some n → n ≤ length bs
-length_within [] k n pos s h = absurd (omega (arith, pos))
-length_within (b ∷ bs) k n pos s h = (front k b bs n (sym s) h).2

@@ -4,3 +4,4 @@ pub mod Laying
 pub mod Places
 pub mod Faults
 pub mod Spans
+pub mod Literals

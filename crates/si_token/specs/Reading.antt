@@ -88,7 +88,12 @@ length_of LineEnd bs = Some (line_end_length bs)
 abbrev pub if_allowed : Sort → List ℕ → ℕ → Option (Sort × ℕ)
 if_allowed k bs n = if is_allowed k (take n bs) (drop n bs) then Some (k, n) else None
 
--- the word at the front: its sort and its length
+-- the longest word at the front: its sort and its length
+abbrev pub longest_at : List ℕ → Option (Sort × ℕ)
+longest_at [] = None
+longest_at (b ∷ bs) = then_read (length_of (sort_at (b ∷ bs)) (b ∷ bs)) (λ n. Some (sort_at (b ∷ bs), n))
+
+-- the same, where it may stand there
 abbrev pub word_at : List ℕ → Option (Sort × ℕ)
 word_at [] = None
 word_at (b ∷ bs) = then_read (length_of (sort_at (b ∷ bs)) (b ∷ bs)) (if_allowed (sort_at (b ∷ bs)) (b ∷ bs))

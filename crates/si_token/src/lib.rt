@@ -8,11 +8,13 @@
 // si_semantics), each a slice of the source, in order; `BadText` says that there is none.
 //
 // Read: `token` (what a token is), `symbols` and `keywords` (the spellings), `numbers` (the values of
-// integer literals), `words` (the word at the front), `layout` (lines, brackets and blocks), `scan` (the loop over the text).
+// integer literals), `literal` (the quotes and escapes of str literals), `words` (the word at the front, and where it may
+// stand), `layout` (lines, brackets and blocks), `scan` (the loop over the text).
 #![tactic(auto)]
 
 mod keywords;
 mod layout;
+pub mod literal;
 pub mod numbers;
 mod scan;
 mod symbols;

@@ -20,7 +20,7 @@ use crate::layout::{
 };
 use crate::symbols::symbol;
 use crate::token::{Token, TokenKind};
-use crate::words::{Sort, word};
+use crate::words::{Sort, is_allowed, longest_word};
 use std::alloc::{AllocError, AllocFailed, Global};
 
 /// Why a text has no tokens.
@@ -86,9 +86,13 @@ fn cut<'a>(rest: &'a str) -> Option<(Sort, &'a str, &'a str)>
     ensures utf8 { IfSome result (λ w. IsUtf8 w.2.now) }
     ensures none { IfNone result (word_at rest.now ≡ None) }
 {
-    let (sort, length) = word(rest.as_bytes())?;
+    let (sort, length) = longest_word(rest.as_bytes())?;
     let (front, after) = rest.split_at(length);
-    Some((sort, front, after))
+    if is_allowed(sort, front, after) {
+        Some((sort, front, after))
+    } else {
+        None
+    }
 }
 
 // Puts the token behind the others, where there is one.
@@ -146,8 +150,9 @@ fn before_word<'a>(
 
 /// The tokens of a text, in order, the last of them the end.
 ///
-/// `BadText` where the lexical rules allow none: a NUL, a byte that begins no word, a number or literal that is none,
-/// a tab before the first token of a line, a line that closes a block and stands at the column of none that stays open.
+/// `BadText` where the lexical rules allow none: a NUL, a byte that begins no word, a number or literal that is none, an
+/// escape that stands for no character, a tab before the first token of a line, a line that closes a block and stands at
+/// the column of none that stays open.
 /// `NoMemory` only where memory was refused.
 pub fn tokens(alloc: Global, text: &str) -> Result<Vec<Token<'_>>, TokenFault>
     // What is answered is the one list that the rules allow.

@@ -212,6 +212,19 @@ fn texts(rt: HostRuntime) {
         "'a\\\r\nb\\\nc\\\r'",
         &[(Str, "'a\\\r\nb\\\nc\\\r'"), (Newline, ""), (End, "")],
     );
+    for literal in [
+        r"'\377'",
+        r"'\x41'",
+        r"'\ud7ff'",
+        r"'\ue000'",
+        r"'\U0010ffff'",
+        r"'\\400'",
+        r"'\q'",
+        r"r'\400'",
+        r"R'\N{a}'",
+    ] {
+        expect(&rt, literal, &[(Str, literal), (Newline, ""), (End, "")]);
+    }
 }
 
 #[test]
@@ -283,6 +296,16 @@ fn refused(rt: HostRuntime) {
         "r'a\\'",
         "u'a",
         "'''a\u{0}'''",
+        "'\\400'",
+        "u'\\x4'",
+        "'\\x'",
+        "'\\u123'",
+        "'\\ud800'",
+        "'\\udfff'",
+        "'\\U0010fff'",
+        "'\\U00110000'",
+        "'\\N{a}'",
+        "'a\\n\\400'",
         "\"\"\"",
         "!",
         "$",

@@ -1,13 +1,14 @@
-// The word at the front of a text.
+// The word at the front of a text, and where it may stand.
 
 ghost use Rattle.std.specs.Prelude.{◌≡◌, ◌<◌, ◌≤◌, ◌==◌, length, IfSome, false};
 ghost use Rattle.std.specs.List.{prefix_len};
 ghost use Rattle.std.specs.Option.{option_map};
 ghost use Rattle.si_semantics.specs.Literals.{is_quote, is_prefix, unprefixed, quotes_at};
 ghost use Rattle.si_semantics.specs.Words.{continues_name, begins_name, in_comment, is_digit, is_plain, is_number, is_apart, is_prefixing, is_closed, is_allowed};
-ghost use Rattle.si_token.specs.Reading.{sort_of_byte, sort_at, body_length, quoted_length, text_length, line_end_length, length_of, word_at};
+ghost use Rattle.si_token.specs.Reading.{sort_of_byte, sort_at, body_length, quoted_length, text_length, line_end_length, length_of, longest_at};
 ghost use Rattle.si_token.specs.Views.{sort_of, word_of};
 
+use crate::literal::has_value;
 use crate::numbers::int_value;
 use crate::symbols::symbol_length;
 
@@ -260,31 +261,27 @@ fn is_closed(word: &[u8], rest: &[u8]) -> bool
     }
 }
 
-// Whether a word may stand before the rest.
-fn is_allowed(sort: Sort, word: &[u8], rest: &[u8]) -> bool
+/// Whether a word may stand before the rest.
+pub fn is_allowed(sort: Sort, word: &str, rest: &str) -> bool
     ensures { result ≡ is_allowed (sort_of sort) word.now rest.now }
 {
+    let bytes = word.as_bytes();
+    let after = rest.as_bytes();
     match sort {
-        Sort::Name => !is_prefixing(word, rest),
-        Sort::Int => is_number(word) && is_apart(rest),
-        Sort::Text => is_closed(unprefixed(word), rest),
+        Sort::Name => !is_prefixing(bytes, after),
+        Sort::Int => is_number(bytes) && is_apart(after),
+        Sort::Text => has_value(word) && is_closed(unprefixed(bytes), after),
         _ => true,
     }
 }
 
-/// The word at the front: its sort and its length. It is the longest that begins there.
-pub fn word(bytes: &[u8]) -> Option<(Sort, usize)>
-    ensures { option_map word_of result ≡ word_at bytes.now }
+/// The longest word at the front: its sort and its length.
+pub fn longest_word(bytes: &[u8]) -> Option<(Sort, usize)>
+    ensures { option_map word_of result ≡ longest_at bytes.now }
 {
     if bytes.is_empty() {
         return None;
     }
     let sort = sort_at(bytes);
-    let length = length_of(sort, bytes)?;
-    let (text, rest) = bytes.split_at(length);
-    if is_allowed(sort, text, rest) {
-        Some((sort, length))
-    } else {
-        None
-    }
+    Some((sort, length_of(sort, bytes)?))
 }

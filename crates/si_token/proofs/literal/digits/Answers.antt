@@ -1,8 +1,8 @@
 use Rattle.std.proofs.Common.{◌≡◌, ◌<◌, ◌+◌, ◌*◌, ◌-◌, sym, ap, ◌∙◌, arith}
 use Rattle.si_semantics.specs.Literals.{digits_within}
-use Rattle.si_parse.specs.Literals.{characters, up_to}
-use Rattle.si_parse.proofs.Literals.{behind, too_few, enough, with_one, passed}
-use Rattle.si_parse.proofs.literal.digits.Goals as goal
+use Rattle.si_token.specs.Literals.{characters, up_to}
+use Rattle.si_token.proofs.Literals.{behind, too_few, enough, with_one, passed}
+use Rattle.si_token.proofs.literal.digits.Goals as goal
 
 pub returns-then-count-least-clause-gives : goal.returns-then-count-least-clause-gives
 returns-then-count-least-clause-gives c =

@@ -1,8 +1,8 @@
 use Rattle.std.proofs.Common.{◌≡◌, ◌++◌, length, sym, ap, ◌∙◌, Option, Some, None, ℕ, List}
 use Rattle.std.specs.Prelude.{MatchOption, encode_utf8}
 use Rattle.std.specs.Str.Iter.{chars_rest}
-use Rattle.si_parse.proofs.Literals.{front_is, peeled_is}
-use Rattle.si_parse.proofs.literal.peeled.Goals as goal
+use Rattle.si_token.proofs.Literals.{front_is, peeled_is}
+use Rattle.si_token.proofs.literal.peeled.Goals as goal
 
 -- what one character from the back leaves
 left : {A : Type 0} (rest : A → List ℕ) (s t : A) (behind inside : List ℕ) (r : Option ℕ) → rest s ≡ behind → inside ≡ rest t → MatchOption r ((length (rest s) ≡ 0) × (t ≡ s)) (λ d. rest s ≡ rest t ++ encode_utf8 d)

@@ -1,8 +1,8 @@
 use Rattle.std.proofs.Common.{◌≡◌, ◌≤◌, ◌-◌, IsUtf8}
 use Rattle.si_semantics.specs.Literals.{digits_within}
-use Rattle.si_parse.specs.Literals.{characters, up_to}
-use Rattle.si_parse.proofs.Literals.{behind}
-use Rattle.si_parse.proofs.literal.digits.Given as goal
+use Rattle.si_token.specs.Literals.{characters, up_to}
+use Rattle.si_token.proofs.Literals.{behind}
+use Rattle.si_token.proofs.literal.digits.Given as goal
 
 abbrev pub invariant-loop-count : goal.invariant-loop-count
 invariant-loop-count l = record {
