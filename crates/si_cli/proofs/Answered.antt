@@ -1,5 +1,5 @@
 -- What clap's fault comes to, where the words have at most one kind of fault.
-use Rattle.std.proofs.Common.{◌≡◌, ◌∙◌, ◌||◌, Bool, true, false, List, [], ◌∷◌, inl, inr, refl, subst, sym}
+use Rattle.std.proofs.Common.{◌≡◌, ◌∙◌, ◌||◌, Bool, true, false, [], ◌∷◌, inl, inr, refl, subst, sym}
 use Rattle.std.specs.List.{list_any}
 use Rattle.clap.specs.Kinds.{HasKind, IsAmong, Kinds}
 use Rattle.clap.specs.Words.{kind_of}

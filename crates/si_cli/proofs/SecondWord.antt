@@ -1,11 +1,10 @@
 -- The second of the words, and those from it on.
-use Rattle.std.proofs.Common.{◌≡◌, ◌⊎◌, ◌∙◌, ◌<◌, ◌-◌, ◌||◌, ◌&&◌, Bool, true, false, List, [], ℕ, Option, Some, Result, Ok, Err, IfErr, IfOk, Bor, ap, inl, inr, refl, subst, sym, bytes_eq, codes, length, drop, take, get_or, option_map, slice_get}
+use Rattle.std.proofs.Common.{◌≡◌, ◌⊎◌, ◌∙◌, ◌<◌, ◌-◌, ◌||◌, ◌&&◌, Bool, true, false, List, ℕ, Option, Some, Result, Ok, Err, IfErr, IfOk, Bor, ap, inl, inr, refl, subst, sym, bytes_eq, codes, length, drop, take, get_or, option_map, slice_get}
 use Rattle.std.proofs.lemmas.Option.{slice_get-map, slice_get-get_or}
 use Rattle.std.proofs.lemmas.List.{drop-map, take_rest}
 use Rattle.std.proofs.lemmas.Slice.Eq.{bytes_eq-Decides}
 use Rattle.si_cli.specs.declared.asked.Request.{Request}
 use Rattle.si_cli.specs.declared.words.WordsFault.{WordsFault}
-use Rattle.si_cli.specs.declared.words.WordsFault.TheVariants.{NoMemory}
 use Rattle.si_cli.specs.Words.{AreRead, AreTaken, IsReadFrom, IsSaidBy, Names, Takes, TellsHelp, asks_help, check, helps, is_topic, is_word, name_of, serial, texts}
 
 -- the bytes of the second word, which is there

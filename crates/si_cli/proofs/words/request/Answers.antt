@@ -1,4 +1,4 @@
-use Rattle.std.proofs.Common.{◌≡◌, ◌⊎◌, List, ℕ, Some, codes, sym, subst, slice_get, true, false}
+use Rattle.std.proofs.Common.{◌≡◌, codes, sym, subst}
 use Rattle.std.proofs.lemmas.Slice.Eq.{bytes_eq-Decides}
 use Rattle.si_cli.specs.Words.{TellsHelp, asks_help, texts}
 use Rattle.si_cli.specs.declared.words.WordsFault.{WordsFault}
@@ -75,6 +75,6 @@ returns-clause-help c =
     elim c.match-name.branch [
       | in-help w ↦ subst P (sym w.result-is) (help_tells (texts words) word.now w.help_of.result second w.in-help.is w.help_of.ensures)
       | in_default-name w ↦ subst P (sym w.result-is) (other_tells (texts words) word.now w.no_command.result second
-        w.in_default-name.not-text w.in_default-name.not-text-2 w.in_default-name.not-help not_serial not_check w.no_command.ensures)
+          w.in_default-name.not-text w.in_default-name.not-text-2 w.in_default-name.not-help not_serial not_check w.no_command.ensures)
       | in_default-name+in-text w ↦ subst P (sym w.result-is) (flag_tells (texts words) word.now w.general_help.result second w.in-text.is w.general_help.ensures)
     ]
