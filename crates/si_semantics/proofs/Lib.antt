@@ -13,3 +13,4 @@ pub mod WorkedLayout
 pub mod KindsAbove
 pub mod WorkedParcels
 pub mod WorkedShared
+pub mod Firsts
