@@ -15,3 +15,4 @@ pub mod WorkedLimits
 pub mod KindsAbove
 pub mod WorkedParcels
 pub mod WorkedShared
+pub mod Firsts
