@@ -2,6 +2,7 @@
 
 ghost use Rattle.std.specs.Prelude.{◌≡◌, ◌≤◌, IfErr, IfOk, IsOkUnless, IsUtf8, OnOk};
 ghost use Rattle.std.specs.Io.KnownBytes.{Keeps};
+ghost use Rattle.si_semantics.specs.Layout.{line_at};
 ghost use Rattle.si_semantics.specs.Report.{status};
 ghost use Rattle.si_semantics.specs.Tree.{Stmts};
 ghost use Rattle.si_scope.specs.Scripts.{script_of};
@@ -14,6 +15,7 @@ use crate::fault::CliFault;
 use crate::interpreter::{Outcome, Solo, Standing};
 use crate::report::{write_report, write_text};
 use si_parse::ParseFault;
+use si_plain::line_ends;
 use si_scope::Scoped;
 use std::alloc::Global;
 use std::io::Write;
@@ -107,17 +109,11 @@ fn decode(script: &[u8]) -> Result<&str, CliFault>
     }
 }
 
-/// The line, counted from 1, in which the byte at a place stands: CR LF is one line end, and so are LF and CR alone.
-fn line_of(bytes: &[u8], at: usize) -> usize {
-    let before = bytes.get(..at).unwrap_or(bytes);
-    let feeds = before.iter().filter(|byte| **byte == b'\n').count();
-    let returns = before.iter().filter(|byte| **byte == b'\r').count();
-    let pairs = before
-        .windows(2)
-        .filter(|pair| *pair == b"\r\n".as_slice())
-        .count();
-    let ends = feeds.saturating_add(returns).saturating_sub(pairs);
-    ends.saturating_add(1)
+/// The line, counted from 1, in which the byte at a place stands.
+fn line_of(bytes: &[u8], at: usize) -> usize
+    ensures { result ≡ line_at bytes.now at }
+{
+    1 + line_ends(bytes, at)
 }
 
 /// Passes on what a writer has kept back.

@@ -2,6 +2,7 @@
 -- That no tab may stand before a line's first token is this project's own.
 use Rattle.std.specs.Prelude.{◌≡◌, ℕ, ◌+◌, ◌-◌, ◌<◌, ◌==◌, List, [], ◌∷◌, ◌++◌, length, map, Bool, true, false, Option, Some, None, nat_lt, if◌then◌else◌}
 use Rattle.std.specs.Option.{option_map, option_and_then, option_to_list}
+use Rattle.si_plain.specs.LineEnds.{ends_before}
 use Rattle.si_semantics.specs.Tokens as tokens
 use Rattle.si_semantics.specs.Tokens.{Symbol, Keyword, TokenKind, Token}
 use Rattle.si_semantics.specs.Words as words
@@ -159,3 +160,8 @@ Lays blocks at (l ∷ ls) ts =
 -- The tokens of a text: what the logical lines of its words make.
 abbrev pub HasTokens : List Token → List ℕ → Type 0
 HasTokens ts text = (ws : List Word) × IsCut ws text × (ls : List Line) × AreLines ls ws × Lays [] 0 ls ts
+
+-- The line of the byte at a place of a text, counted from 1: one more than the line ends before it, those in literals and
+-- in brackets among them ("Physical lines").
+abbrev pub line_at : List ℕ → ℕ → ℕ
+line_at text at = 1 + ends_before at text

@@ -4,7 +4,7 @@ use Rattle.std.specs.Option.{option_map}
 use Rattle.si_semantics.specs.Tokens.{TokenKind, Token, Name, Sign, LeftParenthesis, RightParenthesis, Newline, Indent, Dedent, End}
 use Rattle.si_semantics.specs.Words as words
 use Rattle.si_semantics.specs.Words.{Word}
-use Rattle.si_semantics.specs.Layout.{token, Line, line_end, AreLines, line_tokens, ending, Lays}
+use Rattle.si_semantics.specs.Layout.{token, Line, line_end, AreLines, line_tokens, ending, Lays, line_at}
 
 -- ---- words and lines
 
@@ -69,6 +69,16 @@ tokens_of_four_lines =
     ∷ token 14 [] End
     ∷ []
 
+-- ---- lines of places
+
+-- a line that ends in CR LF, one in LF, and two in CR
+abbrev pub four_ends : List ℕ
+four_ends = codes "a\r\nb\n\r\rc"
+
+-- `x` behind a literal that goes over two line ends, CR LF each
+abbrev pub behind_a_literal : List ℕ
+behind_a_literal = codes "'''\r\n\r\n'''x"
+
 -- ---- the cases
 
 pub record LayoutCases : Type 0 where
@@ -94,3 +104,14 @@ pub record LayoutCases : Type 0 where
   -- the text of four lines, of which one goes over a line end
   pub four_lines_are : AreLines four_lines words_of_four_lines
   pub four_lines_make : Lays [] 0 four_lines tokens_of_four_lines
+  -- each place stands in a line: CR LF is one line end, and lies where its LF does
+  pub line_of_the_first_byte : line_at four_ends 0 ≡ 1
+  pub line_of_a_line_end : line_at four_ends 2 ≡ 1
+  pub line_behind_cr_lf : line_at four_ends 3 ≡ 2
+  pub line_behind_lf : line_at four_ends 5 ≡ 3
+  pub line_behind_cr : line_at four_ends 6 ≡ 4
+  pub line_behind_two_cr : line_at four_ends 7 ≡ 5
+  pub line_at_the_end : line_at four_ends 8 ≡ 5
+  pub line_in_a_literal : line_at behind_a_literal 5 ≡ 2
+  pub line_behind_a_literal : line_at behind_a_literal 10 ≡ 3
+  pub line_in_no_text : line_at [] 0 ≡ 1

@@ -62,14 +62,14 @@ abbrev step_by : Place → List ℕ → Sort → List ℕ → Option TokenKind �
 step_by p blocks s w k = with_before p.at (laid p k s w) (before_word p blocks k)
 
 -- what stands before a word, and the token that it makes
-pub turned : (items between new : List Token) (made : Option Token) (p q : Place) (k : Option TokenKind) (s : Sort) (w : List ℕ) (blocks open_blocks : List ℕ) (kinds : List TokenKind) → k ≡ word_kind s w
-    → before_word p blocks k ≡ Some (kinds, open_blocks) → (option_to_list (option_map token_of made), q) ≡ laid p k s w → Adds p.at kinds items between → new ≡ between ++ option_to_list made
+pub turned : (items between new : List Token) (made : Option Token) (line : ℕ) (p q : Place) (k : Option TokenKind) (s : Sort) (w : List ℕ) (blocks open_blocks : List ℕ) (kinds : List TokenKind) → k ≡ word_kind s w
+    → before_word p blocks k ≡ Some (kinds, open_blocks) → (option_to_list (option_map token_of made), q) ≡ laid p k s w → Adds p.at line kinds items between → new ≡ between ++ option_to_list made
     → (stepped p blocks s w ≡ Some (empty_tokens p.at kinds ++ option_to_list (option_map token_of made), q, open_blocks))
     × (map token_of items ++ (empty_tokens p.at kinds ++ option_to_list (option_map token_of made)) ≡ map token_of new)
-turned items between new made p q k s w blocks open_blocks kinds is before l adds n = (
+turned items between new made line p q k s w blocks open_blocks kinds is before l adds n = (
   ap (step_by p blocks s w) (sym is) ∙ ap (with_before p.at (laid p k s w)) before ∙ ap (λ (r : List tokens.Token × Place). Some (empty_tokens p.at kinds ++ r.0, r.1, open_blocks)) (sym l),
   sym (append_assoc (map token_of items) (empty_tokens p.at kinds) (option_to_list (option_map token_of made)))
-      ∙ ap (λ l. l ++ option_to_list (option_map token_of made)) (sym (adds_tokens p.at kinds items between adds))
+      ∙ ap (λ l. l ++ option_to_list (option_map token_of made)) (sym (adds_tokens p.at line kinds items between adds))
       ∙ kept between new made n,
 )
 
@@ -78,14 +78,14 @@ not_turned p k s w blocks is before = ap (step_by p blocks s w) (sym is) ∙ ap 
 
 -- ---- the end
 
-pub end_is : (t : Token) (at : ℕ) → t.kind ≡ kind.End → IsPart at [] t → token_of t ≡ token at [] tokens.End
-end_is t at k part = λ i. record { kind = kind_of (k i); text = part.text i; start = part.start i }
+pub end_is : (t : Token) (at line : ℕ) → t.kind ≡ kind.End → IsPart at line [] t → token_of t ≡ token at [] tokens.End
+end_is t at line k part = λ i. record { kind = kind_of (k i); text = part.text i; start = part.start i }
 
 -- the tokens with those at the end
-pub ended : (items new between last : List Token) (missing : Option Token) (t : Token) (p : Place) (blocks : List ℕ) → option_to_list (option_map token_of missing) ≡ missing_newline p → token_of t ≡ token p.at [] tokens.End
-    → new ≡ items ++ option_to_list missing → Adds p.at (replicate (length blocks) tokens.Dedent) new between → last ≡ between ++ t ∷ []
+pub ended : (items new between last : List Token) (missing : Option Token) (t : Token) (line : ℕ) (p : Place) (blocks : List ℕ) → option_to_list (option_map token_of missing) ≡ missing_newline p → token_of t ≡ token p.at [] tokens.End
+    → new ≡ items ++ option_to_list missing → Adds p.at line (replicate (length blocks) tokens.Dedent) new between → last ≡ between ++ t ∷ []
     → map token_of last ≡ map token_of items ++ all_ending p (reverse blocks)
-ended items new between last missing t p blocks m e n adds l =
+ended items new between last missing t line p blocks m e n adds l =
     ap (map token_of) l ∙ map-append token_of between (t ∷ [])
     ∙ (λ i. all_new i ++ e i ∷ [])
     ∙ append_assoc (map token_of items ++ missing_newline p) closes (token p.at [] tokens.End ∷ [])
@@ -96,5 +96,5 @@ ended items new between last missing t p blocks m e n adds l =
 
     all_new : map token_of between ≡ (map token_of items ++ missing_newline p) ++ closes
     all_new =
-        adds_tokens p.at (replicate (length blocks) tokens.Dedent) new between adds
+        adds_tokens p.at line (replicate (length blocks) tokens.Dedent) new between adds
         ∙ (λ i. (sym (kept items new missing n) ∙ ap (λ l. map token_of items ++ l) m) i ++ dedents_of p.at blocks i)

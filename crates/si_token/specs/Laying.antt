@@ -79,15 +79,15 @@ laid_all p blocks (w ∷ ws) =
 abbrev pub Reads : Place → List ℕ → List tokens.Token → List ℕ → Type 0
 Reads p blocks ts bs = (ws : List Word) × IsCut ws bs × (laid_all p blocks ws ≡ Some ts)
 
--- Behind the tokens stand others now: empty ones of these kinds, at this byte.
-pub record Adds (at : ℕ) (kinds : List tokens.TokenKind) (old new : List Token) : Type 0 where
+-- Behind the tokens stand others now: empty ones of these kinds, at this byte and in this line.
+pub record Adds (at line : ℕ) (kinds : List tokens.TokenKind) (old new : List Token) : Type 0 where
   pub made : List Token
   pub whole : new ≡ old ++ made
   pub tokens : map token_of made ≡ empty_tokens at kinds
-  pub parts : AllByRecursion (IsPart at []) made
+  pub parts : AllByRecursion (IsPart at line []) made
 
 -- What stands before a word was put behind the tokens, and these blocks are open now.
-pub record Stands (at : ℕ) (o : Option (List tokens.TokenKind × List ℕ)) (blocks : List ℕ) (old new : List Token) : Type 0 where
+pub record Stands (at line : ℕ) (o : Option (List tokens.TokenKind × List ℕ)) (blocks : List ℕ) (old new : List Token) : Type 0 where
   pub kinds : List tokens.TokenKind
   pub is : o ≡ Some (kinds, blocks)
-  pub adds : Adds at kinds old new
+  pub adds : Adds at line kinds old new

@@ -18,7 +18,7 @@ use std::alloc::AllocError;
 pub struct Place {
     /// How many bytes came before.
     pub at: usize,
-    /// The line, counted from 1.
+    /// The line of the next byte, counted from 1.
     pub line: usize,
     /// A token stands in this logical line already.
     pub begun: bool,
@@ -51,8 +51,7 @@ pub fn line_start(at: usize, line: usize) -> Place
 pub fn token_at<'a>(place: Place, kind: TokenKind, word: &'a str) -> Token<'a>
     requires { place.at + length word.now < 2 ^ 63 }
     ensures kind { result.kind ≡ kind }
-    ensures line { result.span.line ≡ place.line }
-    ensures part { IsPart place.at word.now result }
+    ensures part { IsPart place.at place.line word.now result }
 {
     Token {
         kind,
@@ -151,29 +150,16 @@ fn with_token<'a>(place: Place, kind: TokenKind, word: &'a str) -> (Option<Token
     requires some { 0 < length word.now }
     requires within { IsWithin place }
     ensures gives { laid_of result ≡ (token place.at word.now (kind_of kind) ∷ [], behind_token (place_of place) (kind_of kind) word.now) }
-    ensures part { IfSome result.0 (IsPart place.at word.now) }
+    ensures part { IfSome result.0 (IsPart place.at place.line word.now) }
     ensures within { IsWithin result.1 }
 {
     let next = Place {
         at: place.at + word.len(),
-        line: place.line + line_ends(word),
         begun: true,
         brackets: brackets_after(kind, place.brackets),
         ..place
     };
     (Some(token_at(place, kind, word)), next)
-}
-
-// How many line ends a word has: CR LF is one, and so are LF and CR alone.
-fn line_ends(word: &str) -> usize
-    ensures { result ≤ length word.now }
-{
-    let bytes = word.as_bytes();
-    let feeds = bytes.iter().filter(|byte| **byte == b'\n').count();
-    let returns = bytes.iter().filter(|byte| **byte == b'\r').count();
-    let pairs = word.matches("\r\n").count();
-    let ends = feeds.saturating_add(returns).saturating_sub(pairs);
-    ends.min(bytes.len())
 }
 
 // A line end makes a NEWLINE behind a token, and nothing inside brackets or in a line with no token.
@@ -182,15 +168,14 @@ fn with_line_end<'a>(place: Place, word: &'a str) -> (Option<Token<'a>>, Place)
     requires some { 0 < length word.now }
     requires within { IsWithin place }
     ensures gives { laid_of result ≡ with_line_end (place_of place) word.now }
-    ensures part { IfSome result.0 (IsPart place.at word.now) }
+    ensures part { IfSome result.0 (IsPart place.at place.line word.now) }
     ensures within { IsWithin result.1 }
 {
     let at = place.at + word.len();
-    let line = place.line + 1;
     if place.brackets > 0 {
-        return (None, Place { at, line, ..place });
+        return (None, Place { at, ..place });
     }
-    let next = line_start(at, line);
+    let next = line_start(at, place.line);
     if place.begun {
         (Some(token_at(place, TokenKind::Newline, word)), next)
     } else {
@@ -198,7 +183,8 @@ fn with_line_end<'a>(place: Place, word: &'a str) -> (Option<Token<'a>>, Place)
     }
 }
 
-/// The token that a word makes, where it makes one, and the place behind the word.
+/// The token that a word makes, where it makes one, and the place behind the word, but for its line: the caller counts
+/// line ends.
 pub fn laid<'a>(
     place: Place,
     kind: Option<TokenKind>,
@@ -209,7 +195,7 @@ pub fn laid<'a>(
     requires some { 0 < length word.now }
     requires within { IsWithin place }
     ensures gives { laid_of result ≡ laid (place_of place) (option_map kind_of kind) (sort_of sort) word.now }
-    ensures part { IfSome result.0 (IsPart place.at word.now) }
+    ensures part { IfSome result.0 (IsPart place.at place.line word.now) }
     ensures within { IsWithin result.1 }
 {
     if let Some(kind) = kind {
@@ -227,7 +213,7 @@ pub fn laid<'a>(
 pub fn missing_newline<'a>(place: Place) -> Option<Token<'a>>
     requires { place.at < 2 ^ 63 }
     ensures gives { option_to_list (option_map token_of result) ≡ missing_newline (place_of place) }
-    ensures part { IfSome result (IsPart place.at []) }
+    ensures part { IfSome result (IsPart place.at place.line []) }
 {
     if !place.begun {
         return None;
@@ -261,7 +247,7 @@ pub fn close_deeper(columns: &mut Vec<usize>, column: usize) -> usize
 /// Puts so many DEDENTs behind the others.
 pub fn dedents<'a>(all: &mut Vec<Token<'a>>, place: Place, count: usize) -> Result<(), AllocError>
     requires { place.at < 2 ^ 63 }
-    ensures { OnOk result (Adds place.at (replicate count Dedent) all.old.items all.new.items) }
+    ensures { OnOk result (Adds place.at place.line (replicate count Dedent) all.old.items all.new.items) }
 {
     for _ in 0..count {
         all.push(token_at(place, TokenKind::Dedent, ""))?;

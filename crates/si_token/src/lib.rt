@@ -5,11 +5,12 @@
 // line end makes one behind a token and outside brackets, and what is deeper than the line before is a block.
 //
 // `tokens` answers the one list of tokens that the definition allows (`HasTokens` of
-// si_semantics), each a slice of the source, in order; `BadText` says that there is none.
+// si_semantics), each a slice of the source, in order, and in the line that its span says; `BadText` says that there is
+// none.
 //
 // Read: `token` (what a token is), `symbols` and `keywords` (the spellings), `numbers` (the values of
-// integer literals), `literal` (the quotes and escapes of str literals), `words` (the word at the front, and where it may
-// stand), `layout` (lines, brackets and blocks), `scan` (the loop over the text).
+// integer literals), `literal` (the quotes and escapes of str literals), `words` (the word at the front, and where it
+// may stand), `layout` (lines, brackets and blocks), `scan` (the loop over the text).
 #![tactic(auto)]
 
 mod keywords;

@@ -38,7 +38,7 @@ pub fn next_character<'a>(text: &'a str) -> Option<(char, &'a str)>
     Some(('\n', behind))
 }
 
-/// Whether `r` stands in front.
+/// Whether `r` stands in front, in either case: then a backslash stands for itself.
 pub fn begins_raw(literal: &str) -> bool
     ensures { result ≡ begins_raw (chars literal.now) }
 {
@@ -48,7 +48,7 @@ pub fn begins_raw(literal: &str) -> bool
     }
 }
 
-/// A literal without its prefix.
+/// A literal without its prefix, one of `r` and `u` in either case.
 pub fn unprefixed<'a>(literal: &'a str) -> &'a str
     ensures { chars result.now ≡ unprefixed (chars literal.now) }
 {
@@ -86,7 +86,7 @@ fn peeled<'a>(text: &'a str) -> &'a str
     inside.as_str()
 }
 
-/// What stands between the quotes of a literal without prefix.
+/// What stands between the quotes of a literal without prefix, one or three at each end.
 pub fn between_quotes<'a>(literal: &'a str) -> &'a str
     ensures { chars result.now ≡ between_quotes (chars literal.now) }
 {
@@ -183,7 +183,8 @@ fn letter_escape(letter: char) -> Option<char>
     }
 }
 
-/// What the characters behind a backslash stand for, a character or none, and how many of them belong to the escape.
+/// What the characters behind a backslash stand for, a character or none, and how many of them belong to the escape
+/// (Python Language Reference 3.14, 2.5.1 "Escape sequences"); `None` where the escape is refused.
 pub fn escape(behind: &str) -> Option<(Option<char>, usize)>
     ensures { option_map written_of result ≡ escape (characters behind.now) }
 {

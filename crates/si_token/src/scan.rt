@@ -11,7 +11,7 @@ ghost use Rattle.si_semantics.specs.Tokens as tokens;
 ghost use Rattle.si_token.specs.Views.{kind_of, sort_of, token_of, place_of};
 ghost use Rattle.si_token.specs.Laying.{begins, before_word, Stands};
 ghost use Rattle.si_token.specs.Faults.{IsBadText};
-ghost use Rattle.si_token.specs.Spans.{IsSliceOf, LieBetween, EndsIn};
+ghost use Rattle.si_token.specs.Spans.{IsSliceOf, IsOnLine, LieBetween, EndsIn};
 ghost use Rattle.si_token.specs.declared.token.TokenKind.TheVariants.{End};
 
 use crate::keywords::keyword;
@@ -21,6 +21,7 @@ use crate::layout::{
 use crate::symbols::symbol;
 use crate::token::{Token, TokenKind};
 use crate::words::{Sort, is_allowed, longest_word};
+use si_plain::line_ends;
 use std::alloc::{AllocError, AllocFailed, Global};
 
 /// Why a text has no tokens.
@@ -112,7 +113,7 @@ fn begin_line<'a>(
     place: Place,
 ) -> Result<(), TokenFault>
     requires { place.at < 2 ^ 63 }
-    ensures begun { OnOk result (Stands place.at (begins (place_of place) (reverse columns.old.items)) (reverse columns.new.items) all.old.items all.new.items) }
+    ensures begun { OnOk result (Stands place.at place.line (begins (place_of place) (reverse columns.old.items)) (reverse columns.new.items) all.old.items all.new.items) }
     ensures refused { IfErr result (λ fault. IsBadText fault → begins (place_of place) (reverse columns.old.items) ≡ None) }
 {
     if place.has_tab {
@@ -139,7 +140,7 @@ fn before_word<'a>(
     kind: Option<TokenKind>,
 ) -> Result<(), TokenFault>
     requires { place.at < 2 ^ 63 }
-    ensures begun { OnOk result (Stands place.at (before_word (place_of place) (reverse columns.old.items) (option_map kind_of kind)) (reverse columns.new.items) all.old.items all.new.items) }
+    ensures begun { OnOk result (Stands place.at place.line (before_word (place_of place) (reverse columns.old.items) (option_map kind_of kind)) (reverse columns.new.items) all.old.items all.new.items) }
     ensures refused { IfErr result (λ fault. IsBadText fault → before_word (place_of place) (reverse columns.old.items) (option_map kind_of kind) ≡ None) }
 {
     if kind.is_none() || place.begun {
@@ -164,6 +165,9 @@ pub fn tokens(alloc: Global, text: &str) -> Result<Vec<Token<'_>>, TokenFault>
     ensures order { IfOk result (λ all. LieBetween 0 all.items (length text.now)) }
     ensures end { IfOk result (λ all. EndsIn End all.items) }
 
+    // Each begins in the line that its span says, counted over the whole source.
+    ensures lines { IfOk result (λ all. All (IsOnLine text.now) all.items) }
+
     // A text is refused only where the rules allow no tokens.
     ensures refused { IfErr result (λ fault. IsBadText fault → (ts : List tokens.Token) → HasTokens ts text.now → ⊥) }
 {
@@ -179,7 +183,8 @@ pub fn tokens(alloc: Global, text: &str) -> Result<Vec<Token<'_>>, TokenFault>
         before_word(&mut all, &mut columns, place, kind)?;
         let (made, next) = laid(place, kind, sort, front);
         keep(&mut all, made)?;
-        place = next;
+        let line = place.line + line_ends(rest.as_bytes(), front.len());
+        place = Place { line, ..next };
         rest = after;
     }
     keep(&mut all, missing_newline(place))?;

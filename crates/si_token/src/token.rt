@@ -92,7 +92,7 @@ pub enum TokenKind {
     Name,
     /// An integer literal: decimal digits of a value from 0 to 9223372036854775807.
     Int,
-    /// A str literal, with its quotes.
+    /// A str literal that has a value, with its prefix and quotes.
     Str,
     Symbol(Symbol),
     Keyword(Keyword),
@@ -107,7 +107,7 @@ pub enum TokenKind {
 }
 
 /// Where a token stands: from the byte `start` up to the byte `end` of the source. The line in which it begins is
-/// counted from 1 and is for people: no contract speaks of it.
+/// counted from 1, by the line ends before it: LF, CR, and CR LF as one, those in literals and in brackets among them.
 #[derive(Clone, Copy, Debug, PartialEq, Eq)]
 pub struct Span {
     pub start: usize,

@@ -4,4 +4,4 @@ use Rattle.si_token.specs.Laying.{Adds}
 use Rattle.si_token.proofs.layout.dedents.Given as goal
 
 abbrev pub invariant-loop : goal.invariant-loop
-invariant-loop l = Adds l.place.at (replicate l.counter Dedent) l.fn.all.items l.all.items
+invariant-loop l = Adds l.place.at l.place.line (replicate l.counter Dedent) l.fn.all.items l.all.items

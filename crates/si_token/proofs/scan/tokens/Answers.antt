@@ -5,7 +5,8 @@ use Rattle.si_semantics.specs.Tokens.{Dedent}
 use Rattle.si_token.specs.declared.scan.TokenFault.{TokenFault}
 use Rattle.si_token.specs.Laying.{Adds}
 use Rattle.std.proofs.lemmas.List.{length-append}
-use Rattle.si_semantics.specs.Layout.{HasTokens}
+use Rattle.si_plain.specs.LineEnds.{ends_before}
+use Rattle.si_semantics.specs.Layout.{HasTokens, line_at}
 use Rattle.si_token.specs.Views.{Place, token_of, kind_of, place_of, sort_of}
 use Rattle.std.specs.Option.{option_map}
 use Rattle.si_token.specs.Reading.{word_at}
@@ -14,7 +15,7 @@ use Rattle.si_token.specs.declared.token.TokenKind.TheVariants.{End}
 use Rattle.si_token.proofs.Steps.{AreBefore, all_ending, at_start, next_word, no_word, no_place, over_right, over_only}
 use Rattle.si_token.proofs.Added.{adds_parts, parts_ended}
 use Rattle.si_token.proofs.Loop.{some_rest, no_rest, laid_at, turned, not_turned, end_is, ended}
-use Rattle.si_token.proofs.Slices.{AreParts, parts_first, at_first, behind_word, parts_kept, ends_in}
+use Rattle.si_token.proofs.Slices.{AreParts, parts_first, at_first, behind_word, line_behind, parts_kept, ends_in}
 use Rattle.si_token.proofs.scan.tokens.Goals as goal
 
 -- an error goes on by `?`
@@ -30,6 +31,7 @@ loop-rest-init c =
       utf8 = c.utf8.text;
       at = omega (arith, zero);
       within = c.line_start-place.ensures.within;
+      line = c.line_start-place.ensures.line ∙ ap (line_at c.args.text.now) (sym zero);
       left = ap (λ n. drop n c.args.text.now) zero ∙ at_first c.args.text.now;
       parts = subst (AreParts c.args.text.now c.new-all.result.items) (sym zero)
           (subst (λ l. AreParts c.args.text.now l 0) (sym c.new-all.ensures.items) (parts_first c.args.text.now));
@@ -46,19 +48,24 @@ loop-rest-preserved c =
     let before = subst (λ rest. AreBefore (map token_of c.loop-rest.all.items) (place_of c.loop-rest.place) (reverse c.loop-rest.columns.items) rest c.args.text.now) word.parts c.loop-rest.invariant.before in
     let at : c.laid.result.1.at ≡ c.loop-rest.place.at + length front =
     ap (λ (p : Place). p.at) (ap (λ r. r.1) c.laid.ensures.gives) ∙ laid_at (place_of c.loop-rest.place) (option_map kind_of c.token_kind-kind.result) (sort_of c.in-Some.sort) front in
+    let few = c.line_ends.ensures.few in
+    let small = c.loop-rest.invariant.within.line in
+    let ends : c.line_ends.result ≡ ends_before (length front) c.loop-rest.rest.now = c.line_ends.ensures.ends ∙ ap (ends_before (length front)) c.as_bytes.ensures.value in
     let parts = ap length word.parts ∙ length-append front after in
     let whole = c.loop-rest.invariant.at in
     let left = c.loop-rest.invariant.left ∙ word.parts in
-    let turn = turned c.loop-rest.all.items c.before_word.new.all.items c.keep.new.all.items c.laid.result.0 (place_of c.loop-rest.place) (place_of c.laid.result.1) (option_map kind_of c.token_kind-kind.result)
+    let turn = turned c.loop-rest.all.items c.before_word.new.all.items c.keep.new.all.items c.laid.result.0 c.loop-rest.place.line (place_of c.loop-rest.place) (place_of c.laid.result.1) (option_map kind_of c.token_kind-kind.result)
     (sort_of c.in-Some.sort) front (reverse c.loop-rest.columns.items) (reverse c.before_word.new.columns.items) begun.kinds c.token_kind-kind.ensures begun.is c.laid.ensures.gives begun.adds c.in_ok-keep.ensures in
     record {
       utf8 = word.utf8;
       at = omega (arith, at, parts, whole);
-      within = c.laid.ensures.within;
+      within = record { line = omega (arith, at, few, small); column = c.laid.ensures.within.column; brackets = c.laid.ensures.within.brackets };
+      line = line_behind c.args.text.now c.loop-rest.rest.now c.loop-rest.place.at (length front) c.loop-rest.place.line c.line_ends.result
+          c.loop-rest.invariant.left c.loop-rest.invariant.line ends ∙ ap (line_at c.args.text.now) (sym at);
       left = ap (λ n. drop n c.args.text.now) at ∙ behind_word c.args.text.now front after c.loop-rest.place.at left;
       parts = subst (AreParts c.args.text.now c.keep.new.all.items) (sym at)
-          (parts_kept c.args.text.now front after c.before_word.new.all.items c.keep.new.all.items c.loop-rest.place.at c.laid.result.0 left c.laid.ensures.part c.in_ok-keep.ensures
-          (adds_parts c.args.text.now c.loop-rest.rest.now c.loop-rest.place.at begun.kinds c.loop-rest.all.items c.before_word.new.all.items c.loop-rest.invariant.left begun.adds c.loop-rest.invariant.parts));
+          (parts_kept c.args.text.now front after c.before_word.new.all.items c.keep.new.all.items c.loop-rest.place.at c.loop-rest.place.line c.laid.result.0 left c.loop-rest.invariant.line c.laid.ensures.part c.in_ok-keep.ensures
+          (adds_parts c.args.text.now c.loop-rest.rest.now c.loop-rest.place.at c.loop-rest.place.line begun.kinds c.loop-rest.all.items c.before_word.new.all.items c.loop-rest.invariant.left c.loop-rest.invariant.line begun.adds c.loop-rest.invariant.parts));
       before = subst (λ l. AreBefore l (place_of c.laid.result.1) (reverse c.before_word.new.columns.items) after c.args.text.now) turn.1
           (next_word (map token_of c.loop-rest.all.items) (place_of c.loop-rest.place) (reverse c.loop-rest.columns.items) c.args.text.now front after (sort_of c.in-Some.sort) _ (place_of c.laid.result.1)
           (reverse c.before_word.new.columns.items) word.some (ap word_at (sym word.parts) ∙ word.word) turn.0 before);
@@ -87,14 +94,14 @@ all_before : (c : goal.After-drop-columns-2) → AreBefore (map token_of c.loop-
 all_before c =
     subst (λ rest. AreBefore (map token_of c.loop-rest.all.items) (place_of c.loop-rest.place) (reverse c.loop-rest.columns.items) rest c.args.text.now) (nothing_left c) c.loop-rest.invariant.before
 
-dedents_added : (c : goal.After-drop-columns-2) → Adds c.loop-rest.place.at (replicate (length c.loop-rest.columns.items) Dedent) c.keep-2.new.all.items c.dedents.new.all.items
+dedents_added : (c : goal.After-drop-columns-2) → Adds c.loop-rest.place.at c.loop-rest.place.line (replicate (length c.loop-rest.columns.items) Dedent) c.keep-2.new.all.items c.dedents.new.all.items
 dedents_added c =
-    subst (λ n. Adds c.loop-rest.place.at (replicate n Dedent) c.keep-2.new.all.items c.dedents.new.all.items) (c.len.ensures ∙ c.loop-rest.columns.ok.0) c.in_ok-dedents.ensures
+    subst (λ n. Adds c.loop-rest.place.at c.loop-rest.place.line (replicate n Dedent) c.keep-2.new.all.items c.dedents.new.all.items) (c.len.ensures ∙ c.loop-rest.columns.ok.0) c.in_ok-dedents.ensures
 
 all_ended : (c : goal.After-drop-columns-2) → map token_of c.push.new.self.items ≡ map token_of c.loop-rest.all.items ++ all_ending (place_of c.loop-rest.place) (reverse c.loop-rest.columns.items)
 all_ended c =
-    ended c.loop-rest.all.items c.keep-2.new.all.items c.dedents.new.all.items c.push.new.self.items c.missing_newline.result c.token_at.result (place_of c.loop-rest.place) c.loop-rest.columns.items
-    c.missing_newline.ensures.gives (end_is c.token_at.result c.loop-rest.place.at c.token_at.ensures.kind c.token_at.ensures.part)
+    ended c.loop-rest.all.items c.keep-2.new.all.items c.dedents.new.all.items c.push.new.self.items c.missing_newline.result c.token_at.result c.loop-rest.place.line (place_of c.loop-rest.place) c.loop-rest.columns.items
+    c.missing_newline.ensures.gives (end_is c.token_at.result c.loop-rest.place.at c.loop-rest.place.line c.token_at.ensures.kind c.token_at.ensures.part)
     c.in_ok-keep-2.ensures (dedents_added c) c.in_ok-push.ensures.items
 
 all_parts : (c : goal.After-drop-columns-2) → AreParts c.args.text.now c.push.new.self.items (length c.args.text.now)
@@ -102,8 +109,8 @@ all_parts c =
     let over = nothing_left c in
     let whole = c.loop-rest.invariant.at in
     let none = ap length over in
-    parts_ended c.args.text.now c.loop-rest.all.items c.keep-2.new.all.items c.dedents.new.all.items c.push.new.self.items c.loop-rest.place.at c.missing_newline.result _ c.token_at.result
-    (c.loop-rest.invariant.left ∙ over) (omega (arith, whole, none))
+    parts_ended c.args.text.now c.loop-rest.all.items c.keep-2.new.all.items c.dedents.new.all.items c.push.new.self.items c.loop-rest.place.at c.loop-rest.place.line c.missing_newline.result _ c.token_at.result
+    (c.loop-rest.invariant.left ∙ over) (omega (arith, whole, none)) c.loop-rest.invariant.line
     c.missing_newline.ensures.part c.token_at.ensures.part
     c.in_ok-keep-2.ensures (dedents_added c) c.in_ok-push.ensures.items c.loop-rest.invariant.parts
 
@@ -121,6 +128,9 @@ returns-clause-slices c = (all_parts c).slices
 
 pub returns-clause-order : goal.returns-clause-order
 returns-clause-order c = (all_parts c).order
+
+pub returns-clause-lines : goal.returns-clause-lines
+returns-clause-lines c = (all_parts c).lines
 
 pub returns-clause-end : goal.returns-clause-end
 returns-clause-end c = subst (EndsIn End) (sym c.in_ok-push.ensures.items) (ends_in End c.dedents.new.all.items c.token_at.result c.token_at.ensures.kind)

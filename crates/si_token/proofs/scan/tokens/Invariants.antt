@@ -1,4 +1,5 @@
 use Rattle.std.proofs.Common.{length, ◌+◌, ◌≡◌, map, drop, reverse, IsUtf8}
+use Rattle.si_semantics.specs.Layout.{line_at}
 use Rattle.si_token.specs.Places.{IsWithin}
 use Rattle.si_token.specs.Views.{token_of, place_of}
 use Rattle.si_token.proofs.Slices.{AreParts}
@@ -10,6 +11,7 @@ invariant-loop-rest l = record {
   utf8 : IsUtf8 l.rest;
   at : l.place.at + length l.rest ≡ length l.text;
   within : IsWithin l.place;
+  line : l.place.line ≡ line_at l.text l.place.at;
   left : drop l.place.at l.text ≡ l.rest;
   parts : AreParts l.text l.all.items l.place.at;
   before : AreBefore (map token_of l.all.items) (place_of l.place) (reverse l.columns.items) l.rest l.text;
