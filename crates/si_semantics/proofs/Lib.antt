@@ -11,3 +11,6 @@ pub mod WorkedLiterals
 pub mod Scoped
 pub mod WorkedLayout
 pub mod KindsAbove
+pub mod Cutting
+pub mod Deriving
+pub mod WorkedGrammar

@@ -24,3 +24,4 @@ pub mod Grammar
 pub mod Words
 pub mod Layout
 pub mod LayoutCases
+pub mod GrammarCases

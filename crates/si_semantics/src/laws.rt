@@ -8,6 +8,7 @@ ghost use Rattle.si_semantics.specs.ItemCases.{ItemCases};
 ghost use Rattle.si_semantics.specs.ScopeCases.{ScopeCases};
 ghost use Rattle.si_semantics.specs.LiteralCases.{LiteralCases};
 ghost use Rattle.si_semantics.specs.LayoutCases.{LayoutCases};
+ghost use Rattle.si_semantics.specs.GrammarCases.{GrammarCases};
 ghost use Rattle.si_semantics.specs.Laws.{Binding, OneLife, LivesGrow, GoneStays, AnswersWait, OnePieceALine, OneMoment, LeftByExceptions, KindsAbove};
 
 /// The worked cases: what scripts print and how they end.
@@ -48,6 +49,11 @@ pub fn worked_literals()
 /// The worked cases of the layout: what tokens lines make, and which blocks they open and close.
 pub fn worked_layout()
     ensures { LayoutCases }
+{}
+
+/// The worked cases of reading: which words are the longest, and from the bytes of texts to their trees.
+pub fn worked_grammar()
+    ensures { GrammarCases }
 {}
 
 /// A name that was bound has its value, and every other has what it had.
