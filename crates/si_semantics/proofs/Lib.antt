@@ -16,3 +16,6 @@ pub mod KindsAbove
 pub mod WorkedParcels
 pub mod WorkedShared
 pub mod Firsts
+pub mod Cutting
+pub mod Deriving
+pub mod WorkedGrammar

@@ -33,3 +33,4 @@ pub mod LayoutCases
 pub mod Shared
 pub mod History
 pub mod SharedCases
+pub mod GrammarCases

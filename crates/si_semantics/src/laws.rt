@@ -11,6 +11,7 @@ ghost use Rattle.si_semantics.specs.LayoutCases.{LayoutCases};
 ghost use Rattle.si_semantics.specs.ParcelCases.{ParcelCases};
 ghost use Rattle.si_semantics.specs.SharedCases.{SharedCases};
 ghost use Rattle.si_semantics.specs.LimitCases.{LimitCases};
+ghost use Rattle.si_semantics.specs.GrammarCases.{GrammarCases};
 ghost use Rattle.si_semantics.specs.Laws.{Binding, OneLife, LivesGrow, GoneStays, AnswersWait, OnePieceALine, OneMoment, LeftByExceptions, KindsAbove};
 
 /// The worked cases: what scripts print and how they end.
@@ -66,6 +67,11 @@ pub fn worked_shared()
 /// The worked cases of limits: how deep expressions and statements are, how long literals, how many parameters.
 pub fn worked_limits()
     ensures { LimitCases }
+{}
+
+/// The worked cases of reading: which words are the longest, and from the bytes of texts to their trees.
+pub fn worked_grammar()
+    ensures { GrammarCases }
 {}
 
 /// A name that was bound has its value, and every other has what it had.

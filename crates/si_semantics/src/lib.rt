@@ -8,8 +8,8 @@
 // `Shows` (what an interpreter shows of its life at any moment), `Report` (what the program prints, and its status),
 // `Cases`, `FunctionCases`, `ExceptionCases`, `FinallyCases`, `ItemCases` and `ScopeCases` (worked cases; `Scripts` has
 // short forms for them), `Laws` (what is proved of lives and of courses). How a text is read: `Tokens`, `Literals` with
-// `LiteralCases`, `Words`, `Layout` with `LayoutCases`, `Grammar`, and `Limits` with `LimitCases`. What interpreters
-// share: `Parcels` with `ParcelCases`, `Actions`, `Shared` and `History` with `SharedCases`.
+// `LiteralCases`, `Words`, `Layout` with `LayoutCases`, `Grammar` with `GrammarCases`, and `Limits` with `LimitCases`. What
+// interpreters share: `Parcels` with `ParcelCases`, `Actions`, `Shared` and `History` with `SharedCases`.
 //
 // The one contract is that they hold together (`laws`): the cases compute, and a life and a course only ever grow.
 #![tactic(auto)]

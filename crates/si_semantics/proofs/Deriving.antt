@@ -1,0 +1,243 @@
+-- For the worked cases of reading: trees with the terminals that spell them, production by production.
+use Rattle.std.proofs.Common.{ℕ, suc, ◌<◌, ◌≤◌, List, [], ◌∷◌, ◌++◌, length, inl, inr, refl, sym, ap, lit<, ◌≡◌, ◌∙◌, true, false, Some}
+use Rattle.std.specs.Prelude.{pos}
+use Rattle.std.proofs.lemmas.List.{append-nil}
+use Rattle.si_semantics.specs.Value.{Text}
+use Rattle.si_semantics.specs.Tree.{BinaryOperator, UnaryOperator, ComparisonOperator, Or, Expr, Name, Unary, Binary, Boolean, Compare, Comparisons, Stmt, Stmts, Evaluate, Assign, If, While, NoStmts}
+use Rattle.si_semantics.specs.Tokens as tokens
+use Rattle.si_semantics.specs.Grammar.{Terminal, NAME, NUMBER, Sign, Word, NEWLINE, INDENT, DEDENT, ENDMARKER, level_of, left_level, right_level, symbol_of, prefix_level, prefix_of, comparison_of, is_identity, value_of_int, Many, Link, links_of, Compares, Spells, max_depth, Small, Simple, Suite, Nests, max_nesting, Derives}
+use Rattle.si_semantics.specs.Cases.{int, arguments, suite}
+
+-- ---- expressions
+
+pub record Expression (n l : ℕ) (e : Expr) : Type 0 where
+  pub terminals : List Terminal
+  pub spelled : Spells n l e terminals
+
+abbrev pub name : {n l : ℕ} (y : Text) → Expression (suc n) l (Name y)
+name y = record { terminals = NAME y ∷ []; spelled = inl refl }
+
+abbrev pub number : {n l : ℕ} (digits : List ℕ) (k : ℕ) → value_of_int digits ≡ Some (pos k)
+    → Expression (suc n) l (int k)
+number digits k h = record { terminals = NUMBER digits ∷ []; spelled = inl (digits, refl, h) }
+
+abbrev pub in_brackets : {n l : ℕ} {e : Expr} → Expression n 1 e → Expression (suc n) l e
+in_brackets e =
+    record {
+      terminals = Sign tokens.LeftParenthesis ∷ (e.terminals ++ Sign tokens.RightParenthesis ∷ []);
+      spelled = inr (e.terminals, refl, e.spelled);
+    }
+
+abbrev pub unary : {n l : ℕ} {a : Expr} (op : UnaryOperator) → l ≤ prefix_level op → Expression n (prefix_level op) a
+    → Expression (suc n) l (Unary op a)
+unary op h a = record { terminals = prefix_of op ∷ a.terminals; spelled = inl (a.terminals, refl, h, a.spelled) }
+
+abbrev pub binary : {n l : ℕ} {a b : Expr} (op : BinaryOperator) → l ≤ level_of op → Expression n (left_level op) a
+    → Expression n (right_level op) b
+    → Expression (suc n) l (Binary op a b)
+binary op h a b =
+    record {
+      terminals = a.terminals ++ Sign (symbol_of op) ∷ b.terminals;
+      spelled = inl (a.terminals, b.terminals, refl, h, a.spelled, b.spelled);
+    }
+
+-- operators of comparisons with the operands behind them
+pub record Chain (n : ℕ) (links : List Link) : Type 0 where
+  pub terminals : List Terminal
+  pub spelled : Many (Compares (Spells n)) links terminals
+
+abbrev pub no_more : {n : ℕ} → Chain n []
+no_more = record { terminals = []; spelled = refl }
+
+pub not_identity : {A : Type 0} (op : ComparisonOperator) → is_identity op ≡ false → is_identity op ≡ true → A
+not_identity op h i = absurd (let bad : false ≡ true = sym h ∙ i in cc)
+
+abbrev pub compares : {n : ℕ} {e : Expr} {links : List Link} (op : ComparisonOperator) → is_identity op ≡ false
+    → Expression n 10 e → Chain n links
+    → Chain n ((op, e) ∷ links)
+compares op h e more =
+    record {
+      terminals = (comparison_of op ++ e.terminals) ++ more.terminals;
+      spelled = (comparison_of op ++ e.terminals, more.terminals, refl, (e.terminals, refl, e.spelled, not_identity op h), more.spelled);
+    }
+
+abbrev pub comparison : {n l : ℕ} {a : Expr} {cs : Comparisons} → l ≤ 8 → 0 < length (links_of cs) → Expression n 10 a
+    → Chain n (links_of cs)
+    → Expression (suc n) l (Compare a cs)
+comparison h some a cs =
+    record {
+      terminals = a.terminals ++ cs.terminals;
+      spelled = inl (a.terminals, cs.terminals, refl, h, a.spelled, some, cs.spelled);
+    }
+
+-- two operands with `or` between them
+abbrev pub either : {n l : ℕ} {a b : Expr} → l ≤ 3 → Expression n 5 a → Expression n 5 b
+    → Expression (suc n) l (Boolean Or a (arguments (b ∷ [])))
+either h a b =
+    record {
+      terminals = a.terminals ++ Word tokens.OrWord ∷ b.terminals;
+      spelled =
+          inl (
+            a.terminals,
+            Word tokens.OrWord ∷ b.terminals,
+            refl,
+            h,
+            a.spelled,
+            lit< tt,
+            (Word tokens.OrWord ∷ b.terminals, [], sym (append-nil (Word tokens.OrWord ∷ b.terminals)), (b.terminals, refl, b.spelled), refl),
+          );
+    }
+
+-- ---- statements
+
+pub record Statement (s : Stmt) : Type 0 where
+  pub terminals : List Terminal
+  pub spelled : Small s terminals
+
+abbrev pub assigned : {e : Expr} (y : Text) → Expression max_depth 1 e → Statement (Assign y e)
+assigned y e =
+    record { terminals = NAME y ∷ (Sign tokens.Equal ∷ e.terminals); spelled = (NAME y ∷ [], e.terminals, refl, inl refl, e.spelled) }
+
+abbrev pub evaluated : {e : Expr} → Expression max_depth 1 e → Statement (Evaluate e)
+evaluated e = record { terminals = e.terminals; spelled = e.spelled }
+
+abbrev pub word : (s : Stmt) (w : tokens.Keyword) → Small s (Word w ∷ []) → Statement s
+word s w h = record { terminals = Word w ∷ []; spelled = h }
+
+-- a statement alone in its line
+pub alone : (s : Stmt) (t : Statement s) → Simple (s ∷ []) (t.terminals ++ NEWLINE ∷ [])
+alone s t = (t.terminals, refl, lit< tt, (t.terminals, [], sym (append-nil t.terminals), t.spelled, inl refl))
+
+-- a line, or a compound statement
+pub record Nested (n : ℕ) (s : Stmt) : Type 0 where
+  pub terminals : List Terminal
+  pub spelled : Nests n (s ∷ []) terminals
+
+abbrev pub line : {n : ℕ} {s : Stmt} → Statement s → Nested (suc n) s
+line {s = s} t = record { terminals = t.terminals ++ NEWLINE ∷ []; spelled = inl (alone s t) }
+
+-- a suite of one statement
+pub record Suited (n : ℕ) (s : Stmt) : Type 0 where
+  pub terminals : List Terminal
+  pub spelled : Suite (Nests n) (suite (s ∷ [])) terminals
+
+-- behind the colon in its line
+abbrev pub in_line : {n : ℕ} {s : Stmt} → Statement s → Suited n s
+in_line {s = s} t =
+    record {
+      terminals = Sign tokens.Colon ∷ (t.terminals ++ NEWLINE ∷ []);
+      spelled = inl (s ∷ [], t.terminals ++ NEWLINE ∷ [], refl, refl, alone s t);
+    }
+
+-- in a block
+abbrev pub in_block : {n : ℕ} {s : Stmt} (t : Nested n s) → 0 < length t.terminals → Suited n s
+in_block {s = s} t h =
+    record {
+      terminals = Sign tokens.Colon ∷ (NEWLINE ∷ (INDENT ∷ (t.terminals ++ DEDENT ∷ [])));
+      spelled = inr (t.terminals, refl, h, ((s ∷ []) ∷ [], refl, (t.terminals, [], sym (append-nil t.terminals), t.spelled, refl)));
+    }
+
+-- an `if` with no other suite
+abbrev pub one_branch : {n : ℕ} {e : Expr} {s : Stmt} → Expression max_depth 1 e → Suited n s
+    → Nested (suc n) (If e (suite (s ∷ [])) NoStmts)
+one_branch {e = e} {s = s} test body =
+    record {
+      terminals = Word tokens.IfWord ∷ (test.terminals ++ body.terminals);
+      spelled =
+          inr (
+            If e (suite (s ∷ [])) NoStmts,
+            refl,
+            (
+              [],
+              NoStmts,
+              test.terminals ++ body.terminals,
+              [],
+              [],
+              ap (λ l. Word tokens.IfWord ∷ l) (sym (append-nil (test.terminals ++ body.terminals))),
+              refl,
+              (test.terminals, body.terminals, refl, test.spelled, body.spelled),
+              refl,
+              inl (refl, refl),
+            ),
+          );
+    }
+
+-- one with an `elif` and an else suite
+abbrev pub three_branches : {n : ℕ} {a b : Expr} {s t u : Stmt} → Expression max_depth 1 a → Suited n s
+    → Expression max_depth 1 b → Suited n t → Suited n u
+    → Nested (suc n) (If a (suite (s ∷ [])) (suite (If b (suite (t ∷ [])) (suite (u ∷ [])) ∷ [])))
+three_branches {a = a} {b = b} {s = s} {t = t} {u = u} test body other second last =
+    let behind : List Terminal = Word tokens.ElifWord ∷ (other.terminals ++ second.terminals) in
+    record {
+      terminals = Word tokens.IfWord ∷ ((test.terminals ++ body.terminals) ++ (behind ++ Word tokens.ElseWord ∷ last.terminals));
+      spelled =
+          inr (
+            If a (suite (s ∷ [])) (suite (If b (suite (t ∷ [])) (suite (u ∷ [])) ∷ [])),
+            refl,
+            (
+              (b, suite (t ∷ [])) ∷ [],
+              suite (u ∷ []),
+              test.terminals ++ body.terminals,
+              behind,
+              Word tokens.ElseWord ∷ last.terminals,
+              refl,
+              refl,
+              (test.terminals, body.terminals, refl, test.spelled, body.spelled),
+              (
+                behind,
+                [],
+                sym (append-nil behind),
+                (other.terminals ++ second.terminals, refl, (other.terminals, second.terminals, refl, other.spelled, second.spelled)),
+                refl,
+              ),
+              inr (last.terminals, refl, last.spelled),
+            ),
+          );
+    }
+
+-- a `while` with no other suite
+abbrev pub loop : {n : ℕ} {e : Expr} {s : Stmt} → Expression max_depth 1 e → Suited n s
+    → Nested (suc n) (While e (suite (s ∷ [])) NoStmts)
+loop {e = e} {s = s} test body =
+    record {
+      terminals = Word tokens.WhileWord ∷ (test.terminals ++ body.terminals);
+      spelled =
+          inr (
+            While e (suite (s ∷ [])) NoStmts,
+            refl,
+            (
+              test.terminals ++ body.terminals,
+              [],
+              ap (λ l. Word tokens.WhileWord ∷ l) (sym (append-nil (test.terminals ++ body.terminals))),
+              (test.terminals, body.terminals, refl, test.spelled, body.spelled),
+              inl (refl, refl),
+            ),
+          );
+    }
+
+-- a text of one statement, or of two
+pub record Parsed (body : Stmts) : Type 0 where
+  pub terminals : List Terminal
+  pub spelled : Derives body terminals
+
+abbrev pub text : {s : Stmt} → Nested max_nesting s → Parsed (suite (s ∷ []))
+text {s = s} t =
+    record {
+      terminals = t.terminals ++ ENDMARKER ∷ [];
+      spelled = (t.terminals, refl, ((s ∷ []) ∷ [], refl, (t.terminals, [], sym (append-nil t.terminals), t.spelled, refl)));
+    }
+
+abbrev pub text_of_two : {s t : Stmt} → Nested max_nesting s → Nested max_nesting t → Parsed (suite (s ∷ t ∷ []))
+text_of_two {s = s} {t = t} a b =
+    record {
+      terminals = (a.terminals ++ b.terminals) ++ ENDMARKER ∷ [];
+      spelled = (
+        a.terminals ++ b.terminals,
+        refl,
+        (
+          (s ∷ []) ∷ (t ∷ []) ∷ [],
+          refl,
+          (a.terminals, b.terminals, refl, a.spelled, (b.terminals, [], sym (append-nil b.terminals), b.spelled, refl)),
+        ),
+      );
+    }

@@ -1,0 +1,98 @@
+-- Worked cases of reading: which words of a text are the longest, and which tokens and which tree texts have.
+use Rattle.std.specs.Prelude.{codes, ℕ, List, [], ◌∷◌, map}
+use Rattle.si_semantics.specs.Tree.{Subtract, Multiply, Power, Minus, Not, Less, LessEqual, Or, Expr, Name, Unary, Binary, Call, Boolean, Compare, MoreComparisons, NoComparisons, Stmt, Evaluate, Assign, Pass, If, While, Break, NoStmts}
+use Rattle.si_semantics.specs.Tokens as tokens
+use Rattle.si_semantics.specs.Tokens.{Token}
+use Rattle.si_semantics.specs.Words.{IsLongest}
+use Rattle.si_semantics.specs.Layout.{token, HasTokens}
+use Rattle.si_semantics.specs.Grammar.{terminal_of, Derives}
+use Rattle.si_semantics.specs.Cases.{int, arguments, suite}
+use Rattle.si_semantics.specs.FunctionCases.{f, x, called}
+
+-- the bytes of a text have tokens from which these statements derive
+abbrev pub IsReadAs : List ℕ → List Stmt → Type 0
+IsReadAs text body = (ts : List Token) × HasTokens ts text × Derives (suite body) (map terminal_of ts)
+
+-- `f(x)`
+abbrev pub f_of_x : Stmt
+f_of_x = Evaluate (called f (Name x ∷ []))
+
+-- `if x:`, then `  f(x)`
+abbrev pub an_if : Stmt
+an_if = If (Name x) (suite (f_of_x ∷ [])) NoStmts
+
+abbrev pub tokens_of_an_if : List Token
+tokens_of_an_if =
+    token 0 (codes "if") (tokens.Word tokens.IfWord)
+    ∷ token 3 (codes "x") tokens.Name
+    ∷ token 4 (codes ":") (tokens.Sign tokens.Colon)
+    ∷ token 5 (codes "\n") tokens.Newline
+    ∷ token 8 [] tokens.Indent
+    ∷ token 8 (codes "f") tokens.Name
+    ∷ token 9 (codes "(") (tokens.Sign tokens.LeftParenthesis)
+    ∷ token 10 (codes "x") tokens.Name
+    ∷ token 11 (codes ")") (tokens.Sign tokens.RightParenthesis)
+    ∷ token 12 (codes "\n") tokens.Newline
+    ∷ token 13 [] tokens.Dedent
+    ∷ token 13 [] tokens.End
+    ∷ []
+
+-- `if x: pass`, `elif f: f(x)`, `else: pass`
+abbrev pub an_elif : Stmt
+an_elif = If (Name x) (suite (Pass ∷ [])) (suite (If (Name f) (suite (f_of_x ∷ [])) (suite (Pass ∷ [])) ∷ []))
+
+-- `f(x, y=1)`
+abbrev pub a_call : Stmt
+a_call = Evaluate (Call (Name f) (arguments (Name x ∷ int 1 ∷ [])) (codes "y" ∷ []))
+
+-- `while x:`, then `  if f:`, then `    break`
+abbrev pub a_while : Stmt
+a_while = While (Name x) (suite (If (Name f) (suite (Break ∷ [])) NoStmts ∷ [])) NoStmts
+
+-- `-3 ** 4`: the power is negated
+abbrev pub negated_power : Expr
+negated_power = Unary Minus (Binary Power (int 3) (int 4))
+
+-- `1 - 2 - -3 ** 4 * 5`
+abbrev pub difference : Expr
+difference = Binary Subtract (Binary Subtract (int 1) (int 2)) (Binary Multiply negated_power (int 5))
+
+-- `1 - (2 - 3)`
+abbrev pub bracketed : Expr
+bracketed = Binary Subtract (int 1) (Binary Subtract (int 2) (int 3))
+
+-- `not 1 < 2 <= 3`: the whole chain is negated
+abbrev pub negated_chain : Expr
+negated_chain =
+    Unary Not (Compare (int 1) (MoreComparisons Less (int 2) (MoreComparisons LessEqual (int 3) NoComparisons)))
+
+pub record GrammarCases : Type 0 where
+  -- `if` is the longest word before a blank, but not before a letter
+  pub word_before_a_blank : IsLongest (codes "if") (codes " x:")
+  pub word_before_a_letter : IsLongest (codes "if") (codes "x:") → ⊥
+  -- `==` is the longest before `=`, but not `=`
+  pub two_signs : IsLongest (codes "==") (codes "= x")
+  pub one_sign : IsLongest (codes "=") (codes "= x") → ⊥
+  -- `1if` is one word, which has no value
+  pub number_before_a_letter : IsLongest (codes "1") (codes "if x") → ⊥
+  -- CR and LF are one line end
+  pub cr_before_lf : IsLongest (codes "\r") (codes "\n") → ⊥
+  -- `''` before a quote opens a text in three quotes, here `'''x'''`
+  pub empty_text_before_a_quote : IsLongest (codes "''") (codes "'x'''") → ⊥
+  -- a word is the longest at the end of the text
+  pub last_word : IsLongest (codes "x") []
+  -- an `if` with its suite in a block
+  pub if_has_tokens : HasTokens tokens_of_an_if (codes "if x:\n  f(x)\n")
+  pub if_derives : Derives (suite (an_if ∷ [])) (map terminal_of tokens_of_an_if)
+  -- an `elif` is an `if` alone in the else suite
+  pub elif_in_the_else_suite : IsReadAs (codes "if x: pass\nelif f: f(x)\nelse: pass\n") (an_elif ∷ [])
+  -- a call goes over a line end in its brackets; the text ends with none
+  pub call_over_two_lines : IsReadAs (codes "f(x,\n    y=1)") (a_call ∷ [])
+  -- the last line closes two blocks
+  pub two_blocks : IsReadAs (codes "while x:\n  if f:\n    break\nf(x)\n") (a_while ∷ f_of_x ∷ [])
+  -- operators by their levels, and at one level from the left
+  pub levels : IsReadAs (codes "x = 1 - 2 - -3 ** 4 * 5\n") (Assign x difference ∷ [])
+  pub brackets : IsReadAs (codes "x = 1 - (2 - 3)\n") (Assign x bracketed ∷ [])
+  -- `or` behind `not`, and `not` before comparisons
+  pub words_between_operands :
+      IsReadAs (codes "not 1 < 2 <= 3 or x\n") (Evaluate (Boolean Or negated_chain (arguments (Name x ∷ []))) ∷ [])
