@@ -18,9 +18,9 @@ pub enum Cause {
     TooLong,
     /// An operation is given a value that it does not take.
     WrongType,
-    /// A call of what is no function, no kind and no built-in (Python Language Reference 3.14, 6.3.4).
+    /// A call of what is no function, no kind and no built-in (Python Language Reference 3.14, 6.3.3).
     NotCallable,
-    /// A call with arguments that do not fit what is called (Python Language Reference 3.14, 6.3.4).
+    /// A call with arguments that do not fit what is called (Python Language Reference 3.14, 6.3.3).
     WrongArguments,
     /// One call of own functions too many within each other, or one exception too many to be written (this project's
     /// own).

@@ -194,7 +194,7 @@ abbrev pub Compares : Language → Link → List Terminal → Type 0
 Compares E link ts =
     (f : List Terminal) × (ts ≡ comparison_of link.0 ++ f) × E 10 link.1 f × (is_identity link.0 ≡ true → (w : Keyword) × (f ≡ Word w ∷ []))
 
--- the text of str literals beside each other (2.4.3)
+-- the text of str literals beside each other (6.2.3.2)
 abbrev pub Strings : Text → List Terminal → Type 0
 Strings s [] = s ≡ []
 Strings s (STRING literal ∷ ts) = (a : Text) × (b : Text) × (s ≡ a ++ b) × (value_of_str literal ≡ Some a) × Strings b ts

@@ -90,7 +90,7 @@ with_line_feeds [] = []
 with_line_feeds (c ∷ cs) =
     if (c == 13) && begins_line_feed cs then with_line_feeds cs else (if c == 13 then 10 else c) ∷ with_line_feeds cs
 
--- ---- escapes (2.5.1, "Escape sequences")
+-- ---- escapes (2.5.4, "Escape sequences")
 
 -- the escapes of one letter: `\\`, `\'`, `\"`, `\a`, `\b`, `\f`, `\n`, `\r`, `\t`, `\v`
 abbrev pub letter_escape : ℕ → Option ℕ

@@ -110,7 +110,7 @@ abbrev pub unassign : Text → Option ℕ → Meaning (Unit {0})
 unassign x None s = Gives tt (record s { world = unset_global x s.world })
 unassign x (Some k) s = Gives tt (record s { slots = slice_set s.slots k None })
 
--- a call of a value with its arguments, some of them perhaps by name (Language Reference, 6.3.4)
+-- a call of a value with its arguments, some of them perhaps by name (Language Reference, 6.3.3)
 abbrev pub calls : Scope → Value → List Value → List Text → Meaning Value
 calls e (Function f k) vs [] s = e.call e.active k vs s
 calls e g vs [] s = ran (call_provided g vs s.world) s
@@ -132,7 +132,7 @@ compared NoComparisons t rest s = Gives t s
 compared (MoreComparisons o a cs) t rest s = choose (is_true t) (rest s) (Gives t s)
 
 abbrev mutual
-  -- an expression, its operands from left to right (Language Reference, 6.16); of a call the callee first (6.3.4), of a conditional expression the test (6.13)
+  -- an expression, its operands from left to right (Language Reference, 6.16); of a call the callee first (6.3.3), of a conditional expression the test (6.13)
   pub expr : Scope → Expr → Meaning Value
   expr e (Constant v) s = Gives v (visit s)
   expr e (Name x) s = read x (place_of x e.locals) (visit s)
@@ -269,7 +269,7 @@ abbrev mutual
 
 -- ---- calls
 
--- back in the caller, with its locals; a function that comes to its end returns None (Language Reference, 6.3.4 and 7.6); `break` and
+-- back in the caller, with its locals; a function that comes to its end returns None (Language Reference, 6.3.3 and 7.6); `break` and
 -- `continue` stand in loops, and leave no function
 abbrev pub returned : List (Option Value) → Result (Unit {0}) → Result Value
 returned old (Gives u s) = Gives Nothing (record s { slots = old })

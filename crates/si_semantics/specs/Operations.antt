@@ -241,11 +241,11 @@ abbrev pub load_local : Text → Option Value → World → Ran
 load_local x (Some v) w = gave v w
 load_local x None w = refused_within UnboundLocalError (codes "local " ++ (x ++ codes " is not bound")) w
 
--- a call with arguments that do not fit (Language Reference, 6.3.4; the message is this project's own)
+-- a call with arguments that do not fit (Language Reference, 6.3.3; the message is this project's own)
 abbrev pub wrong_arguments : World → Ran
 wrong_arguments w = refused TypeError (codes "wrong arguments") w
 
--- a call of what can't be called (Language Reference, 6.3.4; the message is this project's own)
+-- a call of what can't be called (Language Reference, 6.3.3; the message is this project's own)
 abbrev pub not_callable : World → Ran
 not_callable w = refused TypeError (codes "not callable") w
 
@@ -300,7 +300,7 @@ call_kind k [] w = made (exception k None w)
 call_kind k (v ∷ []) w = made (exception k (Some v) w)
 call_kind k _ w = wrong_arguments w
 
--- a call of a value that is no function of a script, with its arguments (Language Reference, 6.3.4)
+-- a call of a value that is no function of a script, with its arguments (Language Reference, 6.3.3)
 abbrev pub call_provided : Value → List Value → World → Ran
 call_provided (Provided b) vs w = call_built_in b vs w
 call_provided (Class k) vs w = call_kind k vs w

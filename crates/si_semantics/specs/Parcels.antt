@@ -109,7 +109,7 @@ abbrev pub closing : ℕ → Text
 closing (suc zero) = codes ",)"
 closing _ = codes ")"
 
--- `repr` of a tree, however long: items in brackets with commas between them, as in the displays of tuples (Language Reference, 6.2.3, 6.15)
+-- `repr` of a tree, however long: items in brackets with commas between them, as in the displays of tuples (Language Reference, 6.2.4, 6.15)
 abbrev mutual
   pub shown : Tree → Text
   shown (Leaf a) = shown_atom a

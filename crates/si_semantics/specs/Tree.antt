@@ -47,7 +47,7 @@ mutual
     Name : Text → Expr
     Unary : UnaryOperator → Expr → Expr
     Binary : BinaryOperator → Expr → Expr → Expr
-    -- a callee, its arguments, and the names of those that are passed by name, which stand behind the others (6.3.4)
+    -- a callee, its arguments, and the names of those that are passed by name, which stand behind the others (6.3.3)
     Call : Expr → Exprs → List Text → Expr
     -- operands of `and` or of `or` in a row: the first, and the others, of which there is one at least (6.11)
     Boolean : BooleanOperator → Expr → Exprs → Expr

@@ -65,6 +65,6 @@ set_global x v w = record w { globals = bind x v w.globals }
 abbrev pub unset_global : Text → World → World
 unset_global x w = record w { globals = unbind x w.globals }
 
--- as an interpreter begins, `__name__` alone is bound (Language Reference, 10.1)
+-- as an interpreter begins, `__name__` alone is bound (Language Reference, 9.1)
 abbrev pub first_world : World
 first_world = record { globals = bind (codes "__name__") (Str (codes "__main__")) nothing_bound; store = [] }
