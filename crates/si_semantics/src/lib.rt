@@ -7,7 +7,8 @@
 // code, one line an instruction), `Shows` (what an interpreter shows of its life at any moment), `Report` (what the
 // program prints, and its status), `Cases`, `FunctionCases`, `ExceptionCases`, `FinallyCases`, `ItemCases` and
 // `ScopeCases` (worked cases; `Scripts` has short forms for them), `Laws` (what is proved of lives and of courses). How a
-// text is read: `Tokens`, `Literals` with `LiteralCases`, `Words`, `Layout` with `LayoutCases`, `Grammar`.
+// text is read: `Tokens`, `Literals` with `LiteralCases`, `Words`, `Layout` with `LayoutCases`, `Grammar`. What several
+// interpreters share: `Parcels` (what is sent), `Actions` (what is asked and answered), with `ParcelCases`.
 //
 // The one contract is that they hold together (`laws`): the cases compute, and a life and a course only ever grow.
 #![tactic(auto)]
