@@ -1,5 +1,5 @@
 -- A loop that writes the items of a tuple.
-use Rattle.std.proofs.Common.{◌≡◌, ℕ, zero, suc, ◌+◌, ◌<◌, ◌≤◌, List, [], ◌∷◌, ◌++◌, codes, length, drop, get_or, encode_utf8_all, sym, ap, ◌∙◌, refl, arith, append-nil, add-one, lit<}
+use Rattle.std.proofs.Common.{◌≡◌, ℕ, suc, ◌+◌, ◌<◌, ◌≤◌, List, [], ◌∷◌, ◌++◌, codes, length, drop, get_or, encode_utf8_all, sym, ap, ◌∙◌, refl, append-nil, add-one, lit<}
 use Rattle.std.proofs.lemmas.List.{at_drop_more, at_drop_all, append_assoc}
 use Rattle.std.proofs.lemmas.Str.{encode_ascii}
 use Rattle.si_semantics.specs.Parcels.{Tree, trees_of, tuple_of, count_of, shown, shown_items, separator, closing}

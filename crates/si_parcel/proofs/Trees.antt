@@ -1,6 +1,6 @@
 -- Tuples and their items.
-use Rattle.std.proofs.Common.{◌≡◌, ℕ, zero, suc, ◌+◌, ◌<◌, ◌≤◌, max, List, [], ◌∷◌, ◌++◌, length, take, drop, get_or, sym, ap, ◌∙◌, refl, arith}
-use Rattle.si_semantics.specs.Parcels.{Tree, Leaf, Group, Trees, trees_of, tuple_of, size_of, sizes_of, levels_of, deepest_of, longest_in, longest_among, IsParcel}
+use Rattle.std.proofs.Common.{◌≡◌, ℕ, zero, suc, ◌<◌, List, [], ◌∷◌, length, get_or, sym, ap, ◌∙◌, refl, arith}
+use Rattle.si_semantics.specs.Parcels.{Tree, Leaf, Group, trees_of, tuple_of, sizes_of, deepest_of, longest_among}
 use Rattle.si_parcel.specs.Nodes.{items_of}
 
 items_of_trees : (ts : List Tree) → items_of (trees_of ts) ≡ ts

@@ -1,5 +1,5 @@
 -- A device of the proof that calls within each other end: an item is smaller than its tuple.
-use Rattle.std.specs.Prelude.{ℕ, ◌+◌, ◌≤◌, max, List, [], ◌∷◌}
+use Rattle.std.specs.Prelude.{◌+◌, ◌≤◌, max, List, [], ◌∷◌}
 use Rattle.std.proofs.Common.{arith}
 use denote.Param.Weighed.{most}
 use Rattle.si_semantics.specs.Parcels.{Tree, trees_of, size_of, sizes_of}

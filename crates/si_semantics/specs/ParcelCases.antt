@@ -1,10 +1,10 @@
--- Worked cases of parcels, computed from the definitions: the texts are what CPython 3.14 prints.
-use Rattle.std.specs.Prelude.{◌≡◌, codes, ℕ, List, [], ◌∷◌, ◌++◌, pos, negsuc, Bool, true, false}
+-- Worked cases of parcels, computed from the definitions: the texts are what CPython 3.14 prints, but for that of a queue.
+use Rattle.std.specs.Prelude.{◌≡◌, codes, ℕ, List, [], ◌∷◌, ◌++◌, pos, negsuc, true, false}
 use Rattle.si_plain.specs.declared.kind.Kind.TheVariants.{ValueError}
 use Rattle.si_semantics.specs.Parcels.{Tree, Leaf, Nothing, Truth, Int, Str, Bytes, Queue, tuple_of, size_of, levels_of, longest_in, shown}
-use Rattle.si_semantics.specs.Life.{Returned, Raised}
+use Rattle.si_semantics.specs.Life.{Raised}
 use Rattle.si_semantics.specs.Actions as action
-use Rattle.si_semantics.specs.Actions.{Answer, fits}
+use Rattle.si_semantics.specs.Actions.{fits}
 
 -- `None`, `1` and a str
 abbrev pub none : Tree

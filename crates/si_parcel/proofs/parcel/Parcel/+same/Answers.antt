@@ -1,4 +1,4 @@
-use Rattle.std.proofs.Common.{rules, ◌≡◌, ◌↔◌, ◌<◌, IsTrue, length, arith, ap, sym, ◌∙◌}
+use Rattle.std.proofs.Common.{◌≡◌, ◌<◌, length, arith, ap, sym, ◌∙◌}
 use Rattle.si_parcel.proofs.Trees.{tuple_injective, same_at}
 use Rattle.si_parcel.proofs.parcel.Parcel.+same.Goals as goal
 

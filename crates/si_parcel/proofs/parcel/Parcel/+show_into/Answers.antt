@@ -1,4 +1,4 @@
-use Rattle.std.proofs.Common.{rules, ◌≡◌, ◌++◌, encode_utf8_all, ap, sym, ◌∙◌, subst, refl, List, ℕ, OnOk, string_bytes, vec_len, length, arith}
+use Rattle.std.proofs.Common.{◌≡◌, ◌++◌, encode_utf8_all, ap, ◌∙◌, subst, refl, List, ℕ, OnOk, string_bytes, length, arith}
 use Rattle.si_semantics.specs.Parcels.{shown}
 use Rattle.si_parcel.proofs.Shows.{item_written, items_written, tuple_written}
 use Rattle.si_parcel.proofs.parcel.Parcel.+show_into.Goals as goal
