@@ -159,8 +159,9 @@ pub record Cases : Type 0 where
   pub repr_with_a_single_quote : repr_text (codes "it's") ≡ codes "\"it's\""
   -- a text of both quotes, a backslash, a line end, code 1 and a letter past ASCII
   pub repr_with_both_quotes : repr_text (39 ∷ 34 ∷ 92 ∷ 10 ∷ 1 ∷ 233 ∷ []) ≡ codes "'\\'\"\\\\\\n\\x01" ++ (233 ∷ 39 ∷ [])
-  -- The wait for the job is visit 1. `a = 7` is 2, its literal 3, its target 4; `b = 'x'` is 5, 6 and 7. The last statement is 8, the call 9, its callee 10.
-  -- `a * 3 - 1` is 11, in it `a * 3` 12, a 13 and 3 14, then 1 is 15; `b + 'y'` is 16, 17 and 18; `b * 3` is 19, 20 and 21. Then the piece is printed.
+  -- The wait for the job is visit 1. `a = 7` is 2, its literal 3, its target 4; `b = 'x'` is 5, 6 and 7. The last
+  -- statement is 8, the call 9, its callee 10. `a * 3 - 1` is 11, in it `a * 3` 12, a 13 and 3 14, then 1 is 15;
+  -- `b + 'y'` is 16, 17 and 18; `b * 3` is 19, 20 and 21. Then the piece is printed.
   pub number_of_a_piece : pieces_of (run_of three_lines) ≡ record { text = codes "20 xy xxx\n"; number = 21 } ∷ []
   -- to tell the end of the run is visit 22
   pub visits_of_a_run : end_of (run_of three_lines) ≡ Some (Some (End Returned), 22)
@@ -168,7 +169,8 @@ pub record Cases : Type 0 where
   pub pieces_of_a_life : pieces_of (life_of 0 four_jobs) ≡ record { text = codes "7\n"; number = 6 } ∷ []
   -- closed, it is gone
   pub end_of_a_life : end_of (life_of 0 four_jobs) ≡ Some (None, 10)
-  -- `print(True + True, True & False, True | False, True ^ True, 'a' * True)`: they count as 1 and 0, and `&`, `|` and `^` give one of them
+  -- `print(True + True, True & False, True | False, True ^ True, 'a' * True)`: they count as 1 and 0, and `&`, `|` and
+  -- `^` give one of them
   pub truths_as_integers : shown (Binary Add (Constant (Truth true)) (Constant (Truth true)) ∷ Binary BitAnd (Constant (Truth true)) (Constant (Truth false)) ∷ Binary BitOr (Constant (Truth true)) (Constant (Truth false)) ∷ Binary BitXor (Constant (Truth true)) (Constant (Truth true)) ∷ Binary Multiply a_text (Constant (Truth true)) ∷ []) ≡ codes "== interpreter 0 ==\n2 False True False a\nend: finished\n"
   -- `print(6 & -4, 6 | -4, 6 ^ -4, ~6, ~True, 3 << 4, -7 >> 1)`
   pub bits : shown (Binary BitAnd (int 6) (minus (int 4)) ∷ Binary BitOr (int 6) (minus (int 4)) ∷ Binary BitXor (int 6) (minus (int 4)) ∷ Unary Invert (int 6) ∷ Unary Invert (Constant (Truth true)) ∷ Binary ShiftLeft (int 3) (int 4) ∷ Binary ShiftRight (minus (int 7)) (int 1) ∷ []) ≡ codes "== interpreter 0 ==\n4 -2 -6 -7 -2 48 -4\nend: finished\n"
@@ -180,7 +182,8 @@ pub record Cases : Type 0 where
   pub no_order : report_of (Evaluate (compared Less a_text (int 1)) ∷ []) ≡ codes "== interpreter 0 ==\nraised TypeError: wrong type\nend: finished\n"
   -- `print(1 < 2 < 3, 2 > 1 != 1, 1 > 2 > f)` where f is not bound: a comparison that is not true ends the chain
   pub chains : shown (Compare (int 1) (MoreComparisons Less (int 2) (MoreComparisons Less (int 3) NoComparisons)) ∷ Compare (int 2) (MoreComparisons Greater (int 1) (MoreComparisons NotEqual (int 1) NoComparisons)) ∷ Compare (int 1) (MoreComparisons Greater (int 2) (MoreComparisons Greater (Name (codes "f")) NoComparisons)) ∷ []) ≡ codes "== interpreter 0 ==\nTrue False False\nend: finished\n"
-  -- `print(0 or 'a' or f, 1 and '' and f, not '')` where f is not bound: one of the operands is given, and those behind it are not evaluated
+  -- `print(0 or 'a' or f, 1 and '' and f, not '')` where f is not bound: one of the operands is given, and those behind
+  -- it are not evaluated
   pub operands_given : shown (Boolean Or (int 0) (arguments (a_text ∷ Name (codes "f") ∷ [])) ∷ Boolean And (int 1) (arguments (str [] ∷ Name (codes "f") ∷ [])) ∷ Unary Not (str []) ∷ []) ≡ codes "== interpreter 0 ==\na  True\nend: finished\n"
   -- `print('a' if 1 else f, f if None else 2)` where f is not bound
   pub one_of_two : shown (Conditional (int 1) a_text (Name (codes "f")) ∷ Conditional (Constant Nothing) (Name (codes "f")) (int 2) ∷ []) ≡ codes "== interpreter 0 ==\na 2\nend: finished\n"
@@ -191,11 +194,14 @@ pub record Cases : Type 0 where
   -- with three turns it is cut behind the third
   pub cut_before_the_break : texts_of (run_within 3 left_by_break) ≡ codes "1\n" ∷ codes "3\n" ∷ []
   pub no_end_before_the_break : end_of (run_within 3 left_by_break) ≡ None
-  -- The wait for the job is visit 1, the loop 2. A turn is 3, its test 4, the statement 5, the call 6, its callee 7, the literal 8; the next turn ends with 14.
+  -- The wait for the job is visit 1, the loop 2. A turn is 3, its test 4, the statement 5, the call 6, its callee 7,
+  -- the literal 8; the next turn ends with 14.
   pub endless_loop : pieces_of (run_within 2 endless) ≡ record { text = codes "a\n"; number = 8 } ∷ record { text = codes "a\n"; number = 14 } ∷ []
   pub no_end : end_of (run_within 2 endless) ≡ None
-  -- The wait for the job is visit 1. `i = 0` is 2, its literal 3, its target 4. The loop is 5, its first turn 6, the test 7, 8 and 9, `i += 1` 10, its target 11, its literal 12;
-  -- the second turn is 13 to 19; the third 20, with its test 21, 22 and 23, ends the loop. The last statement is 24, the call 25, its callee 26, i 27. Then the piece is printed, and the end is 28.
+  -- The wait for the job is visit 1. `i = 0` is 2, its literal 3, its target 4. The loop is 5, its first turn 6, the
+  -- test 7, 8 and 9, `i += 1` 10, its target 11, its literal 12; the second turn is 13 to 19; the third 20, with its
+  -- test 21, 22 and 23, ends the loop. The last statement is 24, the call 25, its callee 26, i 27. Then the piece is
+  -- printed, and the end is 28.
   pub number_behind_a_loop : pieces_of (run_within 3 counting) ≡ record { text = codes "2\n"; number = 27 } ∷ []
   pub visits_of_a_loop : end_of (run_within 3 counting) ≡ Some (Some (End Returned), 28)
   -- the test that ends a loop is a turn

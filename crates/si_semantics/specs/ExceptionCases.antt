@@ -670,8 +670,9 @@ pub record ExceptionCases : Type 0 where
       ∷ [])
       ≡ codes "a\nc\nraised ValueError: x\n"
   -- ---- visits
-  -- The wait for the job is visit 1, the `try` 2, its statement 3, the quotient 4, 1 is 5 and 0 is 6. The first clause is 7, its expression 8;
-  -- the second 9 and 10. Then `pass` is 11, and to tell the end of the run is visit 12: neither the name nor what is raised is a visit.
+  -- The wait for the job is visit 1, the `try` 2, its statement 3, the quotient 4, 1 is 5 and 0 is 6. The first clause
+  -- is 7, its expression 8; the second 9 and 10. Then `pass` is 11, and to tell the end of the run is visit 12: neither
+  -- the name nor what is raised is a visit.
   --     try:
   --         1 // 0
   --     except KeyError:

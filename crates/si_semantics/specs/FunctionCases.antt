@@ -89,13 +89,16 @@ pub record FunctionCases : Type 0 where
   pub global_is_changed : report_of (Assign x (int 1) ∷ define f [] (Global (x ∷ []) ∷ Augment x Add (int 1) ∷ []) ∷ Evaluate (called f []) ∷ Evaluate (called f []) ∷ prints (Name x ∷ []) ∷ []) ≡ codes "== interpreter 0 ==\n3\nend: finished\n"
   -- `def f(): return x`, `x = 1`, then `print(f())`: a global name is looked up when the call comes to it
   pub looked_up_in_the_call : report_of (gives f (Name x) ∷ Assign x (int 1) ∷ prints (called f [] ∷ []) ∷ []) ≡ codes "== interpreter 0 ==\n1\nend: finished\n"
-  -- The wait for the job is visit 1, `def` 2. The last statement is 3, the call of `print` 4, its callee 5; the call of f is 6, its callee 7, the literal 8.
-  -- In f(3) the `if` is 9, its test 10, 11 and 12; `return` is 13, the sum 14, the literal 15, the call 16, its callee 17, the argument 18, 19 and 20; f(2) has as many, 21 to 32.
-  -- In f(1) the `if` is 33, its test 34, 35 and 36, `return` 37, the literal 38. Then the piece is printed, and to tell the end of the run is visit 39.
+  -- The wait for the job is visit 1, `def` 2. The last statement is 3, the call of `print` 4, its callee 5; the call of
+  -- f is 6, its callee 7, the literal 8. In f(3) the `if` is 9, its test 10, 11 and 12; `return` is 13, the sum 14, the
+  -- literal 15, the call 16, its callee 17, the argument 18, 19 and 20; f(2) has as many, 21 to 32. In f(1) the `if` is
+  -- 33, its test 34, 35 and 36, `return` 37, the literal 38. Then the piece is printed, and to tell the end of the run
+  -- is visit 39.
   pub calls_itself : report_of (counted 3) ≡ codes "== interpreter 0 ==\n3\nend: finished\n"
   pub number_behind_calls : pieces_of (run_of (counted 3)) ≡ record { text = codes "3\n"; number = 38 } ∷ []
   pub visits_of_calls : end_of (run_of (counted 3)) ≡ Some (Some (End Returned), 39)
-  -- `def f(n):` `if n: f(n - 1)`, `print(n)`, then `f(2)`: each call has locals of its own, and the caller has its own again behind it
+  -- `def f(n):` `if n: f(n - 1)`, `print(n)`, then `f(2)`: each call has locals of its own, and the caller has its own
+  -- again behind it
   pub locals_of_each_call : report_of (define f (n ∷ []) prints_behind ∷ Evaluate (called f (int 2 ∷ [])) ∷ []) ≡ codes "== interpreter 0 ==\n0\n1\n2\nend: finished\n"
   -- 200 calls within each other are made, and no more
   pub deepest : report_of (counted 200) ≡ codes "== interpreter 0 ==\n200\nend: finished\n"

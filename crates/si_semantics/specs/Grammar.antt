@@ -194,7 +194,7 @@ abbrev pub Compares : Language → Link → List Terminal → Type 0
 Compares E link ts =
     (f : List Terminal) × (ts ≡ comparison_of link.0 ++ f) × E 10 link.1 f × (is_identity link.0 ≡ true → (w : Keyword) × (f ≡ Word w ∷ []))
 
--- the text of str literals beside each other (6.2.3.2)
+-- the text of str literals beside each other (6.2.3.2, "String literal concatenation")
 abbrev pub Strings : Text → List Terminal → Type 0
 Strings s [] = s ≡ []
 Strings s (STRING literal ∷ ts) = (a : Text) × (b : Text) × (s ≡ a ++ b) × (value_of_str literal ≡ Some a) × Strings b ts
@@ -247,7 +247,8 @@ Produces E l (Call a args names) ts =
 -- comparison: bitor comparator { comparator }
 Produces E l (Compare a cs) ts =
     (f : List Terminal) × (g : List Terminal) × (ts ≡ f ++ g) × (l ≤ 8) × E 10 a f × (0 < length (links_of cs)) × Many (Compares E) (links_of cs) g
--- conjunction: inversion 'and' inversion { 'and' inversion }; disjunction: conjunction 'or' conjunction { 'or' conjunction }
+-- conjunction: inversion 'and' inversion { 'and' inversion };
+-- disjunction: conjunction 'or' conjunction { 'or' conjunction }
 Produces E l (Boolean op a others) ts =
     (f : List Terminal) × (g : List Terminal) × (ts ≡ f ++ g) × (l ≤ boolean_level op) × E (item_level op) a f
     × (0 < length (items_of others)) × Many (Behind (Word (word_of op)) (E (item_level op))) (items_of others) g
@@ -295,8 +296,8 @@ abbrev pub Names : List Text → List Terminal → Type 0
 Names [] ts = ⊥
 Names (x ∷ xs) ts = (f : List Terminal) × (ts ≡ NAME x ∷ f) × Many (Behind (Sign token.Comma) IsName) xs f
 
--- small: expression | NAME '=' expression | NAME augmented expression | 'pass' | 'break' | 'continue' | 'return' [expression]
--- | 'global' NAME { ',' NAME } | 'raise' [expression], where brackets may stand round the name that is assigned to
+-- small: expression | NAME '=' expression | NAME augmented expression | 'pass' | 'break' | 'continue'
+-- | 'return' [expression] | 'global' NAME { ',' NAME } | 'raise' [expression], where brackets may stand round the name that is assigned to
 abbrev pub Small : Stmt → List Terminal → Type 0
 Small (Evaluate e) ts = IsExpression e ts
 Small (Assign x e) ts = (f : List Terminal) × (g : List Terminal) × (ts ≡ f ++ Sign token.Equal ∷ g) × IsExpression (Name x) f × IsExpression e g

@@ -218,7 +218,8 @@ pub record ItemCases : Type 0 where
   --     range()
   pub range_of_nothing : ends (Evaluate (a_range []) ∷ []) ≡ codes "raised TypeError: wrong arguments\n"
   -- ranges are equal that have the same items
-  --     print(range(0, 3, 2) == range(0, 4, 2), range(0) == range(2, 1, 3), range(0, 1, 2) == range(0, 2, 5), range(1) == range(2), range(2) == range(1, 3))
+  --     print(range(0, 3, 2) == range(0, 4, 2), range(0) == range(2, 1, 3), range(0, 1, 2) == range(0, 2, 5),
+  --         range(1) == range(2), range(2) == range(1, 3))
   pub same_items :
       ends
       (prints
@@ -273,7 +274,8 @@ pub record ItemCases : Type 0 where
       ∷ [])
       ≡ codes "ValueError('x') ValueError() KeyError(7) TypeError(None)\n"
   -- the str of an exception is that of its argument, of a KeyError the repr of it
-  --     print(ValueError('x'), str(KeyError('a')), KeyError(7), ValueError(7), ValueError(), KeyError(), IndexError('b'))
+  --     print(ValueError('x'), str(KeyError('a')), KeyError(7), ValueError(7), ValueError(), KeyError(),
+  --         IndexError('b'))
   pub strs_of_exceptions :
       ends
       (prints

@@ -30,7 +30,8 @@ abbrev pub kind_of : Option Object → Kind
 kind_of (Some (Exception k a)) = k
 kind_of None = BaseException
 
--- the outcome of a run that was left; `return` stands in functions alone and `break` and `continue` in loops (Language Reference, 7.6, 7.9 and 7.10), and leave no run
+-- the outcome of a run that was left; `return` stands in functions alone and `break` and `continue` in loops (Language
+-- Reference, 7.6, 7.9 and 7.10), and leave no run
 abbrev pub outcome_of : Leave → World → Outcome
 outcome_of (Raises x) w = Raised (kind_of (slice_get w.store x)) (message_of (str_in w.store (Address x)))
 outcome_of (Returns v) w = Returned
@@ -58,8 +59,8 @@ run_ended rest (Leaves p s) = ends_with (outcome_of p s.world) rest s
 run_ended rest (Asks r s) = Stops (Calls r) s
 run_ended rest (Cut s) = IsCut s
 
--- a text is evaluated as a module: no name is local, no exception is active, and a loop has at most n turns; its functions are
--- numbered behind those that were read before
+-- a text is evaluated as a module: no name is local, no exception is active, and a loop has at most n turns; its
+-- functions are numbered behind those that were read before
 abbrev pub module_scope : List Function → ℕ → ℕ → Scope
 module_scope fs first n = record { locals = []; first = first; active = None; turns = n; call = call fs n max_calls }
 

@@ -12,7 +12,8 @@ pub record Piece : Type 0 where
   pub text : Text
   pub number : ℕ
 
--- the world, the answers still to be taken, the running function's locals (a module's text has none), the visits begun and the pieces printed
+-- the world, the answers still to be taken, the running function's locals (a module's text has none), the visits begun
+-- and the pieces printed
 pub record State : Type 0 where
   pub world : World
   pub answers : List Answer
@@ -38,8 +39,9 @@ pub data Result (A : Type 0) : Type 0 where
 abbrev pub Meaning : Type 0 → Type 0
 Meaning A = State → Result A
 
--- what a suite's evaluation is given: the names that are local, the number of the next function that it defines, the innermost active
--- exception (Language Reference, 7.8), the most turns of a loop, and what a call of the function of a number means, with that exception active
+-- what a suite's evaluation is given: the names that are local, the number of the next function that it defines, the
+-- innermost active exception (Language Reference, 7.8), the most turns of a loop, and what a call of the function of a
+-- number means, with that exception active
 pub record Scope : Type 0 where
   pub locals : List Text
   pub first : ℕ
@@ -132,7 +134,8 @@ compared NoComparisons t rest s = Gives t s
 compared (MoreComparisons o a cs) t rest s = choose (is_true t) (rest s) (Gives t s)
 
 abbrev mutual
-  -- an expression, its operands from left to right (Language Reference, 6.16); of a call the callee first (6.3.3), of a conditional expression the test (6.13)
+  -- an expression, its operands from left to right (Language Reference, 6.16); of a call the callee first (6.3.3), of a
+  -- conditional expression the test (6.13)
   pub expr : Scope → Expr → Meaning Value
   expr e (Constant v) s = Gives v (visit s)
   expr e (Name x) s = read x (place_of x e.locals) (visit s)
@@ -159,7 +162,8 @@ abbrev mutual
   chain e u (MoreComparisons o a cs) s =
       then (expr e a s) (λ v s1. then (ran (compare o u v s1.world) s1) (λ t s2. compared cs t (chain e v cs) s2))
 
--- after the body of a turn there is another turn, unless the body was left by `break`, which ends the loop without its else suite (Language Reference, 7.9 and 7.10), or by `return` or an exception
+-- after the body of a turn there is another turn, unless the body was left by `break`, which ends the loop without its
+-- else suite (Language Reference, 7.9 and 7.10), or by `return` or an exception
 abbrev pub after_turn : Result (Unit {0}) → Meaning (Unit {0}) → Result (Unit {0})
 after_turn (Gives u s) again = again s
 after_turn (Leaves Continues s) again = again s
@@ -169,12 +173,14 @@ after_turn (Leaves (Returns v) s) again = Leaves (Returns v) s
 after_turn (Asks r s) again = Asks r s
 after_turn (Cut s) again = Cut s
 
--- a loop of a test, a body and an else suite, of at most n turns (Language Reference, 8.2); the test that ends it is a turn too
+-- a loop of a test, a body and an else suite, of at most n turns (Language Reference, 8.2); the test that ends it is a
+-- turn too
 abbrev pub loop : ℕ → Meaning Value → Meaning (Unit {0}) → Meaning (Unit {0}) → Meaning (Unit {0})
 loop zero test body last s = Cut s
 loop (suc n) test body last s = then (test (visit s)) (λ t s1. choose (is_true t) (after_turn (body s1) (loop n test body last)) (last s1))
 
--- a loop over items, of at most n turns; to ask for an item is a turn, also where there is none (Language Reference, 8.3)
+-- a loop over items, of at most n turns; to ask for an item is a turn, also where there is none (Language Reference,
+-- 8.3)
 abbrev pub for_loop : ℕ → (Value → Meaning (Unit {0})) → Meaning (Unit {0}) → Meaning (Unit {0}) → Iterator → Meaning (Unit {0})
 for_loop zero put body last it s = Cut s
 for_loop (suc n) put body last it s =
@@ -222,15 +228,17 @@ finally old (Leaves p s) last = then (last (active_in p old) s) (λ u s1. Leaves
 finally old (Asks r s) last = Asks r s
 finally old (Cut s) last = Cut s
 
--- the suite of an except clause, with a name for the exception; the name is unbound in whatever way the suite is left (Language Reference, 8.4.1)
+-- the suite of an except clause, with a name for the exception; the name is unbound in whatever way the suite is left
+-- (Language Reference, 8.4.1)
 abbrev pub named : Scope → Option Text → ℕ → Meaning (Unit {0}) → Meaning (Unit {0})
 named e None x suite s = suite s
 named e (Some y) x suite s =
     then (assign y (place_of y e.locals) (Address x) s) (λ u s1. finally e.active (suite s1) (λ active s2. unassign y (place_of y e.locals) s2))
 
 abbrev mutual
-  -- a statement (Language Reference, 7 and 8): of an assignment the right side first, then its target; of an augmented one the target, its value, the right side, the operation, and then the name is bound (7.2.1);
-  -- `def` binds its name to the function (8.7), `global` does nothing (7.12)
+  -- a statement (Language Reference, 7 and 8): of an assignment the right side first, then its target; of an augmented
+  -- one the target, its value, the right side, the operation, and then the name is bound (7.2.1); `def` binds its name
+  -- to the function (8.7), `global` does nothing (7.12)
   pub stmt : Scope → Stmt → Meaning (Unit {0})
   stmt e (Evaluate a) s = then (expr e a (visit s)) (λ v s1. Gives tt s1)
   stmt e (Assign x a) s = then (expr e a (visit s)) (λ v s1. assign x (place_of x e.locals) v (visit s1))
@@ -259,7 +267,8 @@ abbrev mutual
   stmts e NoStmts s = Gives tt s
   stmts e (MoreStmts a b) s = then (stmt e a s) (λ u s1. stmts (behind (functions_of a) e) b s1)
 
-  -- the except clauses for an exception: the suite of the first that matches, those behind it are not looked at; a bare one matches each (Language Reference, 8.4.1)
+  -- the except clauses for an exception: the suite of the first that matches, those behind it are not looked at; a bare
+  -- one matches each (Language Reference, 8.4.1)
   pub clauses : Scope → Clauses → ℕ → Meaning (Unit {0})
   clauses e NoClauses x s = Leaves (Raises x) s
   clauses e (MoreClauses None y b cs) x s = named e y x (stmts e b) (visit s)
@@ -269,8 +278,8 @@ abbrev mutual
 
 -- ---- calls
 
--- back in the caller, with its locals; a function that comes to its end returns None (Language Reference, 6.3.3 and 7.6); `break` and
--- `continue` stand in loops, and leave no function
+-- back in the caller, with its locals; a function that comes to its end returns None (Language Reference, 6.3.3 and
+-- 7.6); `break` and `continue` stand in loops, and leave no function
 abbrev pub returned : List (Option Value) → Result (Unit {0}) → Result Value
 returned old (Gives u s) = Gives Nothing (record s { slots = old })
 returned old (Leaves (Returns v) s) = Gives v (record s { slots = old })
@@ -299,7 +308,8 @@ abbrev pub fitting : Option tree.Function → List Value → (tree.Function → 
 fitting None vs go s = ran (not_callable s.world) s
 fitting (Some f) vs go s = choose (nat_eq (length vs) (length f.parameters)) (go f s) (ran (wrong_arguments s.world) s)
 
--- the suite of a function runs, with its own locals; what is active where it is called is active in it (Language Reference, 7.8)
+-- the suite of a function runs, with its own locals; what is active where it is called is active in it (Language
+-- Reference, 7.8)
 abbrev pub run_body : ℕ → (Option ℕ → ℕ → List Value → Meaning Value) → tree.Function → Option ℕ → List Value → Meaning Value
 run_body n calling f active vs s =
     returned s.slots (stmts (record { locals = locals_of f; first = 0; active = active; turns = n; call = calling }) f.body (record s { slots = entered (length (locals_of f)) vs }))

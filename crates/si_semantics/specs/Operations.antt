@@ -154,9 +154,9 @@ abbrev pub same_range : (a b c d e f : ℤ) → Bool
 same_range a b c d e f =
     let n = range_length a b c in nat_eq n (range_length d e f) && (nat_eq n 0 || (same_int a d && (nat_eq n 1 || same_int c f)))
 
--- `==`: integers, True and False by their values, str by their characters, ranges by their items, built-ins and kinds by name, exceptions
--- by address, None is equal to itself;
--- what is of different kinds is unequal (Language Reference, 6.10.1); of two functions there is no answer (this project's own)
+-- `==`: integers, True and False by their values, str by their characters, ranges by their items, built-ins and kinds
+-- by name, exceptions by address, None is equal to itself; what is of different kinds is unequal (Language Reference,
+-- 6.10.1); of two functions there is no answer (this project's own)
 abbrev pub are_equal : Value → Value → Option Bool
 are_equal Nothing Nothing = Some true
 are_equal (Int i) (Int j) = Some (same_int i j)
@@ -171,13 +171,15 @@ are_equal (Class k) (Class l) = Some (same_kind k l)
 are_equal (Address x) (Address y) = Some (nat_eq x y)
 are_equal _ _ = Some false
 
--- `is`: None, True and False are each itself and nothing else (Language Reference, 6.10.3); the grammar lets nothing else stand behind it
+-- `is`: None, True and False are each itself and nothing else (Language Reference, 6.10.3); the grammar lets nothing
+-- else stand behind it
 abbrev pub is_same : Value → Value → Bool
 is_same Nothing Nothing = true
 is_same (Truth a) (Truth b) = not (differ a b)
 is_same _ _ = false
 
--- `<`: two integers, where True and False count as 1 and 0, or two str; None where there is no order (Language Reference, 6.10.1)
+-- `<`: two integers, where True and False count as 1 and 0, or two str; None where there is no order (Language
+-- Reference, 6.10.1)
 abbrev pub is_less : Value → Value → Option Bool
 is_less (Int i) (Int j) = Some (int_lt i j)
 is_less (Int i) (Truth b) = Some (int_lt i (int_of_truth b))
@@ -274,7 +276,8 @@ integer_in (Int i) = Some i
 integer_in (Truth b) = Some (int_of_truth b)
 integer_in _ = None
 
--- a range from integers, whose step is not 0 (Standard Library, "Built-in Types": ranges; the message is this project's own)
+-- a range from integers, whose step is not 0 (Standard Library, "Built-in Types": ranges; the message is this project's
+-- own)
 abbrev pub range_of : (start stop step : Option ℤ) → World → Ran
 range_of (Some a) (Some b) (Some (pos zero)) w = refused ValueError (codes "wrong value") w
 range_of (Some a) (Some b) (Some c) w = gave (Range a b c) w
@@ -319,7 +322,8 @@ call_by_name _ w = not_callable w
 abbrev pub type_error : World → ℕ × World
 type_error w = exception TypeError (Some (Str (codes "wrong type"))) w
 
--- what `raise` raises: an exception itself, of a kind a new one without argument (Language Reference, 7.8); each object is an exception so far
+-- what `raise` raises: an exception itself, of a kind a new one without argument (Language Reference, 7.8); each object
+-- is an exception so far
 abbrev pub raised_by : Value → World → ℕ × World
 raised_by (Address x) w = (x, w)
 raised_by (Class k) w = exception k None w

@@ -1,4 +1,5 @@
--- Which names are local, and where statements stand (Python Language Reference 3.14, 4.2.2, 7.6, 7.9, 7.10, 7.12 and 8.7).
+-- Which names are local, and where statements stand (Python Language Reference 3.14, 4.2.2, 7.6, 7.9, 7.10, 7.12 and
+-- 8.7).
 use Rattle.std.specs.Prelude.{ℕ, ◌+◌, List, [], ◌∷◌, ◌++◌, Bool, true, false, not, ◌&&◌, ◌||◌, Option, Some, None, option_map, if◌then◌else◌}
 use Rattle.si_semantics.specs.Value.{Text}
 use Rattle.si_semantics.specs.Text.{same_text}
@@ -157,7 +158,8 @@ abbrev mutual
       are_apart (names_of_value a ++ name_in y) (declared_in b ++ declared_in_clauses cs) && are_apart (used_in b) (declared_in_clauses cs)
       && declare_first b && clauses_declare_first cs
 
--- the names that are local to a function: its parameters, and what it binds and does not declare global (4.2.2); their order is this project's own
+-- the names that are local to a function: its parameters, and what it binds and does not declare global (4.2.2); their
+-- order is this project's own
 abbrev pub locals_of : Function → List Text
 locals_of f = with_new f.parameters (declared_in f.body) (bound_in f.body)
 
@@ -170,7 +172,8 @@ pub data Within : Type 0 where
   -- a function, no loop of it or one, and whether `return` may stand there: it does not leave a finally suite
   InFunction : (loop returns : Bool) → Within
 
--- `break` and `continue` stand in a loop of the same function or text, and do not leave a finally suite (7.9, 7.10; PEP 765)
+-- `break` and `continue` stand in a loop of the same function or text, and do not leave a finally suite (7.9, 7.10; PEP
+-- 765)
 abbrev pub in_loop : Within → Bool
 in_loop (InText loop) = loop
 in_loop (InFunction loop returns) = loop

@@ -93,7 +93,8 @@ pub record ScopeCases : Type 0 where
   -- `def f(n, x): pass`, and `def f(n, n): pass`
   pub two_parameters : scoped (define f (n ∷ x ∷ []) (Pass ∷ []) ∷ []) ≡ true
   pub doubled_parameter : scoped (define f (n ∷ n ∷ []) (Pass ∷ []) ∷ []) ≡ false
-  -- `def f(n):` `global x`, `x = 1`, `i = x`, `if i:` `n = 1`, `i += 1`: the parameter first, then what is bound and not global, once
+  -- `def f(n):` `global x`, `x = 1`, `i = x`, `if i:` `n = 1`, `i += 1`: the parameter first, then what is bound and
+  -- not global, once
   pub locals :
       locals_in_f (global_x ∷ set_x ∷ Assign (codes "i") (Name x) ∷ If i_name (suite (Assign n (int 1) ∷ Augment (codes "i") Add (int 1) ∷ [])) NoStmts ∷ [])
       ≡ n ∷ codes "i" ∷ []
@@ -114,7 +115,8 @@ pub record ScopeCases : Type 0 where
   pub global_of_a_target : scoped_in_f (each_x (global_x ∷ []) [] ∷ []) ≡ false
   -- `for i in x: global x`
   pub global_of_what_is_gone_over : scoped_in_f (For (codes "i") (Name x) (suite (global_x ∷ [])) NoStmts ∷ []) ≡ false
-  -- `try: pass`, `except n as x: i = 1`, `else: g = 1`; the same with `finally: g = 1` behind an empty else suite: `as` binds, and so do the suites
+  -- `try: pass`, `except n as x: i = 1`, `else: g = 1`; the same with `finally: g = 1` behind an empty else suite: `as`
+  -- binds, and so do the suites
   pub name_behind_as_is_local :
       locals_in_f (Try nothing (as_x (Assign (codes "i") (int 1) ∷ [])) (suite (Assign g (int 1) ∷ [])) ∷ []) ≡ n ∷ x ∷ codes "i" ∷ g ∷ []
   pub name_bound_in_a_finally_suite :
@@ -141,7 +143,8 @@ pub record ScopeCases : Type 0 where
   -- `while n:` with `try: break`, `except: continue`, `else: break` in it, in a text
   pub break_in_a_try_in_a_loop : scoped (looped (Try (suite (Break ∷ [])) (except None (Continue ∷ []) NoClauses) (suite (Break ∷ [])) ∷ []) ∷ []) ≡ true
   pub break_in_a_clause_alone : scoped (Try nothing (except None (Break ∷ []) NoClauses) NoStmts ∷ []) ≡ false
-  -- `try: pass`, `finally: return`; `while n:` with `try: pass`, `finally: break` in it, or `continue`, in a function and in a text
+  -- `try: pass`, `finally: return`; `while n:` with `try: pass`, `finally: break` in it, or `continue`, in a function
+  -- and in a text
   pub return_in_a_finally_suite : scoped_in_f (finishes (Return None ∷ []) ∷ []) ≡ false
   pub break_in_a_finally_suite : scoped_in_f (looped (finishes (Break ∷ []) ∷ []) ∷ []) ≡ false
   pub continue_in_a_finally_suite : scoped (looped (finishes (Continue ∷ []) ∷ []) ∷ []) ≡ false

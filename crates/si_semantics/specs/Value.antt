@@ -20,7 +20,8 @@ pub data Value : Type 0 where
   Int : ℤ → Value
   Str : Text → Value
   Provided : BuiltIn → Value
-  -- a function of a script, by its name and its number among those that its interpreter has read; the number is this project's own
+  -- a function of a script, by its name and its number among those that its interpreter has read; the number is this
+  -- project's own
   Function : Text → ℕ → Value
   -- a range: its start, its stop, and its step, which is not 0 (Standard Library, "Built-in Types": ranges)
   Range : (start stop step : ℤ) → Value

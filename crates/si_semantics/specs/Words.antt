@@ -1,5 +1,6 @@
 -- The words of a text, blanks, comments and line ends among them (Python Language Reference 3.14, "Lexical analysis").
--- A byte stands for its code. Which letters, numbers and literals there are is this project's own choice among Python's.
+-- A byte stands for its code. Which letters, numbers and literals there are is this project's own choice among
+-- Python's.
 use Rattle.std.specs.Prelude.{◌≡◌, ℕ, ◌+◌, ◌<◌, ◌==◌, ◌&&◌, ◌||◌, not, List, [], ◌∷◌, ◌++◌, ◌⊎◌, length, drop, Bool, true, false, Option, Some, None, nat_le, codes, if◌then◌else◌}
 use Rattle.std.specs.List.{AllByRecursion}
 use Rattle.std.specs.Option.{is_some}
