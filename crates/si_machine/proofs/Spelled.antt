@@ -1,14 +1,12 @@
 -- How values are written: atoms at any depth, and objects a level further down.
-use Rattle.std.proofs.Common.{◌≡◌, ◌≢◌, ℕ, zero, suc, ◌-◌, List, [], ◌∷◌, ◌++◌, map, Option, Some, option_map, refl, sym, ap, ◌∙◌, arith, append_assoc, append-nil, slice_get}
+use Rattle.std.proofs.Common.{◌≡◌, ◌≢◌, ℕ, zero, suc, ◌-◌, List, ◌++◌, map, Option, Some, option_map, refl, ap, ◌∙◌, arith, append_assoc, slice_get}
 use Rattle.std.specs.Prelude.{codes}
-use Rattle.std.specs.List.{list_any}
-use Rattle.std.specs.Prelude.{nat_eq, ◌==◌, ◌||◌}
 use Rattle.std.proofs.lemmas.Option.{slice_get-map}
 use Rattle.si_plain.specs.declared.kind.Kind.{Kind}
 use Rattle.si_plain.specs.declared.kind.Kind.TheVariants as kind
 use Rattle.si_plain.specs.Kinds.{name_of}
 use Rattle.si_semantics.specs.Value as pure
-use Rattle.si_semantics.specs.Text.{repr_of, str_of, repr_object, str_object, repr_text, all_escaped, escaped, occurs, quote_for}
+use Rattle.si_semantics.specs.Text.{repr_of, str_of, repr_object, str_object, repr_text}
 use Rattle.si_machine.specs.declared.value.Object.{Object}
 use Rattle.si_machine.specs.declared.value.Object.TheVariants.{Caused}
 use Rattle.si_machine.specs.declared.cause.Cause.{Cause}
@@ -103,25 +101,3 @@ pub str_caused : (n : ℕ) (objects : List pure.Object) (texts names : List pure
 str_caused n objects texts names cause =
     let s = message_in names cause in
     caused_by (repr_of n objects) (str_of n objects) (kind_of cause) s (repr_own n objects s) (str_own n objects s)
-
--- a character stands in a text
-pub occurs_any : (c : ℕ) (s : pure.Text) → list_any (λ d. c == d) s ≡ occurs c s
-occurs_any c [] = refl
-occurs_any c (d ∷ s) = ap (λ b. nat_eq c d || b) (occurs_any c s)
-
--- one more character within quotes
-pub escaped_more : (q c : ℕ) (s : pure.Text) → all_escaped q (s ++ c ∷ []) ≡ all_escaped q s ++ escaped q c
-escaped_more q c [] = append-nil (escaped q c)
-escaped_more q c (d ∷ s) = ap (λ t. escaped q d ++ t) (escaped_more q c s) ∙ sym (append_assoc (escaped q d) (all_escaped q s) (escaped q c))
-
-pub escaped_step : (q c : ℕ) (done a b new : pure.Text) → b ≡ a ++ all_escaped q done → new ≡ b ++ escaped q c → new ≡ a ++ all_escaped q (done ++ c ∷ [])
-escaped_step q c done a b new e h = h ∙ ap (λ t. t ++ escaped q c) e ∙ append_assoc a (all_escaped q done) (escaped q c) ∙ ap (λ t. a ++ t) (sym (escaped_more q c done))
-
--- the closing quote
-pub closed : (q : ℕ) (done s t o0 o1 o2 o3 : pure.Text) → q ≡ quote_for t → t ≡ s → done ≡ t → o1 ≡ o0 ++ q ∷ [] → o2 ≡ o1 ++ all_escaped q done → o3 ≡ o2 ++ q ∷ [] → o3 ≡ o0 ++ repr_text s
-closed q done s t o0 o1 o2 o3 e h d e1 e2 e3 =
-    e3 ∙ ap (λ x. x ++ q ∷ []) (e2 ∙ ap (λ x. x ++ all_escaped q done) e1)
-    ∙ append_assoc (o0 ++ q ∷ []) (all_escaped q done) (q ∷ [])
-    ∙ append_assoc o0 (q ∷ []) (all_escaped q done ++ q ∷ [])
-    ∙ ap (λ x. o0 ++ q ∷ (all_escaped q x ++ q ∷ [])) (d ∙ h)
-    ∙ ap (λ x. o0 ++ x ∷ (all_escaped x s ++ x ∷ [])) (e ∙ ap quote_for h)

@@ -1,8 +1,6 @@
 // How values that are no objects are written.
-ghost use Rattle.std.specs.Prelude.{codes, ◌≡◌, ◌++◌, ◌∷◌, [], ◌<◌, ◌==◌, ◌/◌, ◌%◌, false, OnOk};
-ghost use Rattle.std.specs.List.{list_any};
-ghost use Rattle.std.specs.Fmt.{signed_decimal, digit_glyph};
-ghost use Rattle.si_plain.specs.Characters.{characters_of};
+ghost use Rattle.std.specs.Prelude.{codes, ◌≡◌, ◌++◌, OnOk};
+ghost use Rattle.std.specs.Fmt.{signed_decimal};
 ghost use Rattle.si_machine.specs.Causes.{range_end};
 ghost use Rattle.si_semantics.specs.Text as semantics;
 ghost use Rattle.si_machine.specs.Values.{value_of, built_in_of};
@@ -10,7 +8,7 @@ ghost use Rattle.si_machine.specs.Values.{value_of, built_in_of};
 use crate::cause::push_ascii;
 use crate::texts::Texts;
 use crate::value::{BuiltIn, Value};
-use si_plain::{NoMemory, Text};
+use si_plain::{NoMemory, Text, push_repr};
 use std::alloc::Global;
 
 /// Adds the `repr` of a value that is no object; of an object nothing.
@@ -101,65 +99,5 @@ fn write_step(out: &mut Text, alloc: Global, step: i64) -> Result<(), NoMemory>
 pub fn write_quoted(out: &mut Text, text: &Text) -> Result<(), NoMemory>
     ensures { OnOk result (out.new ≡ out.old ++ semantics.repr_text text.now) }
 {
-    let characters = text.as_str();
-    let quote = quote_for(characters);
-    out.push(quote)?;
-    for character in characters.chars() {
-        push_escaped(out, quote, character)?;
-    }
-    out.push(quote)?;
-    Ok(())
-}
-
-// The quote for the `repr` of a text.
-#[tactic(auto, using(crate::proofs::Spelled::occurs_any))]
-fn quote_for(text: &str) -> char
-    ensures { result ≡ semantics.quote_for (characters_of text.now) }
-{
-    if has_character(text, '\'') && !has_character(text, '"') {
-        '"'
-    } else {
-        '\''
-    }
-}
-
-// Whether a character stands in a text.
-fn has_character(text: &str, wanted: char) -> bool
-    ensures { result ≡ list_any (λ c. wanted == c) (characters_of text.now) }
-{
-    text.chars().any(|c| wanted == c)
-}
-
-// Adds a character as it stands within such quotes.
-fn push_escaped(out: &mut Text, quote: char, character: char) -> Result<(), NoMemory>
-    ensures { OnOk result (out.new ≡ out.old ++ semantics.escaped quote character) }
-{
-    if character == '\\' || character == quote {
-        out.push('\\')?;
-        return out.push(character);
-    }
-    match character {
-        '\n' => push_ascii(out, "\\n"),
-        '\r' => push_ascii(out, "\\r"),
-        '\t' => push_ascii(out, "\\t"),
-        '\0'..'\x20' | '\x7f' => push_hex(out, character as u8),
-        _ => out.push(character),
-    }
-}
-
-// Adds `\x` and two hexadecimal digits.
-fn push_hex(out: &mut Text, byte: u8) -> Result<(), NoMemory>
-    ensures { OnOk result (out.new ≡ out.old ++ (codes "\\x" ++ (digit_glyph false (byte / 16) ∷ digit_glyph false (byte % 16) ∷ []))) }
-{
-    push_ascii(out, "\\x")?;
-    out.push(hex_digit(byte / 16))?;
-    out.push(hex_digit(byte % 16))
-}
-
-fn hex_digit(digit: u8) -> char
-    requires { digit < 16 }
-    ensures { result ≡ digit_glyph false digit }
-{
-    let digits = b"0123456789abcdef";
-    digits[digit as usize] as char
+    push_repr(out, text.as_str())
 }

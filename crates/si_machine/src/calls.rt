@@ -185,6 +185,8 @@ impl State {
         }
     }
 
+    /// Refuses a call with an argument by name, as no function takes one (this project's own): a TypeError, whatever is
+    /// called.
     #[inline(never)]
     pub fn call_by_name(&mut self, count: u32) -> Step
         requires ready { IsReady self.old }

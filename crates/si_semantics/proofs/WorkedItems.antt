@@ -3,10 +3,11 @@ use Rattle.std.specs.Prelude.{refl}
 use Rattle.std.specs.Fmt.{digits}
 use Rattle.si_plain.specs.Integers.{in_range, sum_of, difference_of, negative_of, floor_over, floor_of, rest_of, floor_quotient}
 use Rattle.si_plain.specs.Kinds.{name_of}
+use Rattle.si_plain.specs.Repr.{quote_of, escaped, repr_of}
 use Rattle.si_semantics.specs.ItemCases.{ItemCases}
 
 pub worked : ItemCases
-unfolding digits in_range sum_of difference_of negative_of floor_over floor_of rest_of floor_quotient name_of
+unfolding digits in_range sum_of difference_of negative_of floor_over floor_of rest_of floor_quotient name_of quote_of escaped repr_of
 worked = record {
   over_a_range = refl;
   steps_of_three = refl;

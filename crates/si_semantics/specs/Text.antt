@@ -1,9 +1,10 @@
 -- How values are written as text (Python Standard Library 3.14, "Built-in Functions": str and repr).
-use Rattle.std.specs.Prelude.{codes, ℕ, zero, suc, ℤ, pos, ◌/◌, ◌%◌, List, [], ◌∷◌, ◌++◌, length, Bool, true, false, not, ◌&&◌, ◌||◌, Option, Some, None, option_map, Result, Ok, Err, nat_eq, nat_lt, slice_get, int_le, if◌then◌else◌}
+use Rattle.std.specs.Prelude.{codes, ℕ, zero, suc, ℤ, pos, List, [], ◌∷◌, ◌++◌, length, Bool, true, false, ◌&&◌, Option, Some, None, option_map, Result, Ok, Err, nat_eq, nat_lt, slice_get, int_le, if◌then◌else◌}
 use Rattle.si_plain.specs.declared.kind.Kind.{Kind}
 use Rattle.si_plain.specs.declared.kind.Kind.TheVariants.{KeyError, RecursionError, OverflowError}
 use Rattle.si_plain.specs.Kinds.{name_of}
-use Rattle.std.specs.Fmt.{signed_decimal, digit_glyph}
+use Rattle.si_plain.specs.Repr as plain
+use Rattle.std.specs.Fmt.{signed_decimal}
 use Rattle.si_semantics.specs.Value.{Text, Value, Nothing, Truth, Int, Str, Provided, Function, Range, Class, Address, BuiltIn, Print, MakeRange, MakeStr, Repr, Object, Exception}
 
 -- the most characters of a str (this project's own)
@@ -17,33 +18,9 @@ same_text [] (d ∷ ds) = false
 same_text (c ∷ cs) [] = false
 same_text (c ∷ cs) (d ∷ ds) = nat_eq c d && same_text cs ds
 
--- a character stands in a text
-abbrev pub occurs : ℕ → Text → Bool
-occurs c [] = false
-occurs c (d ∷ ds) = nat_eq c d || occurs c ds
-
--- the quote for a text's repr: a double one (34) where it holds a single one (39) and no double one
-abbrev pub quote_for : Text → ℕ
-quote_for s = if occurs 39 s && not (occurs 34 s) then 34 else 39
-
--- a character within such quotes: backslash (92), the quote, newline, carriage return and tab are escaped, others below 32 and 127 are `\xhh`
-abbrev pub escaped : ℕ → ℕ → Text
-escaped quote c =
-    if nat_eq c 92 || nat_eq c quote then 92 ∷ c ∷ []
-    else (if nat_eq c 10 then codes "\\n"
-    else (if nat_eq c 13 then codes "\\r"
-    else (if nat_eq c 9 then codes "\\t"
-    else (if nat_lt c 32 || nat_eq c 127 then codes "\\x" ++ (digit_glyph false (c / 16) ∷ digit_glyph false (c % 16) ∷ [])
-    else c ∷ []))))
-
--- the characters of a text within such quotes
-abbrev pub all_escaped : ℕ → Text → Text
-all_escaped quote [] = []
-all_escaped quote (c ∷ cs) = escaped quote c ++ all_escaped quote cs
-
 -- the repr of a str
 abbrev pub repr_text : Text → Text
-repr_text s = quote_for s ∷ (all_escaped (quote_for s) s ++ quote_for s ∷ [])
+repr_text s = plain.repr_of s
 
 -- an integer in decimal, with a minus sign below 0
 abbrev pub decimal : ℤ → Text
@@ -78,7 +55,8 @@ repr_atom (Range a b c) = repr_range a b c
 repr_atom (Class k) = codes "<class '" ++ name_of k ++ codes "'>"
 repr_atom (Address x) = []
 
--- the repr of an object, with that of its parts: of an exception its kind, and its argument in brackets (Standard Library, "Built-in Exceptions")
+-- the repr of an object, with that of its parts: of an exception its kind, and its argument in brackets (Standard
+-- Library, "Built-in Exceptions")
 abbrev pub repr_object : (Value → Option Text) → Option Object → Option Text
 repr_object repr None = None
 repr_object repr (Some (Exception k None)) = Some (name_of k ++ codes "()")
@@ -108,7 +86,8 @@ str_of n store v = Some (repr_atom v)
 abbrev pub max_nested : ℕ
 max_nested = 200
 
--- a text that was written, or why it can't be: objects too deep within each other, or it is too long for a str (this project's own)
+-- a text that was written, or why it can't be: objects too deep within each other, or it is too long for a str (this
+-- project's own)
 abbrev pub written : Option Text → Result Text Kind
 written None = Err RecursionError
 written (Some t) = if nat_lt max_length (length t) then Err OverflowError else Ok t
@@ -130,7 +109,8 @@ abbrev pub line_behind : List Object → Text → List Value → Result Text Kin
 line_behind store t [] = Ok (t ++ 10 ∷ [])
 line_behind store t (v ∷ vs) = elim (str_in store v) [ Err k ↦ Err k | Ok u ↦ elim (line_behind store u vs) [ Err k ↦ Err k | Ok rest ↦ Ok (t ++ 32 ∷ rest) ] ]
 
--- the str of values, joined by spaces, and a newline; the first that can't be written decides (Standard Library, "Built-in Functions": print)
+-- the str of values, joined by spaces, and a newline; the first that can't be written decides (Standard Library,
+-- "Built-in Functions": print)
 abbrev pub line_of : List Object → List Value → Result Text Kind
 line_of store [] = Ok (10 ∷ [])
 line_of store (v ∷ vs) = elim (str_in store v) [ Err k ↦ Err k | Ok t ↦ line_behind store t vs ]
