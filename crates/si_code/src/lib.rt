@@ -4,8 +4,8 @@
 // how much: by which instructions, with which literals and which slots.
 //
 // In reading order: `instr`, the instructions, each with what it takes and leaves; `routine`, what is known of a
-// function's code; `table`, their lines, literals and slots. specs/Contents.antt and specs/Views.antt say what a table has and what it stands for; specs/Jumps.antt is for
-// the proofs alone.
+// function's code; `table`, their lines, literals and slots. specs/Contents.antt and specs/Views.antt say what a table
+// has and what it stands for; specs/Jumps.antt is for the proofs alone.
 #![tactic(auto)]
 
 pub mod instr;
