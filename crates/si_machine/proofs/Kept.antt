@@ -119,14 +119,14 @@ idle_waits s e = ap (λ st. place_in st s.pc (operands_of s) (slots_of s) (block
 pub steps_seen : (old new : State) (r : Step) → old.standing ≡ standing.Running → Did (next_line old) old new r → Steps (seen old) (seen new) r
 steps_seen old new Local run did = (
   λ compile.
-    let m = moment_of (seen old) in
-    let l = next_line old in
-    let is = line_is compile old run in
-    record {
-      moment = sym (ap from_here is ∙ ap (λ p. from_here (record (after l m) { place = p })) did.0.place ∙ moment_next l (place_of new) old new did.0);
-      printed = did.0.printed ∙ ap (λ b. string_bytes old.printed ++ b) (sym (bytes_printed l.out 1) ∙ ap printed_of (sym is));
-      fed = ap is_starved did.1;
-    },
+      let m = moment_of (seen old) in
+      let l = next_line old in
+      let is = line_is compile old run in
+      record {
+        moment = sym (ap from_here is ∙ ap (λ p. from_here (record (after l m) { place = p })) did.0.place ∙ moment_next l (place_of new) old new did.0);
+        printed = did.0.printed ∙ ap (λ b. string_bytes old.printed ++ b) (sym (bytes_printed l.out 1) ∙ ap printed_of (sym is));
+        fed = ap is_starved did.1;
+      },
   subst (λ st. IsAt (place_in st new.pc (operands_of new) (slots_of new) (blocks_of new))) (sym did.1) tt,
 )
 steps_seen old new Ended run did = λ compile.
