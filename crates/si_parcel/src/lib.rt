@@ -28,3 +28,6 @@ pub use octets::Octets;
 pub use outcome::Outcome;
 pub use parcel::Parcel;
 pub use top::Top;
+
+#[cfg(test)]
+mod tests;
