@@ -205,7 +205,10 @@ impl Hub {
                 why: Why::NoMemory,
                 action,
             }),
-            Ok(stock) => match self.shared.act(by, stock.action, self.limits.interpreters()) {
+            Ok(stock) => match self
+                .shared
+                .act(by, stock.action, self.limits.interpreters())
+            {
                 Err(_) => Err(NotActed {
                     why: Why::NoMemory,
                     action,

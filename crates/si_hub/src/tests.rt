@@ -74,7 +74,12 @@ fn fourteen_calls(rt: HostRuntime) -> Result<(), Fail> {
     let start = Action::Start(1, text(a, "t")?);
     assert!(rt; is(&act(a, &mut h, 0, start)?, &Answer::Started(1)));
     assert!(rt; is(&act(a, &mut h, 0, Action::Close(1))?, &Answer::Running));
-    assert!(rt; is(&act(a, &mut h, 0, Action::IsRunning(1))?, &Answer::Truth(true)));
+    assert!(rt;
+        is(
+            &act(a, &mut h, 0, Action::IsRunning(1))?,
+            &Answer::Truth(true)
+        )
+    );
     assert!(rt; act(a, &mut h, 0, Action::Await(1))?.is_none());
     assert!(rt; act(a, &mut h, 1, Action::End(Outcome::Returned))?.is_none());
     let bind = Answer::Given(Job::Bind(x_is_one(a)?));
@@ -82,11 +87,21 @@ fn fourteen_calls(rt: HostRuntime) -> Result<(), Fail> {
     assert!(rt; act(a, &mut h, 1, Action::End(Outcome::Returned))?.is_none());
     let run = Answer::Given(Job::Run(1, text(a, "t")?));
     assert!(rt; is(&act(a, &mut h, 1, Action::Take)?, &run));
-    assert!(rt; is(&act(a, &mut h, 1, Action::End(Outcome::Returned))?, &Answer::Done));
+    assert!(rt;
+        is(
+            &act(a, &mut h, 1, Action::End(Outcome::Returned))?,
+            &Answer::Done
+        )
+    );
     let ended = Answer::Ended(Outcome::Returned);
     assert!(rt; is(&act(a, &mut h, 0, Action::Await(1))?, &ended));
     assert!(rt; is(&act(a, &mut h, 0, Action::Close(1))?, &Answer::Done));
-    assert!(rt; is(&act(a, &mut h, 1, Action::Take)?, &Answer::Given(Job::Closing)));
+    assert!(rt;
+        is(
+            &act(a, &mut h, 1, Action::Take)?,
+            &Answer::Given(Job::Closing)
+        )
+    );
     assert!(rt; is(&act(a, &mut h, 0, Action::Close(1))?, &Answer::NotFound));
     assert_eq!(rt; h.journal().len(), 14);
     h.reserve(3)?;
@@ -100,7 +115,12 @@ fn queues_through_their_rows(rt: HostRuntime) -> Result<(), Fail> {
     let mut h = hub(a, 1)?;
     act(a, &mut h, 0, Action::Take)?;
     assert!(rt; act(a, &mut h, 0, Action::Size(0))?.is_none());
-    assert!(rt; is(&act(a, &mut h, 0, Action::CreateQueue(1))?, &Answer::QueueMade(0)));
+    assert!(rt;
+        is(
+            &act(a, &mut h, 0, Action::CreateQueue(1))?,
+            &Answer::QueueMade(0)
+        )
+    );
     assert!(rt; act(a, &mut h, 0, Action::Get(0))?.is_none());
     assert!(rt; is(&act(a, &mut h, 0, Action::GetNow(0))?, &Answer::Empty));
     let put = Action::Put(0, Parcel::int(7));
@@ -128,7 +148,12 @@ fn interpreters_through_their_rows(rt: HostRuntime) -> Result<(), Fail> {
     act(a, &mut h, 0, Action::Take)?;
     act(a, &mut h, 0, Action::Create)?;
     act(a, &mut h, 0, Action::Create)?;
-    assert!(rt; is(&act(a, &mut h, 0, Action::IsRunning(2))?, &Answer::Truth(false)));
+    assert!(rt;
+        is(
+            &act(a, &mut h, 0, Action::IsRunning(2))?,
+            &Answer::Truth(false)
+        )
+    );
     assert!(rt; is(&act(a, &mut h, 0, Action::Close(0))?, &Answer::Current));
     assert!(rt; is(&act(a, &mut h, 0, Action::Close(2))?, &Answer::Done));
     let prepare = Action::Prepare(2, x_is_one(a)?);
@@ -152,6 +177,11 @@ fn interpreters_through_their_rows(rt: HostRuntime) -> Result<(), Fail> {
     let raised = Outcome::Raised(Kind::ValueError, text(a, "done")?);
     act(a, &mut h, 1, Action::End(raised))?;
     let raised = Outcome::Raised(Kind::ValueError, text(a, "done")?);
-    assert!(rt; is(&act(a, &mut h, 0, Action::Await(1))?, &Answer::Ended(raised)));
+    assert!(rt;
+        is(
+            &act(a, &mut h, 0, Action::Await(1))?,
+            &Answer::Ended(raised)
+        )
+    );
     Ok(())
 }

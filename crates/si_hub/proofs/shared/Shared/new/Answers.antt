@@ -17,6 +17,6 @@ pub returns : goal.returns
 returns c =
     let made : c.create.new.self ≡ one_idle
     = (rw c.in-Some.is at c.in_ok-create.ensures.made).2
-      ∙ ap (λ (r : Registered). let x : Registered = record { interpreters = r.interpreters ++ idle_interpreter ∷ []; runs = r.runs } in x) c.new-registry.ensures in
+    ∙ ap (λ (r : Registered). let x : Registered = record { interpreters = r.interpreters ++ idle_interpreter ∷ []; runs = r.runs } in x) c.new-registry.ensures in
     let started = c.in_ok-start-in-Some.ensures.ok idle_interpreter (rw made refl) in
     state_is _ _ _ c.new.ensures (started ∙ ap (λ (r : Registered). with_run 0 idle_interpreter c.args.script r) made)
