@@ -93,7 +93,7 @@ impl Registry {
         ensures made { IfOk result (λ o. MatchOption o
             ((most ≤ length self.old.interpreters) × (self.new ≡ self.old))
             (λ id. (id ≡ length self.old.interpreters) × (length self.old.interpreters < most)
-                × (self.new ≡ record { interpreters = self.old.interpreters ++ idle_interpreter ∷ []; runs = self.old.runs }))) }
+            × (self.new ≡ record { interpreters = self.old.interpreters ++ idle_interpreter ∷ []; runs = self.old.runs }))) }
         ensures err { OnErr result (self.new ≡ self.old) }
     {
         let id = self.interpreters.len();

@@ -23,7 +23,7 @@ fn a_run_from_start_to_end(rt: HostRuntime) -> Result<(), Fail> {
     let run = registry.run(0).ok_or("no run")?;
     assert!(rt; run.outcome().ok_or("no outcome")?.same(&Outcome::Returned));
     registry.close(1)?;
-    assert_eq!(rt; registry.open()?.as_slice(), &[0]);
+    assert_eq!(rt; registry.open()?.as_slice(), [0].as_slice());
     assert!(rt; registry.take(1).ok_or("no job")?.same(&Job::Closing));
     Ok(())
 }

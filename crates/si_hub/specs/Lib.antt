@@ -1,0 +1,2 @@
+pub mod HubCode
+pub mod Hubs

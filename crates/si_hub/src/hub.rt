@@ -1,0 +1,224 @@
+// The shared state with the journal of its calls.
+
+ghost use Rattle.std.specs.Prelude.{◌≡◌, ◌<◌, ◌≤◌, ◌+◌, ◌↔◌, [], IfOk, IfErr, IsOk, IsErrAnd, OnOk, OnErr, MatchOption, None, Some, true, false, slice_get};
+ghost use Rattle.si_plain.specs.Characters.{characters_of};
+ghost use Rattle.si_semantics.specs.History.{answer_in};
+ghost use Rattle.si_parcel.specs.Shared.{action_of, answer_of};
+ghost use Rattle.si_hub.specs.Hubs.{IsTold, state_of, reply_at, can_act, Acts, takes_none};
+
+use crate::shared::Shared;
+use si_parcel::{Action, Answer};
+use si_plain::{Limits, NoMemory, Text};
+use si_queues::Queue;
+use std::alloc::Global;
+use std::marker::Model;
+
+/// A shared action that was done: by which interpreter, and what it was answered.
+#[derive(Drop)]
+pub struct Call {
+    pub by: u32,
+    pub action: Action,
+    pub answer: Answer,
+}
+
+impl Model for Call {
+    ghost use Rattle.si_semantics.specs.History.{Call};
+    ghost use Rattle.si_hub.specs.HubCode.{call_code};
+    ghost use Rattle.si_parcel.specs.Shared.{action_of, answer_of};
+
+    ghost Value = { Call };
+
+    ghost coded = { call_code };
+
+    ghost view = { λ c. record { by = c.by; action = action_of c.action; answer = answer_of c.answer } };
+}
+
+/// Why an action was not done.
+#[derive(Clone, Copy, Debug, PartialEq, Eq)]
+pub enum Why {
+    /// It is not enabled now.
+    NotNow,
+    /// Memory was refused.
+    NoMemory,
+}
+
+/// An action that was not done, with the reason. Nothing has changed.
+#[derive(Drop)]
+pub struct NotActed {
+    pub why: Why,
+    pub action: Action,
+}
+
+// What an action takes, made before anything changes: its answer for the journal, and a copy of the action.
+#[derive(Drop)]
+struct Stock {
+    answer: Answer,
+    action: Action,
+}
+
+/// The state that interpreters share, and the journal of the calls that made it, in order: the state is that which these
+/// calls leave of the first state of its script and its limits.
+#[derive(Drop)]
+pub struct Hub {
+    alloc: Global,
+    script: Text,
+    limits: Limits,
+    shared: Shared,
+    journal: Vec<Call>,
+}
+
+impl Model for Hub {
+    ghost use Rattle.std.specs.Prelude.{◌-◌, vec_len, vec_capacity};
+    ghost use Rattle.si_hub.specs.HubCode.{HubView, hub_code};
+    ghost use Rattle.si_hub.specs.Hubs.{IsReplay};
+
+    ghost Value = { HubView };
+
+    ghost coded = { hub_code };
+
+    ghost view = { λ h. record { past = record { script = h.script; limits = h.limits; journal = h.journal.items }; spare = vec_capacity h.journal - vec_len h.journal } };
+
+    ghost invariant = { λ h. IsReplay h.shared (record { script = h.script; limits = h.limits; journal = h.journal.items }) };
+}
+
+impl Hub {
+    /// The first state of a script: interpreter 0 runs, and its run, of the script, lies in its inbox.
+    ///
+    /// # Errors
+    ///
+    /// `NoMemory` where memory was refused.
+    pub fn new(alloc: Global, script: &str, limits: Limits) -> Result<Hub, NoMemory>
+        ensures { IfOk result (λ h. h.past ≡ record { script = characters_of script.now; limits = limits; journal = [] }) }
+    {
+        let text = Text::from_str(alloc, script)?;
+        let shared = Shared::new(alloc, Text::from_str(alloc, script)?)?;
+        Ok(Hub {
+            alloc,
+            script: text,
+            limits,
+            shared,
+            journal: Vec::new(alloc),
+        })
+    }
+
+    /// Each call of the journal was enabled at its point, and was replied its answer. Costs nothing.
+    pub fn facts(&self)
+        ensures { IsTold self.now.past }
+    {
+        let _ = &self.journal;
+    }
+
+    /// The calls that were made, in order.
+    pub fn journal(&self) -> &[Call]
+        ensures { result.now ≡ self.now.past.journal }
+    {
+        self.journal.as_slice()
+    }
+
+    /// The script of interpreter 0's first run.
+    pub fn script(&self) -> &str
+        ensures { characters_of result.now ≡ self.now.past.script }
+    {
+        self.script.as_str()
+    }
+
+    /// The limits that it was made with.
+    pub fn limits(&self) -> Limits
+        ensures { result ≡ self.now.past.limits }
+    {
+        self.limits
+    }
+
+    /// The parcels of a queue, the oldest first, if the queue was made.
+    pub fn queue(&self, id: u32) -> Option<&Queue>
+        ensures { MatchOption result
+            (slice_get (state_of self.now.past).queues id ≡ None)
+            (λ q. slice_get (state_of self.now.past).queues id ≡ Some q.now) }
+    {
+        self.shared.queues.queue(id)
+    }
+
+    /// For how many calls the journal has room.
+    pub fn spare(&self) -> usize
+        ensures { result ≡ self.now.spare }
+    {
+        self.journal.capacity() - self.journal.len()
+    }
+
+    /// Makes room in the journal for `n` calls more.
+    ///
+    /// # Errors
+    ///
+    /// `NoMemory` where memory was refused; the room is as it was then.
+    pub fn reserve(&mut self, n: usize) -> Result<(), NoMemory>
+        ensures past { self.new.past ≡ self.old.past }
+        ensures ok { OnOk result (n ≤ self.new.spare) }
+        ensures more { self.old.spare ≤ self.new.spare }
+        ensures err { OnErr result (self.new.spare ≡ self.old.spare) }
+    {
+        self.journal.reserve(n)
+    }
+
+    /// Whether an action of interpreter `by` is enabled: exactly where `act` would not answer `NotNow`. Takes no memory.
+    pub fn enabled(&self, by: u32, action: &Action) -> bool
+        ensures { result ≡ can_act self.now.past by (action_of action.now) }
+    {
+        self.shared.enabled(by, action, self.limits.interpreters())
+    }
+
+    // Makes what an action that is enabled takes, and room in the journal.
+    fn prepare(&mut self, by: u32, action: &Action) -> Result<Stock, NoMemory>
+        requires { can_act self.old.past by (action_of action.now) ≡ true }
+        ensures past { self.new.past ≡ self.old.past }
+        ensures more { self.old.spare ≤ self.new.spare }
+        ensures room { OnOk result (0 < self.new.spare) }
+        ensures action { IfOk result (λ s. s.action ≡ action.now) }
+        ensures answer { IfOk result (λ s. answer_in (reply_at self.old.past by (action_of action.now)) ≡ Some (answer_of s.answer)) }
+        ensures no_memory { takes_none (action_of action.now) ≡ true → 0 < self.old.spare → IsOk result }
+    {
+        let answer = self.shared.answer(by, action, self.limits.interpreters())?;
+        let action = action.clone_action(self.alloc)?;
+        self.journal.reserve(1)?;
+        Ok(Stock { answer, action })
+    }
+
+    /// Does an action of interpreter `by` that is enabled, and answers it. The call is then the last of the journal.
+    /// With `Size` or `IsRunning` it takes no memory where the journal has room.
+    ///
+    /// # Errors
+    ///
+    /// `NotNow` exactly where the action is not enabled, `NoMemory` where memory was refused. The action comes back, and
+    /// nothing has changed.
+    pub fn act(&mut self, by: u32, action: Action) -> Result<Answer, NotActed>
+        ensures ok { IfOk result (λ r. Acts self.old.past by (action_of action) (answer_of r) self.new.past) }
+        ensures err { IfErr result (λ e. (e.action ≡ action) × (self.new.past ≡ self.old.past)) }
+        ensures not_now { IsErrAnd result (λ e. e.why ≡ Why.NotNow) ↔ (can_act self.old.past by (action_of action) ≡ false) }
+        ensures room { self.old.spare ≤ self.new.spare + 1 }
+        ensures no_memory { takes_none (action_of action) ≡ true → 0 < self.old.spare → can_act self.old.past by (action_of action) ≡ true → IsOk result }
+    {
+        if !self.enabled(by, &action) {
+            let why = Why::NotNow;
+            return Err(NotActed { why, action });
+        }
+        match self.prepare(by, &action) {
+            Err(_) => Err(NotActed {
+                why: Why::NoMemory,
+                action,
+            }),
+            Ok(stock) => match self
+                .shared
+                .act(by, stock.action, self.limits.interpreters())
+            {
+                Err(_) => Err(NotActed {
+                    why: Why::NoMemory,
+                    action,
+                }),
+                Ok(told) => {
+                    let answer = stock.answer;
+                    self.journal.push_reserved(Call { by, action, answer });
+                    Ok(told)
+                }
+            },
+        }
+    }
+}
