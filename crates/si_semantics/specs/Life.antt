@@ -38,7 +38,9 @@ outcome_of (Returns v) w = Returned
 outcome_of Breaks w = Returned
 outcome_of Continues w = Returned
 
--- the outcome of a run whose text is not read (Language Reference, 8.4; the message is this project's own)
+-- the outcome of a run whose text is not read, or is not well scoped (Language Reference, 8.4; the message is this
+-- project's own). A life is given trees: which text is read as which tree is said by `IsRead` (si_parse/specs/Modules),
+-- which trees are well scoped by `is_scoped` (Scope), and both by `IsTaken` (si_cli/specs/Runs).
 abbrev pub not_read : Outcome
 not_read = Raised SyntaxError (codes "invalid syntax")
 
