@@ -15,6 +15,3 @@ mod shared;
 mod telling;
 
 pub use hub::{Call, Hub, NotActed, Why};
-
-#[cfg(test)]
-mod tests;
