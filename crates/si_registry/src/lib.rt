@@ -13,6 +13,3 @@ pub mod run;
 pub use interpreter::{Interpreter, Standing};
 pub use registry::Registry;
 pub use run::Run;
-
-#[cfg(test)]
-mod tests;
