@@ -5,7 +5,7 @@ use Rattle.si_semantics.specs.Value.{Text, Value, Function}
 use Rattle.si_semantics.specs.Tree.{Module}
 use Rattle.si_semantics.specs.World.{Answer, Asked, Gave, Ran, Threw, World, first_world}
 use Rattle.si_semantics.specs.Meaning.{Leave, choose, decides, entered, max_calls, slot_at}
-use Rattle.si_semantics.specs.Operations.{Iterator, call_by_name, call_provided, catches, compare, is_true, iterator_of, load_global, load_local, next_item, not_callable, operate, operate_unary, too_deep, wrong_arguments}
+use Rattle.si_semantics.specs.Operations.{Iterator, call_by_name, call_provided, catches, compare, is_true, iterator_of, load_global, load_local, Next, Item, Exhausted, Refuses, next_item, not_callable, operate, operate_unary, too_deep, wrong_arguments}
 use Rattle.si_semantics.specs.Life as life
 use Rattle.si_semantics.specs.Life.{not_read}
 use Rattle.si_semantics.specs.Machine.{At, Block, Calling, Closed, Course, Ending, Entry, Each, Catch, Final, Pending, Handling, Frame, Instr, LoadGlobal, LoadLocal, ApplyUnary, ApplyBinary, ApplyComparison, EndChain, JumpOrDiscard, JumpIfFalse, CallTop, CallByName, StartFor, NextItem, LeaveBlock, StartFinally, EndFinally, TestClause, PushException, Line, Place, Stamped, Table, Taking, act, calls, depth, ends_finally, enters, fetched, gives_item, goes, next, on, on_callee, stamped, start, starts_for, stuck, yields}
@@ -91,10 +91,11 @@ unfolding IsQuiet
 starts_quietly None next ops slots bs w = λ o e. refl
 starts_quietly (Some it) next ops slots bs w = λ o e. refl
 
-gives_quietly : (p : Option (Value × Iterator)) (next out : ℕ) (ops : List Value) (slots : List (Option Value)) (bs : List Block) (w : World) → IsQuiet (gives_item p next out ops slots bs w)
+gives_quietly : (p : Next) (next out : ℕ) (ops : List Value) (slots : List (Option Value)) (bs : List Block) (w : World) → IsQuiet (gives_item p next out ops slots bs w)
 unfolding IsQuiet
-gives_quietly None next out ops slots bs w = λ o e. refl
-gives_quietly (Some p) next out ops slots bs w = λ o e. refl
+gives_quietly (Item v it) next out ops slots bs w = λ o e. refl
+gives_quietly Exhausted next out ops slots bs w = λ o e. refl
+gives_quietly (Refuses k message) next out ops slots bs w = λ o e. refl
 
 ends_quietly : (p : Option Leave) (next : ℕ) (ops : List Value) (slots : List (Option Value)) (bs : List Block) (w : World) → IsQuiet (ends_finally p next ops slots bs w)
 unfolding IsQuiet
@@ -105,7 +106,7 @@ ends_quietly (Some p) next ops slots bs w = λ o e. refl
 item_quietly : (es : List Entry) (n next : ℕ) (ops : List Value) (slots : List (Option Value)) (bs : List Block) (w : World) → IsQuiet (act es (NextItem n) next ops slots bs w)
 unfolding IsQuiet
 item_quietly es n next ops slots [] w = λ o e. refl
-item_quietly es n next ops slots (Each it ∷ bs) w = gives_quietly (next_item it) next (next + n) ops slots bs w
+item_quietly es n next ops slots (Each it ∷ bs) w = gives_quietly (next_item it w) next (next + n) ops slots bs w
 item_quietly es n next ops slots (_ ∷ bs) w = λ o e. refl
 
 left_quietly : (es : List Entry) (next : ℕ) (ops : List Value) (slots : List (Option Value)) (bs : List Block) (w : World) → IsQuiet (act es LeaveBlock next ops slots bs w)
@@ -146,13 +147,13 @@ acts_quietly es (LoadGlobal x) next ops slots bs w = λ o e. yields_quietly (loa
 acts_quietly es (ApplyUnary op) next (v ∷ ops) slots bs w = λ o e. yields_quietly (operate_unary op v w) next ops slots bs o e
 acts_quietly es (ApplyBinary op) next (v ∷ u ∷ ops) slots bs w = λ o e. yields_quietly (operate op u v w) next ops slots bs o e
 acts_quietly es (ApplyComparison op) next (v ∷ u ∷ ops) slots bs w = λ o e. yields_quietly (compare op u v w) next ops slots bs o e
-acts_quietly es (EndChain n) next (t ∷ v ∷ ops) slots bs w = goes_quietly (is_true t) _ _ w
-acts_quietly es (JumpOrDiscard op n) next (v ∷ ops) slots bs w = goes_quietly (decides op v) _ _ w
-acts_quietly es (JumpIfFalse n) next (v ∷ ops) slots bs w = goes_quietly (is_true v) _ _ w
+acts_quietly es (EndChain n) next (t ∷ v ∷ ops) slots bs w = goes_quietly (is_true t w) _ _ w
+acts_quietly es (JumpOrDiscard op n) next (v ∷ ops) slots bs w = goes_quietly (decides op v w) _ _ w
+acts_quietly es (JumpIfFalse n) next (v ∷ ops) slots bs w = goes_quietly (is_true v w) _ _ w
 acts_quietly es (CallTop n) next ops slots bs w = callee_quietly (drop n ops) _ w (λ f rest. calls_quietly es f (reverse (take n ops)) next rest slots bs w)
 acts_quietly es (CallByName n) next ops slots bs w = callee_quietly (drop n ops) _ w (λ f rest. yields_quietly (call_by_name f w) next rest slots bs)
 acts_quietly es (LoadLocal x k) next ops slots bs w = λ o e. yields_quietly (load_local x (slot_at k slots) w) next ops slots bs o e
-acts_quietly es StartFor next (v ∷ ops) slots bs w = starts_quietly (iterator_of v) next ops slots bs w
+acts_quietly es StartFor next (v ∷ ops) slots bs w = starts_quietly (iterator_of v w) next ops slots bs w
 acts_quietly es (NextItem n) next ops slots bs w = item_quietly es n next ops slots bs w
 acts_quietly es LeaveBlock next ops slots bs w = left_quietly es next ops slots bs w
 acts_quietly es StartFinally next ops slots bs w = started_quietly es next ops slots bs w

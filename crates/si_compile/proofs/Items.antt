@@ -2,8 +2,8 @@
 use Rattle.std.proofs.Common.{◌≡◌, ℕ, zero, suc, ◌+◌, ◌-◌, ◌≤◌, List, [], ◌∷◌, Option, Some, None, subst, arith}
 use Rattle.std.specs.Prelude.{slice_get}
 use Rattle.si_semantics.specs.Value.{Value}
-use Rattle.si_semantics.specs.Operations.{Iterator, next_item}
-use Rattle.si_semantics.specs.Meaning.{State, Raises, Returns, Breaks, Continues, Result, Gives, Leaves, Asks, Cut, Meaning, visit, then, after_turn, for_loop, over}
+use Rattle.si_semantics.specs.Operations.{Iterator, Next, Item, Exhausted, Refuses, next_item}
+use Rattle.si_semantics.specs.Meaning.{State, Raises, Returns, Breaks, Continues, Result, Gives, Leaves, Asks, Cut, Meaning, visit, then, after_turn, turn_of, for_loop, over}
 use Rattle.si_semantics.specs.Machine.{NextItem, EnterLoop, DoContinue, LeaveBlock, Place, At, Block, Loop, Each, Table, Course, gives_item, starts_for, next}
 use Rattle.si_compile.specs.Code.{compiled}
 use Rattle.si_compile.specs.Correct.{Meets, Runs, end_at}
@@ -34,22 +34,23 @@ module _ (t : Table) (n : ℕ) (put : Value → Meaning (Unit {0})) (body last :
       subst (λ k. Meets t (At (enter + 1) [] s.slots (Loop k out ∷ Each it ∷ bs)) low q s (next compiled c)) to_start
       (subst (λ k. Meets t (At (enter + 1) [] s.slots (Loop (enter + 1 - from) k ∷ Each it ∷ bs)) low q s (next compiled c)) ahead_out (go (omega arith) h (line_at t h enters)))
 
-  -- the next item, or none
-  item_runs : (o : Option (Value × Iterator)) (m low q : ℕ) (p : Place) (s : State) (c : Course) → Meets t p low (q + 16) s c → Line_is c (gives_item o (start + 1) (start + 1 + skip) [] s.slots bs s.world)
+  -- the next item, or none, or an exception
+  item_runs : (o : Next) (m low q : ℕ) (p : Place) (s : State) (c : Course) → Meets t p low (q + 16) s c → Line_is c (gives_item o (start + 1) (start + 1 + skip) [] s.slots bs s.world)
       → ((it : Iterator) (s1 : State) (d : Course) → Meets t (At start [] s1.slots (Each it ∷ bs)) (low + 1) q s1 d → Runs t n (end_at bs end) bs (low + 1) q (for_loop m put body last it s1) d)
-      → Runs t n (end_at bs end) bs low q (elim o [ None ↦ last s | Some i ↦ then (put i.0 s) (λ u s1. after_turn (body s1) (for_loop m put body last i.1)) ]) c
-  item_runs None m low q p s c h e k = step (lasts low q s _ (moved past (go (omega arith) h e)))
-  item_runs (Some i) m low q p s c h e k =
-      step (weaker (omega arith) (omega arith) (both (put i.0 s) (λ u s1. after_turn (body s1) (for_loop m put body last i.1)) (omega arith)
-      (popped (put i.0 s) (each_passes i.1 bs) (puts i.0 i.1 (low + 1) (q + 8) s _ (quiet (omega arith) h e)))
-      (λ u s1 d _ h1. step (turn_runs i.1 (low + 1) q (body s1) (for_loop m put body last i.1) _ (bodies i.1 (low + 1) (q + 1) s1 _ (in_loop i.1 (low + 1) (q + 1) s1 d (spare (omega arith) (omega arith) h1))) (k i.1)))))
+      → Runs t n (end_at bs end) bs low q (turn_of o put body last (for_loop m put body last) s) c
+  item_runs Exhausted m low q p s c h e k = step (lasts low q s _ (moved past (go (omega arith) h e)))
+  item_runs (Item v it) m low q p s c h e k =
+      step (weaker (omega arith) (omega arith) (both (put v s) (λ u s1. after_turn (body s1) (for_loop m put body last it)) (omega arith)
+      (popped (put v s) (each_passes it bs) (puts v it (low + 1) (q + 8) s _ (quiet (omega arith) h e)))
+      (λ u s1 d _ h1. step (turn_runs it (low + 1) q (body s1) (for_loop m put body last it) _ (bodies it (low + 1) (q + 1) s1 _ (in_loop it (low + 1) (q + 1) s1 d (spare (omega arith) (omega arith) h1))) (k it)))))
+  item_runs (Refuses kind message) m low q p s c h e k = step (now (go (omega arith) h e))
 
   -- m turns more make m lines at least
   pub for_runs : (m : ℕ) (it : Iterator) (low q : ℕ) (s : State) (c : Course) → n ≤ low + m → Meets t (At start [] s.slots (Each it ∷ bs)) low q s c → Runs t n (end_at bs end) bs low q (for_loop m put body last it s) c
   for_runs zero it low q s c l h = now (record { timely = h.timely; lines = omega (arith, h.since) })
   for_runs (suc m) it low q s c l h =
       let h0 = visited h in
-      item_runs (next_item it) m low q _ (visit s) c h0 (line_at t h0 items) (λ it' s1 d h1. for_runs m it' (low + 1) q s1 d (omega arith) h1)
+      item_runs (next_item it s.world) m low q _ (visit s) c h0 (line_at t h0 items) (λ it' s1 d h1. for_runs m it' (low + 1) q s1 d (omega arith) h1)
 
   -- what is gone over, or an exception
   pub over_runs : (o : Option Iterator) (pc low q : ℕ) (p : Place) (s : State) (c : Course) → pc ≡ start → Meets t p low (q + 1) s c → Line_is c (starts_for o pc [] s.slots bs s.world) → Runs t n (end_at bs end) bs low q (over o (for_loop n put body last) s) c

@@ -38,7 +38,7 @@ module _ (t : Table) (n : ℕ) (test : Meaning Value) (body last : Meaning (Unit
   loop_runs zero low q s c l h = now (record { timely = h.timely; lines = omega (arith, h.since) })
   loop_runs (suc m) low q s c l h =
       both _ _ (omega arith) (tests low (q + 16) (visit s) c (visited h))
-      (λ z s1 c1 _ h1. choice (is_true z) (line_at t h1 jump)
+      (λ z s1 c1 _ h1. choice (is_true z s1.world) (line_at t h1 jump)
       (λ e. step (step (turn_runs low q (body s1) (loop m test body last) _
       (bodies (low + 1) (q + 1) s1 _ (in_loop (low + 1) (q + 2) (q + 1) s1 _ (omega arith) (quiet (omega arith) h1 e)))
       (λ s2 d k. weaker (omega arith) (omega arith) (loop_runs m (low + 1) q s2 d (omega arith) k)))))

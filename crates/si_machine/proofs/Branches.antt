@@ -73,19 +73,19 @@ keep_did u v rest old new h run top e =
 pub two_kept : (ops : List Value) (v u : Value) → ops ≡ v ∷ u ∷ drop 2 ops → take 2 ops ++ v ∷ drop 2 ops ≡ v ∷ u ∷ v ∷ drop 2 ops
 two_kept ops v u top = ap (λ l. take 2 l ++ v ∷ drop 2 ops) top
 
-chain_line : (n : ℕ) (u t : Value) (rest : List Value) (s : State) (b : Bool) → s.operands.here ≡ t ∷ u ∷ rest → is_true (value_of s.texts t) ≡ b → line_of (EndChain n) s ≡ choose b (at_line (s.pc + 1) (u ∷ rest) s) (at_line (s.pc + 1 + n) (t ∷ rest) s)
+chain_line : (n : ℕ) (u t : Value) (rest : List Value) (s : State) (b : Bool) → s.operands.here ≡ t ∷ u ∷ rest → is_true (value_of s.texts t) (world_of s) ≡ b → line_of (EndChain n) s ≡ choose b (at_line (s.pc + 1) (u ∷ rest) s) (at_line (s.pc + 1 + n) (t ∷ rest) s)
 chain_line n u t rest s b top is =
     ap (line_on (EndChain n) s) top
     ∙ ap (λ c. choose c (at_line (s.pc + 1) (u ∷ rest) s) (at_line (s.pc + 1 + n) (t ∷ rest) s)) is
 
 -- a comparison was true: its right operand stays
-pub chain_goes_on : (n : ℕ) (u t : Value) (rest : List Value) (old new : State) → IsSound old → old.standing ≡ standing.Running → old.operands.here ≡ t ∷ u ∷ rest → is_true (value_of old.texts t) ≡ true → new ≡ moved (old.pc + 1) (u ∷ rest) old → Did (line_of (EndChain n) old) old new Local
+pub chain_goes_on : (n : ℕ) (u t : Value) (rest : List Value) (old new : State) → IsSound old → old.standing ≡ standing.Running → old.operands.here ≡ t ∷ u ∷ rest → is_true (value_of old.texts t) (world_of old) ≡ true → new ≡ moved (old.pc + 1) (u ∷ rest) old → Did (line_of (EndChain n) old) old new Local
 chain_goes_on n u t rest old new h run top is e =
     let P : Line → Type 0 = λ l. Did l old new Local in
     subst P (sym (chain_line n u t rest old true top is)) (moved_did (old.pc + 1) (u ∷ rest) old new h run (below old h t (u ∷ rest) top) e)
 
 -- it was not: its value stays, and the chain ends
-pub chain_ends : (n : ℕ) (u t : Value) (rest : List Value) (old new : State) → IsSound old → old.standing ≡ standing.Running → old.operands.here ≡ t ∷ u ∷ rest → is_true (value_of old.texts t) ≡ false → new ≡ moved (old.pc + 1 + n) (t ∷ rest) old → Did (line_of (EndChain n) old) old new Local
+pub chain_ends : (n : ℕ) (u t : Value) (rest : List Value) (old new : State) → IsSound old → old.standing ≡ standing.Running → old.operands.here ≡ t ∷ u ∷ rest → is_true (value_of old.texts t) (world_of old) ≡ false → new ≡ moved (old.pc + 1 + n) (t ∷ rest) old → Did (line_of (EndChain n) old) old new Local
 chain_ends n u t rest old new h run top is e =
     let G = Fits (length old.texts) in
     let P : Line → Type 0 = λ l. Did l old new Local in
@@ -93,35 +93,35 @@ chain_ends n u t rest old new h run top is e =
 
 -- ---- branches
 
-word_line : (o : tree.BooleanOperator) (n : ℕ) (v : Value) (rest : List Value) (s : State) (b : Bool) → s.operands.here ≡ v ∷ rest → decides o (value_of s.texts v) ≡ b → line_of (JumpOrDiscard o n) s ≡ choose b (at_line (s.pc + 1 + n) (v ∷ rest) s) (at_line (s.pc + 1) rest s)
+word_line : (o : tree.BooleanOperator) (n : ℕ) (v : Value) (rest : List Value) (s : State) (b : Bool) → s.operands.here ≡ v ∷ rest → decides o (value_of s.texts v) (world_of s) ≡ b → line_of (JumpOrDiscard o n) s ≡ choose b (at_line (s.pc + 1 + n) (v ∷ rest) s) (at_line (s.pc + 1) rest s)
 word_line o n v rest s b top is =
     ap (line_on (JumpOrDiscard o n) s) top
     ∙ ap (λ c. choose c (at_line (s.pc + 1 + n) (v ∷ rest) s) (at_line (s.pc + 1) rest s)) is
 
 -- an operand decides an `and` or an `or`
-pub word_decides : (o : tree.BooleanOperator) (n : ℕ) (v : Value) (rest : List Value) (old new : State) → IsSound old → old.standing ≡ standing.Running → old.operands.here ≡ v ∷ rest → decides o (value_of old.texts v) ≡ true → new ≡ record old { pc = old.pc + 1 + n } → Did (line_of (JumpOrDiscard o n) old) old new Local
+pub word_decides : (o : tree.BooleanOperator) (n : ℕ) (v : Value) (rest : List Value) (old new : State) → IsSound old → old.standing ≡ standing.Running → old.operands.here ≡ v ∷ rest → decides o (value_of old.texts v) (world_of old) ≡ true → new ≡ record old { pc = old.pc + 1 + n } → Did (line_of (JumpOrDiscard o n) old) old new Local
 word_decides o n v rest old new h run top is e =
     let P : Line → Type 0 = λ l. Did l old new Local in
     let Q : List Value → Type 0 = λ vs. Did (goes (At (old.pc + 1 + n) (map (value_of old.texts) vs) (slots_of old) (blocks_of old)) (world_of old)) old new Local in
     subst P (sym (word_line o n v rest old true top is)) (subst Q top (moved_did (old.pc + 1 + n) old.operands.here old new h run h.stacks.here e))
 
 -- or not: it is taken
-pub word_goes_on : (o : tree.BooleanOperator) (n : ℕ) (v : Value) (rest : List Value) (old new : State) → IsSound old → old.standing ≡ standing.Running → old.operands.here ≡ v ∷ rest → decides o (value_of old.texts v) ≡ false → new ≡ moved (old.pc + 1) rest old → Did (line_of (JumpOrDiscard o n) old) old new Local
+pub word_goes_on : (o : tree.BooleanOperator) (n : ℕ) (v : Value) (rest : List Value) (old new : State) → IsSound old → old.standing ≡ standing.Running → old.operands.here ≡ v ∷ rest → decides o (value_of old.texts v) (world_of old) ≡ false → new ≡ moved (old.pc + 1) rest old → Did (line_of (JumpOrDiscard o n) old) old new Local
 word_goes_on o n v rest old new h run top is e =
     let P : Line → Type 0 = λ l. Did l old new Local in
     subst P (sym (word_line o n v rest old false top is)) (moved_did (old.pc + 1) rest old new h run (below old h v rest top) e)
 
-branch_line : (n : ℕ) (v : Value) (rest : List Value) (s : State) (b : Bool) → s.operands.here ≡ v ∷ rest → is_true (value_of s.texts v) ≡ b → line_of (JumpIfFalse n) s ≡ choose b (at_line (s.pc + 1) rest s) (at_line (s.pc + 1 + n) rest s)
+branch_line : (n : ℕ) (v : Value) (rest : List Value) (s : State) (b : Bool) → s.operands.here ≡ v ∷ rest → is_true (value_of s.texts v) (world_of s) ≡ b → line_of (JumpIfFalse n) s ≡ choose b (at_line (s.pc + 1) rest s) (at_line (s.pc + 1 + n) rest s)
 branch_line n v rest s b top is =
     ap (line_on (JumpIfFalse n) s) top
     ∙ ap (λ c. choose c (at_line (s.pc + 1) rest s) (at_line (s.pc + 1 + n) rest s)) is
 
-pub branch_goes_on : (n : ℕ) (v : Value) (rest : List Value) (old new : State) → IsSound old → old.standing ≡ standing.Running → old.operands.here ≡ v ∷ rest → is_true (value_of old.texts v) ≡ true → new ≡ moved (old.pc + 1) rest old → Did (line_of (JumpIfFalse n) old) old new Local
+pub branch_goes_on : (n : ℕ) (v : Value) (rest : List Value) (old new : State) → IsSound old → old.standing ≡ standing.Running → old.operands.here ≡ v ∷ rest → is_true (value_of old.texts v) (world_of old) ≡ true → new ≡ moved (old.pc + 1) rest old → Did (line_of (JumpIfFalse n) old) old new Local
 branch_goes_on n v rest old new h run top is e =
     let P : Line → Type 0 = λ l. Did l old new Local in
     subst P (sym (branch_line n v rest old true top is)) (moved_did (old.pc + 1) rest old new h run (below old h v rest top) e)
 
-pub branch_jumps : (n : ℕ) (v : Value) (rest : List Value) (old new : State) → IsSound old → old.standing ≡ standing.Running → old.operands.here ≡ v ∷ rest → is_true (value_of old.texts v) ≡ false → new ≡ moved (old.pc + 1 + n) rest old → Did (line_of (JumpIfFalse n) old) old new Local
+pub branch_jumps : (n : ℕ) (v : Value) (rest : List Value) (old new : State) → IsSound old → old.standing ≡ standing.Running → old.operands.here ≡ v ∷ rest → is_true (value_of old.texts v) (world_of old) ≡ false → new ≡ moved (old.pc + 1 + n) rest old → Did (line_of (JumpIfFalse n) old) old new Local
 branch_jumps n v rest old new h run top is e =
     let P : Line → Type 0 = λ l. Did l old new Local in
     subst P (sym (branch_line n v rest old false top is)) (moved_did (old.pc + 1 + n) rest old new h run (below old h v rest top) e)

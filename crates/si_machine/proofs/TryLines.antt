@@ -5,7 +5,7 @@ use Rattle.std.proofs.lemmas.Bool.{false≢true}
 use Rattle.std.proofs.lemmas.List.Elements.{All-cons, All-tail, All-head}
 use Rattle.si_semantics.specs.Value as pure
 use Rattle.si_semantics.specs.World.{Ran}
-use Rattle.si_semantics.specs.Operations.{gave, raised_again, Iterator, iterator_of, next_item, catches}
+use Rattle.si_semantics.specs.Operations.{gave, raised_again, Iterator, iterator_of, Next, Item, Exhausted, next_item, catches}
 use Rattle.si_semantics.specs.Machine as machine
 use Rattle.si_semantics.specs.Machine.{Instr, TestClause, DoRaiseAgain, StartFor, NextItem, At, Line, act, goes, raises, yields, starts_for, gives_item}
 use Rattle.si_code.specs.Views.{entries_of}
@@ -74,10 +74,10 @@ none_active old new r is did =
     subst P (sym (again_line None old is)) did
 
 -- for
-for_line : (v : Value) (ops : List Value) (o : Option Iterator) (s : State) → s.operands.here ≡ v ∷ ops → iterator_of (value_of s.texts v) ≡ o → line_of StartFor s ≡ starts_for o (s.pc + 1) (map (value_of s.texts) ops) (slots_of s) (blocks_of s) (world_of s)
+for_line : (v : Value) (ops : List Value) (o : Option Iterator) (s : State) → s.operands.here ≡ v ∷ ops → iterator_of (value_of s.texts v) (world_of s) ≡ o → line_of StartFor s ≡ starts_for o (s.pc + 1) (map (value_of s.texts) ops) (slots_of s) (blocks_of s) (world_of s)
 for_line v ops o s top is = ap (line_on StartFor s) top ∙ ap (λ i. starts_for i (s.pc + 1) (map (value_of s.texts) ops) (slots_of s) (blocks_of s) (world_of s)) is
 
-pub for_started : (v : Value) (ops : List Value) (items : Items) (old new : State) → IsSound old → old.standing ≡ standing.Running → old.operands.here ≡ v ∷ ops → Some (items_of old.texts items) ≡ iterator_of (value_of old.texts v) → FitsItems old.texts items → new ≡ record old { pc = old.pc + 1; operands = with_operands ops old.operands; blocks = Each items ∷ old.blocks } → Did (line_of StartFor old) old new Local
+pub for_started : (v : Value) (ops : List Value) (items : Items) (old new : State) → IsSound old → old.standing ≡ standing.Running → old.operands.here ≡ v ∷ ops → Some (items_of old.texts items) ≡ iterator_of (value_of old.texts v) (world_of old) → FitsItems old.texts items → new ≡ record old { pc = old.pc + 1; operands = with_operands ops old.operands; blocks = Each items ∷ old.blocks } → Did (line_of StartFor old) old new Local
 for_started v ops items old new h run top is fits e =
     let A : List Value → Type 0 = λ vs. All (Fits (length old.texts)) vs in
     let P : Line → Type 0 = λ l. Did l old new Local in
@@ -87,12 +87,12 @@ for_started v ops items old new h run top is fits e =
 pub value_there : (v : Value) (ops : List Value) (s : State) → IsSound s → s.operands.here ≡ v ∷ ops → Fits (length s.texts) v
 value_there v ops s h top = let A : List Value → Type 0 = λ vs. All (Fits (length s.texts)) vs in All-head (Fits (length s.texts)) v ops (subst A top h.stacks.here)
 
-item_line : (n : ℕ) (items : Items) (rest : List Block) (o : Option (pure.Value × Iterator)) (s : State) → s.blocks ≡ Each items ∷ rest → o ≡ next_item (items_of s.texts items) → line_of (NextItem n) s ≡ gives_item o (s.pc + 1) (s.pc + 1 + n) (operands_of s) (slots_of s) (blocks_with s.texts rest s.operands.below s.slots.below) (world_of s)
+item_line : (n : ℕ) (items : Items) (rest : List Block) (o : Next) (s : State) → s.blocks ≡ Each items ∷ rest → o ≡ next_item (items_of s.texts items) (world_of s) → line_of (NextItem n) s ≡ gives_item o (s.pc + 1) (s.pc + 1 + n) (operands_of s) (slots_of s) (blocks_with s.texts rest s.operands.below s.slots.below) (world_of s)
 item_line n items rest o s top is =
     ap (line_in (NextItem n) s) top
     ∙ ap (λ i. gives_item i (s.pc + 1) (s.pc + 1 + n) (operands_of s) (slots_of s) (blocks_with s.texts rest s.operands.below s.slots.below) (world_of s)) (sym is)
 
-pub item_given : (n : ℕ) (items more_items : Items) (item : Value) (rest : List Block) (texts more : List pure.Text) (old new : State) → IsSound old → old.standing ≡ standing.Running → old.blocks ≡ Each items ∷ rest → next_item (items_of old.texts items) ≡ Some (value_of texts item, items_of texts more_items) → Fits (length texts) item → FitsItems texts more_items → texts ≡ old.texts ++ more → new ≡ record (moved (old.pc + 1) (item ∷ old.operands.here) old) { texts = texts; blocks = Each more_items ∷ rest } → Did (line_of (NextItem n) old) old new Local
+pub item_given : (n : ℕ) (items more_items : Items) (item : Value) (rest : List Block) (texts more : List pure.Text) (old new : State) → IsSound old → old.standing ≡ standing.Running → old.blocks ≡ Each items ∷ rest → next_item (items_of old.texts items) (world_of old) ≡ Item (value_of texts item) (items_of texts more_items) → Fits (length texts) item → FitsItems texts more_items → texts ≡ old.texts ++ more → new ≡ record (moved (old.pc + 1) (item ∷ old.operands.here) old) { texts = texts; blocks = Each more_items ∷ rest } → Did (line_of (NextItem n) old) old new Local
 item_given n items more_items item rest texts more old new h run top is fits fit grown e =
     let all = old.texts ++ more in
     let B : List Block → Type 0 = λ l. All (FitsBlock old.texts) l in
@@ -102,8 +102,8 @@ item_given n items more_items item rest texts more old new h run top is fits fit
     let bs = blocks_with old.texts rest old.operands.below old.slots.below in
     let P : Line → Type 0 = λ l. Did l old new Local in
     let O : List machine.Block → Type 0 = λ l. Did (goes (At (old.pc + 1) (value_of all item ∷ operands_of old) (slots_of old) (machine.Each (items_of all more_items) ∷ l)) (world_of old)) old new Local in
-    let given : Option (pure.Value × Iterator) = Some (value_of all item, items_of all more_items) in
-    let gives : given ≡ next_item (items_of old.texts items) = ap (λ ts. let o : Option (pure.Value × Iterator) = Some (value_of ts item, items_of ts more_items) in o) (sym grown) ∙ sym is in
+    let given : Next = Item (value_of all item) (items_of all more_items) in
+    let gives : given ≡ next_item (items_of old.texts items) (world_of old) = ap (λ ts. Item (value_of ts item) (items_of ts more_items)) (sym grown) ∙ sym is in
     subst P (sym (item_line n items rest given old top gives))
     (subst O (blocks_stay old.texts more rest old.operands.below old.slots.below below h.stacks.below h.stacks.callers)
     (grown_with item old.operands.here more (Each more_items) rest old new h run h.stacks.here (subst V grown fits) (subst I grown fit) below (ap calls_in top)
@@ -114,7 +114,7 @@ pub where_room : {A E P : Type 0} (r : Result A E) → is_err r ≡ false → On
 where_room (Ok x) has h = h
 where_room (Err x) has h = absurd (false≢true (sym has))
 
-pub items_ended : (n : ℕ) (items : Items) (rest : List Block) (old new : State) → IsSound old → old.standing ≡ standing.Running → old.blocks ≡ Each items ∷ rest → next_item (items_of old.texts items) ≡ None → new ≡ record old { pc = old.pc + 1 + n; blocks = rest } → Did (line_of (NextItem n) old) old new Local
+pub items_ended : (n : ℕ) (items : Items) (rest : List Block) (old new : State) → IsSound old → old.standing ≡ standing.Running → old.blocks ≡ Each items ∷ rest → next_item (items_of old.texts items) (world_of old) ≡ Exhausted → new ≡ record old { pc = old.pc + 1 + n; blocks = rest } → Did (line_of (NextItem n) old) old new Local
 items_ended n items rest old new h run top is e =
     let k = h.stacks in
     let B : List Block → Type 0 = λ l. All (FitsBlock old.texts) l in
@@ -122,5 +122,5 @@ items_ended n items rest old new h run top is e =
     let stacks : AreSound (length old.texts) old.operands old.slots rest =
     record { here = k.here; below = k.below; locals = k.locals; callers = k.callers; operands_each = k.operands_each ∙ count; locals_each = k.locals_each ∙ count } in
     let P : Line → Type 0 = λ l. Did l old new Local in
-    subst P (sym (item_line n items rest None old top (sym is)))
+    subst P (sym (item_line n items rest Exhausted old top (sym is)))
     (placed_did (old.pc + 1 + n) old.operands old.slots rest old new h run stacks (All-tail (FitsBlock old.texts) (Each items) rest (subst B top h.blocks)) e)

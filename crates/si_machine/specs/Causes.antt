@@ -58,6 +58,11 @@ abbrev pub ran : List pure.Text → List pure.Text → World → Result Value Ca
 ran names texts w (Ok v) = gave (value_of texts v) w
 ran names texts w (Err cause) = threw names cause w
 
+-- what a comparison gives; where it gives nothing its operands are of a wrong kind
+abbrev pub answer_of : Option Bool → Result Bool Kind
+answer_of (Some b) = Ok b
+answer_of None = Err TypeError
+
 -- a comparison, which takes no memory
 abbrev pub compared : List pure.Text → World → Result Bool Cause → Ran
 compared names w (Ok b) = gave (pure.Truth b) w

@@ -1,7 +1,7 @@
 -- What a machine's values and globals stand for.
 use Rattle.std.specs.Prelude.{◌≡◌, ℕ, ℤ, ◌<◌, List, [], ◌∷◌, ◌++◌, take, drop, length, encode_utf8_all, Option, Some, None, Result, Ok, Err, if◌then◌else◌}
 use Rattle.si_semantics.specs.Value as pure
-use Rattle.si_semantics.specs.World.{Globals, first_world}
+use Rattle.si_semantics.specs.World.{World, Globals, first_world}
 use Rattle.si_semantics.specs.Text.{same_text}
 use Rattle.si_semantics.specs.Operations.{built_in, int_of_truth}
 use Rattle.si_code.specs.Views.{text_at}
@@ -9,7 +9,7 @@ use Rattle.si_machine.specs.declared.value.BuiltIn.{BuiltIn}
 use Rattle.si_machine.specs.declared.value.BuiltIn.TheVariants as built
 use Rattle.si_machine.specs.declared.value.Value.{Value}
 use Rattle.si_machine.specs.declared.value.Value.TheVariants as value
-use Rattle.si_semantics.specs.Operations.{Iterator, next_item}
+use Rattle.si_semantics.specs.Operations.{Iterator, Item, Exhausted, next_item}
 use Rattle.si_semantics.specs.Operations as operations
 use Rattle.si_semantics.specs.Meaning as meaning
 use Rattle.si_machine.specs.declared.value.Object.{Object}
@@ -86,9 +86,9 @@ FitsItems texts NoMore = Unit {0}
 
 -- the next item, which fits the texts, and what is left, where there is one, with the texts that may have grown
 abbrev pub GivesNext : List pure.Text → List pure.Text → Items → Option (Value × Items) → Type 0
-GivesNext old new items None = (next_item (items_of old items) ≡ None) × (new ≡ old)
+GivesNext old new items None = ((w : World) → next_item (items_of old items) w ≡ Exhausted) × (new ≡ old)
 GivesNext old new items (Some p) =
-    (next_item (items_of old items) ≡ Some (value_of new p.0, items_of new p.1)) × Fits (length new) p.0 × FitsItems new p.1
+    ((w : World) → next_item (items_of old items) w ≡ Item (value_of new p.0) (items_of new p.1)) × Fits (length new) p.0 × FitsItems new p.1
     × ((more : List pure.Text) × (new ≡ old ++ more))
 
 -- the same; or memory is refused and the texts are as they were

@@ -1,5 +1,5 @@
 // Whether a value counts as true, and comparisons.
-ghost use Rattle.std.specs.Prelude.{◌≡◌, List, not, option_map};
+ghost use Rattle.std.specs.Prelude.{◌≡◌, List};
 ghost use Rattle.si_semantics.specs.World.{World};
 ghost use Rattle.si_semantics.specs.Value.{Text as Characters, Int, Truth};
 ghost use Rattle.si_semantics.specs.Meaning as meaning;
@@ -8,7 +8,7 @@ ghost use Rattle.si_semantics.specs.Text.{same_text};
 ghost use Rattle.si_code.specs.Views.{text_at};
 ghost use Rattle.si_syntax.specs.Trees.{comparison_of, boolean_of};
 ghost use Rattle.si_machine.specs.Values.{value_of, built_in_of};
-ghost use Rattle.si_machine.specs.Causes.{compared};
+ghost use Rattle.si_machine.specs.Causes.{compared, answer_of};
 
 use crate::cause::Cause;
 use crate::ranges::{is_item, is_same_range};
@@ -25,7 +25,7 @@ pub fn int_of_truth(truth: bool) -> i64
 
 /// Whether a value counts as true (Python Standard Library 3.14, "Built-in Types": truth value testing).
 pub fn is_true(texts: &Texts, value: Value) -> bool
-    ensures { result ≡ operations.is_true (value_of texts.now value) }
+    ensures { (w : World) → result ≡ operations.is_true (value_of texts.now value) w }
 {
     match value {
         Value::None => false,
@@ -42,7 +42,7 @@ pub fn is_true(texts: &Texts, value: Value) -> bool
 
 /// Whether an operand decides the `and` or the `or` (Python Language Reference 3.14, 6.11).
 pub fn decides(texts: &Texts, operator: BooleanOperator, value: Value) -> bool
-    ensures { result ≡ meaning.decides (boolean_of operator) (value_of texts.now value) }
+    ensures { (w : World) → result ≡ meaning.decides (boolean_of operator) (value_of texts.now value) w }
 {
     match operator {
         BooleanOperator::And => !is_true(texts, value),
@@ -89,7 +89,7 @@ pub fn compare_integers(operator: ComparisonOperator, a: i64, b: i64) -> bool
 
 // The answer of a comparison, where there is one.
 fn answered(answer: Option<bool>) -> Result<bool, Cause>
-    ensures { (names : List Characters) (w : World) → operations.truth answer w ≡ compared names w result }
+    ensures { (names : List Characters) (w : World) → operations.truth (answer_of answer) w ≡ compared names w result }
 {
     match answer {
         Some(truth) => Ok(truth),
@@ -99,7 +99,7 @@ fn answered(answer: Option<bool>) -> Result<bool, Cause>
 
 // The other answer of a comparison, where there is one.
 fn turned(answer: Option<bool>) -> Result<bool, Cause>
-    ensures { (names : List Characters) (w : World) → operations.truth (option_map not answer) w ≡ compared names w result }
+    ensures { (names : List Characters) (w : World) → operations.truth (operations.opposite (answer_of answer)) w ≡ compared names w result }
 {
     match answer {
         Some(truth) => Ok(!truth),
@@ -109,7 +109,7 @@ fn turned(answer: Option<bool>) -> Result<bool, Cause>
 
 // `x < y`, where the two have an order.
 fn is_less(texts: &Texts, x: Value, y: Value) -> Option<bool>
-    ensures { result ≡ operations.is_less (value_of texts.now x) (value_of texts.now y) }
+    ensures { (w : World) → operations.is_less (value_of texts.now x) (value_of texts.now y) w ≡ answer_of result }
 {
     match (x, y) {
         (Value::Int(a), Value::Int(b)) => Some(a < b),
@@ -132,7 +132,7 @@ fn is_before(texts: &Texts, a: usize, b: usize) -> bool
 
 // `x == y`. Two functions have no answer.
 fn are_equal(texts: &Texts, x: Value, y: Value) -> Option<bool>
-    ensures { result ≡ operations.are_equal (value_of texts.now x) (value_of texts.now y) }
+    ensures { (w : World) → operations.are_equal (value_of texts.now x) (value_of texts.now y) w ≡ answer_of result }
 {
     match (x, y) {
         (Value::Int(a), Value::Int(b)) => Some(a == b),

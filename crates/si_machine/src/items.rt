@@ -1,6 +1,7 @@
 // What a `for` goes over.
 ghost use Rattle.std.specs.Prelude.{◌≡◌, ◌<◌, ◌+◌, ◌∷◌, [], List, drop, take, length, option_map, encode_utf8_all, IfSome};
 ghost use Rattle.si_semantics.specs.Value.{Text as Characters};
+ghost use Rattle.si_semantics.specs.World.{World};
 ghost use Rattle.si_semantics.specs.Operations.{iterator_of};
 ghost use Rattle.si_code.specs.Views.{text_at};
 ghost use Rattle.si_machine.specs.Values.{value_of, Fits, GivesNext, GivesItem};
@@ -36,7 +37,7 @@ impl Items {
 
     /// What a value gives, where it can be gone over.
     pub fn of(value: Value) -> Option<Items>
-        ensures items { (texts : List Characters) → option_map (items_of texts) result ≡ iterator_of (value_of texts value) }
+        ensures items { (texts : List Characters) (w : World) → option_map (items_of texts) result ≡ iterator_of (value_of texts value) w }
         ensures fits { IfSome result (λ items. (texts : List Characters) → Fits (length texts) value → FitsItems texts items) }
     {
         match value {

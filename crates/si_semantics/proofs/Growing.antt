@@ -7,8 +7,8 @@ use Rattle.si_semantics.specs.Tree.{BooleanOperator, Expr, Constant, Name, Unary
 use Rattle.si_semantics.specs.Tree as tree
 use Rattle.si_semantics.specs.Scope.{place_of, locals_of}
 use Rattle.si_semantics.specs.World.{World, Request, Bind, Run, Closing, Answer, Taken, Done, Replied, Got, Failed, Wants, Ran, Gave, Threw, Asked, bind_all}
-use Rattle.si_semantics.specs.Operations.{exception, operate, operate_unary, is_true, compare, load_global, load_local, call_provided, call_by_name, not_callable, wrong_arguments, too_deep, type_error, raised_by, raised_again, catches, Iterator, iterator_of, next_item, reply}
-use Rattle.si_semantics.specs.Meaning.{State, Raises, Returns, Breaks, Continues, Result, Gives, Leaves, Asks, Cut, Meaning, Scope, behind, with_active, visit, then, printed, raised, asked, ran, slot_at, read, assign, unassign, calls, choose, decides, compared, expr, exprs, operands, chain, after_turn, loop, for_loop, over, returning, raising, caught, active_in, finally, named, stmt, stmts, clauses, returned, entered, fitting, run_body, call, max_calls}
+use Rattle.si_semantics.specs.Operations.{exception, operate, operate_unary, is_true, compare, load_global, load_local, call_provided, call_by_name, not_callable, wrong_arguments, too_deep, type_error, raised_by, raised_again, catches, Iterator, iterator_of, Next, Item, Exhausted, Refuses, next_item, reply}
+use Rattle.si_semantics.specs.Meaning.{State, Raises, Returns, Breaks, Continues, Result, Gives, Leaves, Asks, Cut, Meaning, Scope, behind, with_active, visit, then, printed, raised, asked, ran, slot_at, read, assign, unassign, calls, choose, decides, compared, expr, exprs, operands, chain, after_turn, turn_of, loop, for_loop, over, returning, raising, caught, active_in, finally, named, stmt, stmts, clauses, returned, entered, fitting, run_body, call, max_calls}
 use Rattle.si_semantics.specs.Life.{Outcome, Returned, Told, Stops, IsGone, IsCut, Action, outcome_of, not_read, after_end, ends_with, run_ended, module_scope, run_of, takes, life, newborn, life_of}
 use Rattle.si_semantics.specs.Shows.{end_of}
 use Rattle.si_semantics.specs.Laws.{Grows, state_of, OneLife, LivesGrow, GoneStays}
@@ -72,7 +72,7 @@ choose_adds false r r' g h = h
 
 compared_adds : (cs : Comparisons) (t : Value) (rest : Meaning Value) → Adds rest → Adds (compared cs t rest)
 compared_adds NoComparisons t rest h s = same s
-compared_adds (MoreComparisons o a cs) t rest h s = choose_adds (is_true t) (rest s) (Gives t s) (h s) (same s)
+compared_adds (MoreComparisons o a cs) t rest h s = choose_adds (is_true t s.world) (rest s) (Gives t s) (h s) (same s)
 
 read_adds : (x : Text) (p : Option ℕ) → Adds (read x p)
 read_adds x None s = ran_adds (load_global x s.world) s
@@ -119,7 +119,7 @@ module _ (e : Scope) (calling : Calls_add e) where
     expr_adds (Boolean o a more) s = both_add s (expr e a (visit s)) _ (trans (visit_adds s) (expr_adds a (visit s))) (λ u s1. operands_add o u more s1)
     expr_adds (Compare a cs) s = both_add s (expr e a (visit s)) _ (trans (visit_adds s) (expr_adds a (visit s))) (λ u s1. chain_adds u cs s1)
     expr_adds (Conditional a b c) s =
-        both_add s (expr e a (visit s)) _ (trans (visit_adds s) (expr_adds a (visit s))) (λ t s1. choose_adds (is_true t) (expr e b s1) (expr e c s1) (expr_adds b s1) (expr_adds c s1))
+        both_add s (expr e a (visit s)) _ (trans (visit_adds s) (expr_adds a (visit s))) (λ t s1. choose_adds (is_true t s1.world) (expr e b s1) (expr e c s1) (expr_adds b s1) (expr_adds c s1))
 
     exprs_add : (args : Exprs) → Adds (exprs e args)
     exprs_add NoExprs s = same s
@@ -129,7 +129,7 @@ module _ (e : Scope) (calling : Calls_add e) where
     operands_add : (o : BooleanOperator) (u : Value) (more : Exprs) → Adds (operands e o u more)
     operands_add o u NoExprs s = same s
     operands_add o u (MoreExprs a more) s =
-        choose_adds (decides o u) (Gives u s) (then (expr e a s) (λ v s1. operands e o v more s1)) (same s) (both_add s (expr e a s) _ (expr_adds a s) (λ v s1. operands_add o v more s1))
+        choose_adds (decides o u s.world) (Gives u s) (then (expr e a s) (λ v s1. operands e o v more s1)) (same s) (both_add s (expr e a s) _ (expr_adds a s) (λ v s1. operands_add o v more s1))
 
     chain_adds : (u : Value) (cs : Comparisons) → Adds (chain e u cs)
     chain_adds u NoComparisons s = same s
@@ -158,17 +158,19 @@ loop_adds : (n : ℕ) (test : Meaning Value) (body last : Meaning (Unit {0})) �
 loop_adds zero test body last h k l s = same s
 loop_adds (suc n) test body last h k l s =
     both_add s (test (visit s)) _ (trans (visit_adds s) (h (visit s)))
-    (λ t s1. choose_adds (is_true t) (after_turn (body s1) (loop n test body last)) (last s1) (trans (k s1) (after_turn_adds (body s1) (loop n test body last) (loop_adds n test body last h k l))) (l s1))
+    (λ t s1. choose_adds (is_true t s1.world) (after_turn (body s1) (loop n test body last)) (last s1) (trans (k s1) (after_turn_adds (body s1) (loop n test body last) (loop_adds n test body last h k l))) (l s1))
 
 -- the turns of a `for`, by the next item
-items_add : (o : Option (Value × Iterator)) (n : ℕ) (put : Value → Meaning (Unit {0})) (body last : Meaning (Unit {0})) → ((v : Value) → Adds (put v)) → Adds body → Adds last → ((it : Iterator) → Adds (for_loop n put body last it)) → (s : State) → Grows s (state_at (elim o [ None ↦ last (visit s) | Some p ↦ then (put p.0 (visit s)) (λ u s1. after_turn (body s1) (for_loop n put body last p.1)) ]))
-items_add None n put body last h k l r s = trans (visit_adds s) (l (visit s))
-items_add (Some p) n put body last h k l r s =
-    both_add s (put p.0 (visit s)) _ (trans (visit_adds s) (h p.0 (visit s))) (λ u s1. trans (k s1) (after_turn_adds (body s1) (for_loop n put body last p.1) (r p.1)))
+items_add : (o : Next) (put : Value → Meaning (Unit {0})) (body last : Meaning (Unit {0})) (again : Iterator → Meaning (Unit {0})) → ((v : Value) → Adds (put v)) → Adds body → Adds last → ((it : Iterator) → Adds (again it)) → Adds (turn_of o put body last again)
+items_add (Item v more) put body last again h k l r s =
+    both_add s (put v s) _ (h v s) (λ u s1. trans (k s1) (after_turn_adds (body s1) (again more) (r more)))
+items_add Exhausted put body last again h k l r s = l s
+items_add (Refuses k message) put body last again h i l r s = raised_adds (exception k (Some (Str message)) s.world) s
 
 for_loop_adds : (n : ℕ) (put : Value → Meaning (Unit {0})) (body last : Meaning (Unit {0})) → ((v : Value) → Adds (put v)) → Adds body → Adds last → (it : Iterator) → Adds (for_loop n put body last it)
 for_loop_adds zero put body last h k l it s = same s
-for_loop_adds (suc n) put body last h k l it s = items_add (next_item it) n put body last h k l (λ j. for_loop_adds n put body last h k l j) s
+for_loop_adds (suc n) put body last h k l it s =
+    trans (visit_adds s) (items_add (next_item it s.world) put body last (for_loop n put body last) h k l (λ j. for_loop_adds n put body last h k l j) (visit s))
 
 over_adds : (o : Option Iterator) (f : Iterator → Meaning (Unit {0})) → ((it : Iterator) → Adds (f it)) → Adds (over o f)
 over_adds None f h s = raised_adds (type_error s.world) s
@@ -219,7 +221,7 @@ mutual
   stmt_adds e h Pass s = visit_adds s
   stmt_adds e h (If a b c) s =
       both_add s (expr e a (visit s)) _ (trans (visit_adds s) (expr_adds e h a (visit s)))
-      (λ t s1. choose_adds (is_true t) (stmts e b s1) (stmts (behind (functions_in b) e) c s1) (stmts_add e h b s1) (stmts_add (behind (functions_in b) e) h c s1))
+      (λ t s1. choose_adds (is_true t s1.world) (stmts e b s1) (stmts (behind (functions_in b) e) c s1) (stmts_add e h b s1) (stmts_add (behind (functions_in b) e) h c s1))
   stmt_adds e h (While a b c) s =
       trans (visit_adds s)
       (loop_adds e.turns (expr e a) (stmts e b) (stmts (behind (functions_in b) e) c)
@@ -232,7 +234,7 @@ mutual
   stmt_adds e h (Raise a) s = trans (visit_adds s) (raising_adds e h a (visit s))
   stmt_adds e h (For x a b c) s =
       both_add s (expr e a (visit s)) _ (trans (visit_adds s) (expr_adds e h a (visit s)))
-      (λ v s1. over_adds (iterator_of v) _
+      (λ v s1. over_adds (iterator_of v s1.world) _
       (λ it. for_loop_adds e.turns (λ u s2. assign x (place_of x e.locals) u (visit s2)) (stmts e b) (stmts (behind (functions_in b) e) c)
       (λ u s2. trans (visit_adds s2) (assign_adds x (place_of x e.locals) u (visit s2))) (λ s2. stmts_add e h b s2) (λ s2. stmts_add (behind (functions_in b) e) h c s2) it) s1)
   stmt_adds e h (Try b cs c) s =
@@ -257,7 +259,7 @@ mutual
   clauses_add e h (MoreClauses (Some a) y b cs) x s =
       both_add s (expr e a (visit s)) _ (trans (visit_adds s) (expr_adds e h a (visit s)))
       (λ v s1. both_add s1 (ran (catches v x s1.world) s1) _ (ran_adds (catches v x s1.world) s1)
-      (λ t s2. choose_adds (is_true t) (named e y x (stmts e b) s2) (clauses (behind (functions_in b) e) cs x s2)
+      (λ t s2. choose_adds (is_true t s2.world) (named e y x (stmts e b) s2) (clauses (behind (functions_in b) e) cs x s2)
       (named_adds e y x (stmts e b) (λ s3. stmts_add e h b s3) s2) (clauses_add (behind (functions_in b) e) h cs x s2)))
 
 -- ---- growing, of a call
@@ -377,7 +379,7 @@ choose_further b false r q r' q' h k = k
 
 compared_further : (b : List Answer) (cs : Comparisons) (t : Value) (rest rest' : Meaning Value) → ((s : State) → Further b (rest s) (rest' (more b s))) → (s : State) → Further b (compared cs t rest s) (compared cs t rest' (more b s))
 compared_further b NoComparisons t rest rest' h s = refl
-compared_further b (MoreComparisons o a cs) t rest rest' h s = choose_further b (is_true t) (rest s) (Gives t s) (rest' (more b s)) (Gives t (more b s)) (h s) refl
+compared_further b (MoreComparisons o a cs) t rest rest' h s = choose_further b (is_true t s.world) (rest s) (Gives t s) (rest' (more b s)) (Gives t (more b s)) (h s) refl
 
 after_turn_further : (b : List Answer) (r r' : Result (Unit {0})) (again again' : Meaning (Unit {0})) → Further b r r' → ((s : State) → Further b (again s) (again' (more b s))) → Adds again' → Further b (after_turn r again) (after_turn r' again')
 after_turn_further b (Gives u s) r' again again' h k g = subst (λ x. Further b (again s) (after_turn x again')) (sym h) (k s)
@@ -398,8 +400,8 @@ module _ (b : List Answer) (test test' : Meaning Value) (body body' last last' :
   loop_further (suc n) (suc m) fewer s =
       let adds = loop_adds m test' body' last' test_adds body_adds last_adds in
       then_further b _ _ _ _ (tests (visit s))
-      (λ t s1. choose_further b (is_true t) _ _ _ _ (after_turn_further b (body s1) (body' (more b s1)) (loop n test body last) (loop m test' body' last') (bodies s1) (λ s2. loop_further n m (omega arith) s2) adds) (lasts s1))
-      (λ t s1. choose_adds (is_true t) (after_turn (body' s1) (loop m test' body' last')) (last' s1) (trans (body_adds s1) (after_turn_adds (body' s1) (loop m test' body' last') adds)) (last_adds s1))
+      (λ t s1. choose_further b (is_true t s1.world) _ _ _ _ (after_turn_further b (body s1) (body' (more b s1)) (loop n test body last) (loop m test' body' last') (bodies s1) (λ s2. loop_further n m (omega arith) s2) adds) (lasts s1))
+      (λ t s1. choose_adds (is_true t s1.world) (after_turn (body' s1) (loop m test' body' last')) (last' s1) (trans (body_adds s1) (after_turn_adds (body' s1) (loop m test' body' last') adds)) (last_adds s1))
 
 read_further : (b : List Answer) (x : Text) (p : Option ℕ) (s : State) → Further b (read x p s) (read x p (more b s))
 read_further b x None s = ran_further b (load_global x s.world) s
@@ -421,20 +423,20 @@ over_further b (Some it) f f' h s = h it s
 module _ (b : List Answer) (put put' : Value → Meaning (Unit {0})) (body body' last last' : Meaning (Unit {0}))
     (puts : (v : Value) (s : State) → Further b (put v s) (put' v (more b s))) (bodies : (s : State) → Further b (body s) (body' (more b s))) (lasts : (s : State) → Further b (last s) (last' (more b s)))
     (put_adds : (v : Value) → Adds (put' v)) (body_adds : Adds body') (last_adds : Adds last') where
-  items_further : (o : Option (Value × Iterator)) (n m : ℕ) → ((it : Iterator) (s : State) → Further b (for_loop n put body last it s) (for_loop m put' body' last' it (more b s))) → (s : State)
-      → Further b (elim o [ None ↦ last (visit s) | Some p ↦ then (put p.0 (visit s)) (λ u s1. after_turn (body s1) (for_loop n put body last p.1)) ])
-      (elim o [ None ↦ last' (visit (more b s)) | Some p ↦ then (put' p.0 (visit (more b s))) (λ u s1. after_turn (body' s1) (for_loop m put' body' last' p.1)) ])
-  items_further None n m h s = lasts (visit s)
-  items_further (Some p) n m h s =
-      let adds = for_loop_adds m put' body' last' put_adds body_adds last_adds p.1 in
-      then_further b _ _ _ _ (puts p.0 (visit s))
-      (λ u s1. after_turn_further b (body s1) (body' (more b s1)) (for_loop n put body last p.1) (for_loop m put' body' last' p.1) (bodies s1) (λ s2. h p.1 s2) adds)
-      (λ u s1. trans (body_adds s1) (after_turn_adds (body' s1) (for_loop m put' body' last' p.1) adds))
+  items_further : (o : Next) (n m : ℕ) → ((it : Iterator) (s : State) → Further b (for_loop n put body last it s) (for_loop m put' body' last' it (more b s))) → (s : State)
+      → Further b (turn_of o put body last (for_loop n put body last) s) (turn_of o put' body' last' (for_loop m put' body' last') (more b s))
+  items_further (Item v it) n m h s =
+      let adds = for_loop_adds m put' body' last' put_adds body_adds last_adds it in
+      then_further b _ _ _ _ (puts v s)
+      (λ u s1. after_turn_further b (body s1) (body' (more b s1)) (for_loop n put body last it) (for_loop m put' body' last' it) (bodies s1) (λ s2. h it s2) adds)
+      (λ u s1. trans (body_adds s1) (after_turn_adds (body' s1) (for_loop m put' body' last' it) adds))
+  items_further Exhausted n m h s = lasts s
+  items_further (Refuses k message) n m h s = refl
 
   for_loop_further : (n m : ℕ) → n ≤ m → (it : Iterator) (s : State) → Further b (for_loop n put body last it s) (for_loop m put' body' last' it (more b s))
   for_loop_further zero m fewer it s = let g = for_loop_adds m put' body' last' put_adds body_adds last_adds it (more b s) in record { pieces = g.pieces; visits = g.visits }
   for_loop_further (suc n) zero fewer it s = absurd (omega arith)
-  for_loop_further (suc n) (suc m) fewer it s = items_further (next_item it) n m (λ j s1. for_loop_further n m (omega arith) j s1) s
+  for_loop_further (suc n) (suc m) fewer it s = items_further (next_item it s.world) n m (λ j s1. for_loop_further n m (omega arith) j s1) (visit s)
 
 caught_further : (b : List Answer) (r r' : Result (Unit {0})) (handle handle' : ℕ → Meaning (Unit {0})) (last last' : Meaning (Unit {0})) → Further b r r' → ((x : ℕ) (s : State) → Further b (handle x s) (handle' x (more b s))) → ((s : State) → Further b (last s) (last' (more b s))) → ((x : ℕ) → Adds (handle' x)) → Adds last' → Further b (caught r handle last) (caught r' handle' last')
 caught_further b (Gives u s) r' handle handle' last last' h k l g a = subst (λ z. Further b (last s) (caught z handle' last')) (sym h) (l s)
@@ -493,8 +495,8 @@ module _ (b : List Answer) (locals : List Text) (n m : ℕ) (fewer : n ≤ m) (c
     expr_further z i (Compare a cs) s = then_further b _ _ _ _ (expr_further z i a (visit s)) (λ u s1. chain_further z i u cs s1) (λ u s1. chain_adds (scope2 z i) adds u cs s1)
     expr_further z i (Conditional a c d) s =
         then_further b _ _ _ _ (expr_further z i a (visit s))
-        (λ t s1. choose_further b (is_true t) _ _ _ _ (expr_further z i c s1) (expr_further z i d s1))
-        (λ t s1. choose_adds (is_true t) (expr (scope2 z i) c s1) (expr (scope2 z i) d s1) (expr_adds (scope2 z i) adds c s1) (expr_adds (scope2 z i) adds d s1))
+        (λ t s1. choose_further b (is_true t s1.world) _ _ _ _ (expr_further z i c s1) (expr_further z i d s1))
+        (λ t s1. choose_adds (is_true t s1.world) (expr (scope2 z i) c s1) (expr (scope2 z i) d s1) (expr_adds (scope2 z i) adds c s1) (expr_adds (scope2 z i) adds d s1))
 
     exprs_further : (z : Option ℕ) (i : ℕ) (args : Exprs) (s : State) → Further b (exprs (scope1 z i) args s) (exprs (scope2 z i) args (more b s))
     exprs_further z i NoExprs s = refl
@@ -506,7 +508,7 @@ module _ (b : List Answer) (locals : List Text) (n m : ℕ) (fewer : n ≤ m) (c
     operands_further : (z : Option ℕ) (i : ℕ) (o : BooleanOperator) (u : Value) (c : Exprs) (s : State) → Further b (operands (scope1 z i) o u c s) (operands (scope2 z i) o u c (more b s))
     operands_further z i o u NoExprs s = refl
     operands_further z i o u (MoreExprs a c) s =
-        choose_further b (decides o u) _ _ _ _ refl
+        choose_further b (decides o u s.world) _ _ _ _ refl
         (then_further b _ _ _ _ (expr_further z i a s) (λ v s1. operands_further z i o v c s1) (λ v s1. operands_add (scope2 z i) adds o v c s1))
 
     chain_further : (z : Option ℕ) (i : ℕ) (u : Value) (cs : Comparisons) (s : State) → Further b (chain (scope1 z i) u cs s) (chain (scope2 z i) u cs (more b s))
@@ -536,9 +538,9 @@ module _ (b : List Answer) (locals : List Text) (n m : ℕ) (fewer : n ≤ m) (c
       (λ u s1. trans (g s1) (finally_adds z (suite' s1) (λ active s2. unassign y p s2) (λ active s2. unassign_adds y p s2)))
 
   -- what follows the test of a clause only adds
-  tested_adds : (z : Option ℕ) (i : ℕ) (y : Option Text) (x : ℕ) (c : Stmts) (cs : Clauses) (t : Value) (s : State) → Grows s (state_at (choose (is_true t) (named (scope2 z i) y x (stmts (scope2 z i) c) s) (clauses (scope2 z (i + length (functions_in c))) cs x s)))
+  tested_adds : (z : Option ℕ) (i : ℕ) (y : Option Text) (x : ℕ) (c : Stmts) (cs : Clauses) (t : Value) (s : State) → Grows s (state_at (choose (is_true t s.world) (named (scope2 z i) y x (stmts (scope2 z i) c) s) (clauses (scope2 z (i + length (functions_in c))) cs x s)))
   tested_adds z i y x c cs t s =
-      choose_adds (is_true t) (named (scope2 z i) y x (stmts (scope2 z i) c) s) (clauses (scope2 z (i + length (functions_in c))) cs x s)
+      choose_adds (is_true t s.world) (named (scope2 z i) y x (stmts (scope2 z i) c) s) (clauses (scope2 z (i + length (functions_in c))) cs x s)
       (named_adds (scope2 z i) y x (stmts (scope2 z i) c) (λ s1. stmts_add (scope2 z i) adds c s1) s) (clauses_add (scope2 z (i + length (functions_in c))) adds cs x s)
 
   mutual
@@ -559,8 +561,8 @@ module _ (b : List Answer) (locals : List Text) (n m : ℕ) (fewer : n ≤ m) (c
     stmt_further z i (If a c d) s =
         let j = i + length (functions_in c) in
         then_further b _ _ _ _ (expr_further z i a (visit s))
-        (λ t s1. choose_further b (is_true t) _ _ _ _ (stmts_further z i c s1) (stmts_further z j d s1))
-        (λ t s1. choose_adds (is_true t) (stmts (scope2 z i) c s1) (stmts (scope2 z j) d s1) (stmts_add (scope2 z i) adds c s1) (stmts_add (scope2 z j) adds d s1))
+        (λ t s1. choose_further b (is_true t s1.world) _ _ _ _ (stmts_further z i c s1) (stmts_further z j d s1))
+        (λ t s1. choose_adds (is_true t s1.world) (stmts (scope2 z i) c s1) (stmts (scope2 z j) d s1) (stmts_add (scope2 z i) adds c s1) (stmts_add (scope2 z j) adds d s1))
     stmt_further z i (While a c d) s =
         let j = i + length (functions_in c) in
         loop_further b (expr (scope1 z i) a) (expr (scope2 z i) a) (stmts (scope1 z i) c) (stmts (scope2 z i) c) (stmts (scope1 z j) d) (stmts (scope2 z j) d)
@@ -576,11 +578,11 @@ module _ (b : List Answer) (locals : List Text) (n m : ℕ) (fewer : n ≤ m) (c
         let p = place_of x locals in
         let j = i + length (functions_in c) in
         then_further b _ _ _ _ (expr_further z i a (visit s))
-        (λ v s1. over_further b (iterator_of v) _ _
+        (λ v s1. over_further b (iterator_of v s1.world) _ _
         (λ it s2. for_loop_further b (λ u s3. assign x p u (visit s3)) (λ u s3. assign x p u (visit s3)) (stmts (scope1 z i) c) (stmts (scope2 z i) c) (stmts (scope1 z j) d) (stmts (scope2 z j) d)
         (λ u s3. assign_further b x p u (visit s3)) (λ s3. stmts_further z i c s3) (λ s3. stmts_further z j d s3)
         (λ u s3. trans (visit_adds s3) (assign_adds x p u (visit s3))) (λ s3. stmts_add (scope2 z i) adds c s3) (λ s3. stmts_add (scope2 z j) adds d s3) n m fewer it s2) s1)
-        (λ v s1. over_adds (iterator_of v) _
+        (λ v s1. over_adds (iterator_of v s1.world) _
         (λ it. for_loop_adds m (λ u s3. assign x p u (visit s3)) (stmts (scope2 z i) c) (stmts (scope2 z j) d)
         (λ u s3. trans (visit_adds s3) (assign_adds x p u (visit s3))) (λ s3. stmts_add (scope2 z i) adds c s3) (λ s3. stmts_add (scope2 z j) adds d s3) it) s1)
     stmt_further z i (Try c cs d) s =
@@ -618,7 +620,7 @@ module _ (b : List Answer) (locals : List Text) (n m : ℕ) (fewer : n ≤ m) (c
         let j = i + length (functions_in c) in
         then_further b _ _ _ _ (expr_further z i a (visit s))
         (λ v s1. then_further b _ _ _ _ (ran_further b (catches v x s1.world) s1)
-        (λ t s2. choose_further b (is_true t) _ _ _ _
+        (λ t s2. choose_further b (is_true t s2.world) _ _ _ _
         (named_further z i y x (stmts (scope1 z i) c) (stmts (scope2 z i) c) (λ s3. stmts_further z i c s3) (λ s3. stmts_add (scope2 z i) adds c s3) s2) (clauses_further z j cs x s2))
         (λ t s2. tested_adds z i y x c cs t s2))
         (λ v s1. both_add s1 (ran (catches v x s1.world) s1) _ (ran_adds (catches v x s1.world) s1) (λ t s2. tested_adds z i y x c cs t s2))

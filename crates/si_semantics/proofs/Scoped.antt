@@ -5,8 +5,8 @@ use Rattle.si_semantics.specs.Value.{Text, Value, Nothing, Truth, Int, Str, Prov
 use Rattle.si_semantics.specs.Tree.{BooleanOperator, Expr, Constant, Name, Unary, Binary, Call, Boolean, Compare, Conditional, Exprs, NoExprs, MoreExprs, Comparisons, NoComparisons, MoreComparisons, Stmt, Evaluate, Assign, Augment, Pass, If, While, For, Break, Continue, Define, Return, Global, Raise, Try, Finally, Stmts, NoStmts, MoreStmts, Clauses, NoClauses, MoreClauses, functions_of, functions_in, functions_in_clauses}
 use Rattle.si_semantics.specs.Tree as tree
 use Rattle.si_semantics.specs.World.{Request, Answer, Replied, Got, Failed, Wants, Ran, Gave, Threw, Asked}
-use Rattle.si_semantics.specs.Operations.{exception, operate, operate_unary, is_true, compare, load_global, load_local, call_provided, call_by_name, not_callable, wrong_arguments, too_deep, catches, Iterator, iterator_of, next_item, reply}
-use Rattle.si_semantics.specs.Meaning.{State, Leave, Raises, Returns, Breaks, Continues, Result, Gives, Leaves, Asks, Cut, Meaning, Scope, behind, visit, then, raised, asked, ran, slot_at, read, assign, calls, choose, decides, compared, expr, exprs, operands, chain, after_turn, loop, for_loop, over, returning, raising, caught, active_in, finally, unassign, named, with_active, clauses, stmt, stmts, returned, fitting, run_body, call, max_calls}
+use Rattle.si_semantics.specs.Operations.{exception, operate, operate_unary, is_true, compare, load_global, load_local, call_provided, call_by_name, not_callable, wrong_arguments, too_deep, catches, Iterator, iterator_of, Next, Item, Exhausted, Refuses, next_item, reply}
+use Rattle.si_semantics.specs.Meaning.{State, Leave, Raises, Returns, Breaks, Continues, Result, Gives, Leaves, Asks, Cut, Meaning, Scope, behind, visit, then, raised, asked, ran, slot_at, read, assign, calls, choose, decides, compared, expr, exprs, operands, chain, after_turn, turn_of, loop, for_loop, over, returning, raising, caught, active_in, finally, unassign, named, with_active, clauses, stmt, stmts, returned, fitting, run_body, call, max_calls}
 use Rattle.si_semantics.specs.Scope.{place_of, Within, InText, InFunction, in_loop, may_return, looping, finishing, stmt_scoped, stmts_scoped, clauses_scoped}
 use Rattle.si_semantics.specs.Life.{module_scope}
 use Rattle.si_semantics.specs.Laws.{LeftByExceptions}
@@ -63,7 +63,7 @@ unassign_keeps w x (Some k) s = tt
 
 compared_keeps : (w : Within) (cs : Comparisons) (t : Value) (rest : Meaning Value) → ((s : State) → Keeps w (rest s)) → (s : State) → Keeps w (compared cs t rest s)
 compared_keeps w NoComparisons t rest h s = tt
-compared_keeps w (MoreComparisons o a cs) t rest h s = choose_keeps w (is_true t) (rest s) (Gives t s) (h s) tt
+compared_keeps w (MoreComparisons o a cs) t rest h s = choose_keeps w (is_true t s.world) (rest s) (Gives t s) (h s) tt
 
 -- ---- calls
 
@@ -118,7 +118,7 @@ module _ (w : Within) (e : Scope) (calling : Calls_keep e) where
     expr_keeps (Boolean o a more) s = then_keeps w (expr e a (visit s)) _ (expr_keeps a (visit s)) (λ u s1. operands_keep o u more s1)
     expr_keeps (Compare a cs) s = then_keeps w (expr e a (visit s)) _ (expr_keeps a (visit s)) (λ u s1. chain_keeps u cs s1)
     expr_keeps (Conditional a b c) s =
-        then_keeps w (expr e a (visit s)) _ (expr_keeps a (visit s)) (λ t s1. choose_keeps w (is_true t) (expr e b s1) (expr e c s1) (expr_keeps b s1) (expr_keeps c s1))
+        then_keeps w (expr e a (visit s)) _ (expr_keeps a (visit s)) (λ t s1. choose_keeps w (is_true t s1.world) (expr e b s1) (expr e c s1) (expr_keeps b s1) (expr_keeps c s1))
 
     exprs_keep : (args : Exprs) (s : State) → Keeps w (exprs e args s)
     exprs_keep NoExprs s = tt
@@ -127,7 +127,7 @@ module _ (w : Within) (e : Scope) (calling : Calls_keep e) where
     operands_keep : (o : BooleanOperator) (u : Value) (more : Exprs) (s : State) → Keeps w (operands e o u more s)
     operands_keep o u NoExprs s = tt
     operands_keep o u (MoreExprs a more) s =
-        choose_keeps w (decides o u) (Gives u s) (then (expr e a s) (λ v s1. operands e o v more s1)) tt (then_keeps w (expr e a s) _ (expr_keeps a s) (λ v s1. operands_keep o v more s1))
+        choose_keeps w (decides o u s.world) (Gives u s) (then (expr e a s) (λ v s1. operands e o v more s1)) tt (then_keeps w (expr e a s) _ (expr_keeps a s) (λ v s1. operands_keep o v more s1))
 
     chain_keeps : (u : Value) (cs : Comparisons) (s : State) → Keeps w (chain e u cs s)
     chain_keeps u NoComparisons s = tt
@@ -156,19 +156,20 @@ loop_keeps : (w : Within) (test : Meaning Value) (body last : Meaning (Unit {0})
 loop_keeps w test body last h k m zero s = tt
 loop_keeps w test body last h k m (suc n) s =
     then_keeps w (test (visit s)) _ (h (visit s))
-    (λ t s1. choose_keeps w (is_true t) (after_turn (body s1) (loop n test body last)) (last s1) (turn_keeps w (body s1) (loop n test body last) (k s1) (λ s2. loop_keeps w test body last h k m n s2)) (m s1))
+    (λ t s1. choose_keeps w (is_true t s1.world) (after_turn (body s1) (loop n test body last)) (last s1) (turn_keeps w (body s1) (loop n test body last) (k s1) (λ s2. loop_keeps w test body last h k m n s2)) (m s1))
 
 -- the same over items: a turn with an item, or the else suite
 item_keeps : (w : Within) (put : Value → Meaning (Unit {0})) (body last : Meaning (Unit {0})) (again : Iterator → Meaning (Unit {0})) → ((v : Value) (s : State) → Keeps w (put v s)) → ((s : State) → Keeps (looping w) (body s)) → ((s : State) → Keeps w (last s))
-    → ((it : Iterator) (s : State) → Keeps w (again it s)) → (o : Option (Value × Iterator)) (s : State)
-    → Keeps w (elim o [ None ↦ last (visit s) | Some p ↦ then (put p.0 (visit s)) (λ u s1. after_turn (body s1) (again p.1)) ])
-item_keeps w put body last again h k m l None s = m (visit s)
-item_keeps w put body last again h k m l (Some p) s = then_keeps w (put p.0 (visit s)) _ (h p.0 (visit s)) (λ u s1. turn_keeps w (body s1) (again p.1) (k s1) (λ s2. l p.1 s2))
+    → ((it : Iterator) (s : State) → Keeps w (again it s)) → (o : Next) (s : State)
+    → Keeps w (turn_of o put body last again s)
+item_keeps w put body last again h k m l (Item v it) s = then_keeps w (put v s) _ (h v s) (λ u s1. turn_keeps w (body s1) (again it) (k s1) (λ s2. l it s2))
+item_keeps w put body last again h k m l Exhausted s = m s
+item_keeps w put body last again h k m l (Refuses q message) s = tt
 
 for_keeps : (w : Within) (put : Value → Meaning (Unit {0})) (body last : Meaning (Unit {0})) → ((v : Value) (s : State) → Keeps w (put v s)) → ((s : State) → Keeps (looping w) (body s)) → ((s : State) → Keeps w (last s))
     → (n : ℕ) (it : Iterator) (s : State) → Keeps w (for_loop n put body last it s)
 for_keeps w put body last h k m zero it s = tt
-for_keeps w put body last h k m (suc n) it s = item_keeps w put body last (for_loop n put body last) h k m (λ more s1. for_keeps w put body last h k m n more s1) (next_item it) s
+for_keeps w put body last h k m (suc n) it s = item_keeps w put body last (for_loop n put body last) h k m (λ more s1. for_keeps w put body last h k m n more s1) (next_item it s.world) (visit s)
 
 over_keeps : (w : Within) (o : Option Iterator) (f : Iterator → Meaning (Unit {0})) → ((it : Iterator) (s : State) → Keeps w (f it s)) → (s : State) → Keeps w (over o f s)
 over_keeps w None f h s = tt
@@ -242,7 +243,7 @@ mutual
   stmt_keeps w e k (If a b c) s h =
       let g = both_true (stmts_scoped w b) (stmts_scoped w c) h in
       then_keeps w (expr e a (visit s)) _ (expr_keeps w e k a (visit s))
-      (λ t s1. choose_keeps w (is_true t) (stmts e b s1) (stmts (behind (functions_in b) e) c s1) (stmts_keep w e k b s1 g.0) (stmts_keep w (behind (functions_in b) e) k c s1 g.1))
+      (λ t s1. choose_keeps w (is_true t s1.world) (stmts e b s1) (stmts (behind (functions_in b) e) c s1) (stmts_keep w e k b s1 g.0) (stmts_keep w (behind (functions_in b) e) k c s1 g.1))
   stmt_keeps w e k (While a b c) s h =
       let g = both_true (stmts_scoped (looping w) b) (stmts_scoped w c) h in
       loop_keeps w (expr e a) (stmts e b) (stmts (behind (functions_in b) e) c)
@@ -250,7 +251,7 @@ mutual
   stmt_keeps w e k (For x a b c) s h =
       let g = both_true (stmts_scoped (looping w) b) (stmts_scoped w c) h in
       then_keeps w (expr e a (visit s)) _ (expr_keeps w e k a (visit s))
-      (λ v s1. over_keeps w (iterator_of v) _
+      (λ v s1. over_keeps w (iterator_of v s1.world) _
       (λ it s2. for_keeps w (λ u s3. assign x (place_of x e.locals) u (visit s3)) (stmts e b) (stmts (behind (functions_in b) e) c) (λ u s3. assign_keeps w x (place_of x e.locals) u (visit s3))
       (λ s3. stmts_keep (looping w) e k b s3 g.0) (λ s3. stmts_keep w (behind (functions_in b) e) k c s3 g.1) e.turns it s2) s1)
   stmt_keeps w e k Break s h = h
@@ -283,7 +284,7 @@ mutual
       let g = both_true (stmts_scoped w b) (clauses_scoped w cs) h in
       then_keeps w (expr e a (visit s)) _ (expr_keeps w e k a (visit s))
       (λ v s1. then_keeps w (ran (catches v x s1.world) s1) _ (ran_keeps w (catches v x s1.world) s1)
-      (λ t s2. choose_keeps w (is_true t) (named e y x (stmts e b) s2) (clauses (behind (functions_in b) e) cs x s2)
+      (λ t s2. choose_keeps w (is_true t s2.world) (named e y x (stmts e b) s2) (clauses (behind (functions_in b) e) cs x s2)
       (named_keeps w e y x (stmts e b) (λ s3. stmts_keep w e k b s3 g.0) s2) (clauses_keep w (behind (functions_in b) e) k cs x s2 g.1)))
 
   stmts_keep : (w : Within) (e : Scope) → Calls_keep e → (b : Stmts) (s : State) → stmts_scoped w b ≡ true → Keeps w (stmts e b s)

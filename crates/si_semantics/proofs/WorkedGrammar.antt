@@ -6,7 +6,7 @@ use Rattle.si_semantics.specs.Tokens as tokens
 use Rattle.si_semantics.specs.Words as words
 use Rattle.si_semantics.specs.Words.{symbols, keywords}
 use Rattle.si_semantics.specs.Layout.{Line}
-use Rattle.si_semantics.specs.Grammar.{Terminal, NAME, NUMBER, Sign, Word, Positional, ByName}
+use Rattle.si_semantics.specs.Grammar.{Terminal, NAME, NUMBER, Sign, Positional, ByName}
 use Rattle.si_semantics.specs.Cases.{int, arguments, suite}
 use Rattle.si_semantics.specs.FunctionCases.{f, x}
 use Rattle.si_semantics.specs.GrammarCases.{f_of_x, an_if, an_elif, a_call, a_while, difference, bracketed, negated_chain, GrammarCases}

@@ -1,11 +1,11 @@
 -- What a tree means (Python Language Reference 3.14, 6 to 8): no program counter, no frame, no stack.
 use Rattle.std.specs.Prelude.{ℕ, zero, suc, ◌+◌, List, [], ◌∷◌, ◌++◌, ◌-◌, length, Bool, true, false, not, Option, Some, None, nat_eq, slice_get, slice_set}
-use Rattle.si_semantics.specs.Value.{Text, Value, Nothing, Function, Address}
+use Rattle.si_semantics.specs.Value.{Text, Value, Nothing, Str, Function, Address}
 use Rattle.si_semantics.specs.Tree.{BooleanOperator, And, Or, Expr, Constant, Name, Unary, Binary, Call, Boolean, Compare, Conditional, Exprs, NoExprs, MoreExprs, Comparisons, NoComparisons, MoreComparisons, Stmt, Evaluate, Assign, Augment, Pass, If, While, For, Break, Continue, Define, Return, Global, Raise, Try, Finally, Stmts, NoStmts, MoreStmts, Clauses, NoClauses, MoreClauses, functions_of, functions_in, functions_in_clauses}
 use Rattle.si_semantics.specs.Tree as tree
 use Rattle.si_semantics.specs.Scope.{place_of, locals_of}
 use Rattle.si_semantics.specs.World.{World, Request, Answer, Got, Failed, Wants, Ran, Gave, Threw, Asked, set_global, unset_global}
-use Rattle.si_semantics.specs.Operations.{exception, operate, operate_unary, is_true, compare, load_global, load_local, call_provided, call_by_name, not_callable, wrong_arguments, too_deep, type_error, raised_by, raised_again, catches, Iterator, iterator_of, next_item, reply}
+use Rattle.si_semantics.specs.Operations.{exception, operate, operate_unary, is_true, compare, load_global, load_local, call_provided, call_by_name, not_callable, wrong_arguments, too_deep, type_error, raised_by, raised_again, catches, Iterator, iterator_of, Next, Item, Exhausted, Refuses, next_item, reply}
 
 -- a printed text, and its number: the visits begun before it
 pub record Piece : Type 0 where
@@ -124,14 +124,14 @@ choose true a b = a
 choose false a b = b
 
 -- `and` ends with the first operand that is not true, `or` with the first that is (Language Reference, 6.11)
-abbrev pub decides : BooleanOperator → Value → Bool
-decides And v = not (is_true v)
-decides Or v = is_true v
+abbrev pub decides : BooleanOperator → Value → World → Bool
+decides And v w = not (is_true v w)
+decides Or v w = is_true v w
 
 -- a comparison of a chain gave t: it ends with the last one, and with one that is not true (Language Reference, 6.10)
 abbrev pub compared : Comparisons → Value → Meaning Value → Meaning Value
 compared NoComparisons t rest s = Gives t s
-compared (MoreComparisons o a cs) t rest s = choose (is_true t) (rest s) (Gives t s)
+compared (MoreComparisons o a cs) t rest s = choose (is_true t s.world) (rest s) (Gives t s)
 
 abbrev mutual
   -- an expression, its operands from left to right (Language Reference, 6.16); of a call the callee first (6.3.3), of a
@@ -144,7 +144,7 @@ abbrev mutual
   expr e (Call f args names) s = then (expr e f (visit s)) (λ g s1. then (exprs e args s1) (λ vs s2. calls e g vs names s2))
   expr e (Boolean o a more) s = then (expr e a (visit s)) (λ u s1. operands e o u more s1)
   expr e (Compare a cs) s = then (expr e a (visit s)) (λ u s1. chain e u cs s1)
-  expr e (Conditional a b c) s = then (expr e a (visit s)) (λ t s1. choose (is_true t) (expr e b s1) (expr e c s1))
+  expr e (Conditional a b c) s = then (expr e a (visit s)) (λ t s1. choose (is_true t s1.world) (expr e b s1) (expr e c s1))
 
   -- expressions in a row
   pub exprs : Scope → Exprs → Meaning (List Value)
@@ -154,7 +154,7 @@ abbrev mutual
   -- what `and` or `or` makes of an operand and those behind it: each is evaluated unless one before it decides
   pub operands : Scope → BooleanOperator → Value → Exprs → Meaning Value
   operands e o u NoExprs s = Gives u s
-  operands e o u (MoreExprs a more) s = choose (decides o u) (Gives u s) (then (expr e a s) (λ v s1. operands e o v more s1))
+  operands e o u (MoreExprs a more) s = choose (decides o u s.world) (Gives u s) (then (expr e a s) (λ v s1. operands e o v more s1))
 
   -- a chain of comparisons behind an operand
   pub chain : Scope → Value → Comparisons → Meaning Value
@@ -177,17 +177,20 @@ after_turn (Cut s) again = Cut s
 -- turn too
 abbrev pub loop : ℕ → Meaning Value → Meaning (Unit {0}) → Meaning (Unit {0}) → Meaning (Unit {0})
 loop zero test body last s = Cut s
-loop (suc n) test body last s = then (test (visit s)) (λ t s1. choose (is_true t) (after_turn (body s1) (loop n test body last)) (last s1))
+loop (suc n) test body last s = then (test (visit s)) (λ t s1. choose (is_true t s1.world) (after_turn (body s1) (loop n test body last)) (last s1))
+
+-- a turn of a `for`: with an item, which is put where it belongs; at the end of the items the else suite; or an exception
+-- (Language Reference, 8.3)
+abbrev pub turn_of : Next → (Value → Meaning (Unit {0})) → Meaning (Unit {0}) → Meaning (Unit {0}) → (Iterator → Meaning (Unit {0})) → Meaning (Unit {0})
+turn_of (Item v more) put body last again s = then (put v s) (λ u s1. after_turn (body s1) (again more))
+turn_of Exhausted put body last again s = last s
+turn_of (Refuses k message) put body last again s = raised (exception k (Some (Str message)) s.world) s
 
 -- a loop over items, of at most n turns; to ask for an item is a turn, also where there is none (Language Reference,
 -- 8.3)
 abbrev pub for_loop : ℕ → (Value → Meaning (Unit {0})) → Meaning (Unit {0}) → Meaning (Unit {0}) → Iterator → Meaning (Unit {0})
 for_loop zero put body last it s = Cut s
-for_loop (suc n) put body last it s =
-    elim (next_item it) [
-      | None ↦ last (visit s)
-      | Some p ↦ then (put p.0 (visit s)) (λ u s1. after_turn (body s1) (for_loop n put body last p.1))
-    ]
+for_loop (suc n) put body last it s = turn_of (next_item it s.world) put body last (for_loop n put body last) (visit s)
 
 -- what can be gone over, else an exception (Language Reference, 8.3)
 abbrev pub over : Option Iterator → (Iterator → Meaning (Unit {0})) → Meaning (Unit {0})
@@ -245,10 +248,10 @@ abbrev mutual
   stmt e (Augment x o a) s =
       then (read x (place_of x e.locals) (visit (visit s))) (λ u s1. then (expr e a s1) (λ v s2. then (ran (operate o u v s2.world) s2) (λ z s3. assign x (place_of x e.locals) z s3)))
   stmt e Pass s = Gives tt (visit s)
-  stmt e (If a b c) s = then (expr e a (visit s)) (λ t s1. choose (is_true t) (stmts e b s1) (stmts (behind (functions_in b) e) c s1))
+  stmt e (If a b c) s = then (expr e a (visit s)) (λ t s1. choose (is_true t s1.world) (stmts e b s1) (stmts (behind (functions_in b) e) c s1))
   stmt e (While a b c) s = loop e.turns (expr e a) (stmts e b) (stmts (behind (functions_in b) e) c) (visit s)
   stmt e (For x a b c) s =
-      then (expr e a (visit s)) (λ v s1. over (iterator_of v) (for_loop e.turns (λ u s2. assign x (place_of x e.locals) u (visit s2)) (stmts e b) (stmts (behind (functions_in b) e) c)) s1)
+      then (expr e a (visit s)) (λ v s1. over (iterator_of v s1.world) (for_loop e.turns (λ u s2. assign x (place_of x e.locals) u (visit s2)) (stmts e b) (stmts (behind (functions_in b) e) c)) s1)
   stmt e Break s = Leaves Breaks (visit s)
   stmt e Continue s = Leaves Continues (visit s)
   stmt e (Define f ps b) s = assign f (place_of f e.locals) (Function f e.first) (visit s)
@@ -274,7 +277,7 @@ abbrev mutual
   clauses e (MoreClauses None y b cs) x s = named e y x (stmts e b) (visit s)
   clauses e (MoreClauses (Some a) y b cs) x s =
       then (expr e a (visit s))
-      (λ v s1. then (ran (catches v x s1.world) s1) (λ t s2. choose (is_true t) (named e y x (stmts e b) s2) (clauses (behind (functions_in b) e) cs x s2)))
+      (λ v s1. then (ran (catches v x s1.world) s1) (λ t s2. choose (is_true t s2.world) (named e y x (stmts e b) s2) (clauses (behind (functions_in b) e) cs x s2)))
 
 -- ---- calls
 

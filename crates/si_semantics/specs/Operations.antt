@@ -114,18 +114,18 @@ abbrev pub range_length : (start stop step : ℤ) → ℕ
 range_length a b (pos c) = if int_lt a b then (unsigned_abs (b -ℤ a) - 1) / c + 1 else 0
 range_length a b (negsuc c) = if int_lt b a then (unsigned_abs (a -ℤ b) - 1) / (c + 1) + 1 else 0
 
--- whether a value counts as true (Standard Library, "Built-in Types": truth value testing)
-abbrev pub is_true : Value → Bool
-is_true Nothing = false
-is_true (Truth b) = b
-is_true (Int (pos zero)) = false
-is_true (Str []) = false
-is_true (Range a b c) = is_item a b c
-is_true _ = true
+-- whether a value counts as true in a world (Standard Library, "Built-in Types": truth value testing)
+abbrev pub is_true : Value → World → Bool
+is_true Nothing w = false
+is_true (Truth b) w = b
+is_true (Int (pos zero)) w = false
+is_true (Str []) w = false
+is_true (Range a b c) w = is_item a b c
+is_true _ w = true
 
 -- an operator before a value (Language Reference, 6.6; `not`: 6.11)
 abbrev pub operate_unary : UnaryOperator → Value → World → Ran
-operate_unary Not v w = gave (Truth (not (is_true v))) w
+operate_unary Not v w = gave (Truth (not (is_true v w))) w
 operate_unary Plus (Int i) w = gave (Int i) w
 operate_unary Plus (Truth a) w = gave (Int (int_of_truth a)) w
 operate_unary Minus (Int i) w = integer (negative_of i) w
@@ -156,20 +156,20 @@ same_range a b c d e f =
 
 -- `==`: integers, True and False by their values, str by their characters, ranges by their items, built-ins and kinds
 -- by name, exceptions by address, None is equal to itself; what is of different kinds is unequal (Language Reference,
--- 6.10.1); of two functions there is no answer (this project's own)
-abbrev pub are_equal : Value → Value → Option Bool
-are_equal Nothing Nothing = Some true
-are_equal (Int i) (Int j) = Some (same_int i j)
-are_equal (Int i) (Truth b) = Some (same_int i (int_of_truth b))
-are_equal (Truth a) (Int j) = Some (same_int (int_of_truth a) j)
-are_equal (Truth a) (Truth b) = Some (not (differ a b))
-are_equal (Str s) (Str t) = Some (same_text s t)
-are_equal (Provided f) (Provided g) = Some (same_built_in f g)
-are_equal (Function f k) (Function g l) = None
-are_equal (Range a b c) (Range d e f) = Some (same_range a b c d e f)
-are_equal (Class k) (Class l) = Some (same_kind k l)
-are_equal (Address x) (Address y) = Some (nat_eq x y)
-are_equal _ _ = Some false
+-- 6.10.1); two functions are not compared (this project's own)
+abbrev pub are_equal : Value → Value → World → Result Bool Kind
+are_equal Nothing Nothing w = Ok true
+are_equal (Int i) (Int j) w = Ok (same_int i j)
+are_equal (Int i) (Truth b) w = Ok (same_int i (int_of_truth b))
+are_equal (Truth a) (Int j) w = Ok (same_int (int_of_truth a) j)
+are_equal (Truth a) (Truth b) w = Ok (not (differ a b))
+are_equal (Str s) (Str t) w = Ok (same_text s t)
+are_equal (Provided f) (Provided g) w = Ok (same_built_in f g)
+are_equal (Function f k) (Function g l) w = Err TypeError
+are_equal (Range a b c) (Range d e f) w = Ok (same_range a b c d e f)
+are_equal (Class k) (Class l) w = Ok (same_kind k l)
+are_equal (Address x) (Address y) w = Ok (nat_eq x y)
+are_equal _ _ w = Ok false
 
 -- `is`: None, True and False are each itself and nothing else (Language Reference, 6.10.3); the grammar lets nothing
 -- else stand behind it
@@ -178,29 +178,39 @@ is_same Nothing Nothing = true
 is_same (Truth a) (Truth b) = not (differ a b)
 is_same _ _ = false
 
--- `<`: two integers, where True and False count as 1 and 0, or two str; None where there is no order (Language
--- Reference, 6.10.1)
-abbrev pub is_less : Value → Value → Option Bool
-is_less (Int i) (Int j) = Some (int_lt i j)
-is_less (Int i) (Truth b) = Some (int_lt i (int_of_truth b))
-is_less (Truth a) (Int j) = Some (int_lt (int_of_truth a) j)
-is_less (Truth a) (Truth b) = Some (int_lt (int_of_truth a) (int_of_truth b))
-is_less (Str s) (Str t) = Some (is_before s t)
-is_less _ _ = None
+-- `<`: two integers, where True and False count as 1 and 0, or two str; no others have an order (Language Reference,
+-- 6.10.1)
+abbrev pub is_less : Value → Value → World → Result Bool Kind
+is_less (Int i) (Int j) w = Ok (int_lt i j)
+is_less (Int i) (Truth b) w = Ok (int_lt i (int_of_truth b))
+is_less (Truth a) (Int j) w = Ok (int_lt (int_of_truth a) j)
+is_less (Truth a) (Truth b) w = Ok (int_lt (int_of_truth a) (int_of_truth b))
+is_less (Str s) (Str t) w = Ok (is_before s t)
+is_less _ _ w = Err TypeError
 
--- a truth, where there is one
-abbrev pub truth : Option Bool → World → Ran
-truth (Some b) w = gave (Truth b) w
-truth None w = wrong_type w
+-- the message with which a comparison refuses (this project's own)
+abbrev pub comparison_message : Kind → Text
+comparison_message RecursionError = codes "too deep"
+comparison_message _ = codes "wrong type"
+
+-- the truth that a comparison gives, or why it refuses
+abbrev pub truth : Result Bool Kind → World → Ran
+truth (Ok b) w = gave (Truth b) w
+truth (Err k) w = refused k (comparison_message k) w
+
+-- the opposite of what a comparison gives
+abbrev pub opposite : Result Bool Kind → Result Bool Kind
+opposite (Ok b) = Ok (not b)
+opposite (Err k) = Err k
 
 -- a comparison of two values (Language Reference, 6.10)
 abbrev pub compare : ComparisonOperator → Value → Value → World → Ran
-compare Less u v w = truth (is_less u v) w
-compare Greater u v w = truth (is_less v u) w
-compare LessEqual u v w = truth (option_map not (is_less v u)) w
-compare GreaterEqual u v w = truth (option_map not (is_less u v)) w
-compare Equal u v w = truth (are_equal u v) w
-compare NotEqual u v w = truth (option_map not (are_equal u v)) w
+compare Less u v w = truth (is_less u v w) w
+compare Greater u v w = truth (is_less v u w) w
+compare LessEqual u v w = truth (opposite (is_less v u w)) w
+compare GreaterEqual u v w = truth (opposite (is_less u v w)) w
+compare Equal u v w = truth (are_equal u v w) w
+compare NotEqual u v w = truth (opposite (are_equal u v w)) w
 compare Is u v w = gave (Truth (is_same u v)) w
 compare IsNot u v w = gave (Truth (not (is_same u v))) w
 
@@ -354,23 +364,30 @@ pub data Iterator : Type 0 where
   Characters : Text → Iterator
   NoMore : Iterator
 
--- what a value gives, where it can be gone over
-abbrev pub iterator_of : Value → Option Iterator
-iterator_of (Range a b c) = Some (Numbers a b c)
-iterator_of (Str s) = Some (Characters s)
-iterator_of _ = None
+-- what a value gives in a world, where it can be gone over
+abbrev pub iterator_of : Value → World → Option Iterator
+iterator_of (Range a b c) w = Some (Numbers a b c)
+iterator_of (Str s) w = Some (Characters s)
+iterator_of _ w = None
 
 -- the items of a range behind one: what lies past the integers lies past the stop
 abbrev pub numbers_from : Result ℤ Kind → (stop step : ℤ) → Iterator
 numbers_from (Ok at) stop step = Numbers at stop step
 numbers_from (Err k) stop step = NoMore
 
--- the next item, and what is left, where there is one
-abbrev pub next_item : Iterator → Option (Value × Iterator)
-next_item (Numbers at stop step) = if is_item at stop step then Some (Int at, numbers_from (sum_of at step) stop step) else None
-next_item (Characters []) = None
-next_item (Characters (c ∷ cs)) = Some (Str (c ∷ []), Characters cs)
-next_item NoMore = None
+-- what comes of the wish for a next item: one, and what is left; none; or an exception with a message, which nothing that
+-- can be gone over raises so far
+pub data Next : Type 0 where
+  Item : Value → Iterator → Next
+  Exhausted : Next
+  Refuses : Kind → Text → Next
+
+-- the next item in a world
+abbrev pub next_item : Iterator → World → Next
+next_item (Numbers at stop step) w = if is_item at stop step then Item (Int at) (numbers_from (sum_of at step) stop step) else Exhausted
+next_item (Characters []) w = Exhausted
+next_item (Characters (c ∷ cs)) w = Item (Str (c ∷ [])) (Characters cs)
+next_item NoMore w = Exhausted
 
 -- what an answer makes of a request
 abbrev pub reply : Request → Answer → World → Replied

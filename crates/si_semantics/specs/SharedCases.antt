@@ -3,10 +3,10 @@ use Rattle.std.specs.Prelude.{◌≡◌, codes, ℕ, pos, List, [], ◌∷◌, t
 use Rattle.si_plain.specs.declared.kind.Kind.TheVariants.{ValueError}
 use Rattle.si_semantics.specs.Value.{Text}
 use Rattle.si_semantics.specs.Parcels.{Tree, Leaf, Int, Str}
-use Rattle.si_semantics.specs.Life.{Outcome, Returned, Raised}
+use Rattle.si_semantics.specs.Life.{Returned, Raised}
 use Rattle.si_semantics.specs.Actions.{Job, Bind, Run, Closing, Action, Create, CreateQueue, Put, PutNow, Get, GetNow, Size, Prepare, Start, Await, IsRunning, Close, ListAll, Take, End, Answer}
 use Rattle.si_semantics.specs.Actions as answer
-use Rattle.si_semantics.specs.Shared.{State, Queue, Interpreter, Standing, Idle, Running, Closed, Reply, NotNow, Replied, reply, first_state}
+use Rattle.si_semantics.specs.Shared.{State, Queue, Interpreter, Standing, Idle, Running, Closed, Replied, reply, first_state}
 use Rattle.si_semantics.specs.History.{next_state, answer_in}
 
 -- what actions are answered one after another, each by an interpreter; None where one is not enabled
