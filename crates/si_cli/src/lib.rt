@@ -16,12 +16,6 @@ pub mod input;
 pub mod interpreter;
 pub mod report;
 pub mod serving;
-#[cfg(test)]
-mod tests;
-#[cfg(test)]
-mod tests_code;
-#[cfg(test)]
-mod tests_scope;
 pub mod words;
 
 pub use alone::solo;

@@ -15,7 +15,5 @@ pub mod handlers;
 pub mod laws;
 pub mod loops;
 pub mod script;
-#[cfg(test)]
-mod tests;
 
 pub use script::compile;

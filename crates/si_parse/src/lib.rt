@@ -24,5 +24,3 @@ pub mod statement;
 pub use fault::ParseFault;
 pub use parser::parse;
 
-#[cfg(test)]
-mod tests;

@@ -26,5 +26,3 @@ pub use numbers::int_value;
 pub use scan::{TokenFault, tokens};
 pub use token::{Keyword, Span, Symbol, Token, TokenKind};
 
-#[cfg(test)]
-mod tests;

@@ -1,6 +1,6 @@
 // Worked cases: trees as Python's own `ast` shows them, and texts that the grammar refuses.
 
-use crate::{ParseFault, parse};
+use si_parse::{ParseFault, parse};
 use si_syntax::{Expr, Stmt};
 use std::alloc::{AllocError, Global};
 use std::test::Fail;

@@ -1,8 +1,8 @@
 // What no clause says: worked cases, the text of help and refusals, and readers and writers that fail.
 
-use crate::asked::Request;
-use crate::interpreter::{Outcome, Standing};
-use crate::{CliFault, WordsFault, read_input, request, serve, solo};
+use si_cli::asked::Request;
+use si_cli::interpreter::{Outcome, Standing};
+use si_cli::{CliFault, WordsFault, read_input, request, serve, solo};
 use si_plain::Limits;
 use std::alloc::Global;
 use std::io;

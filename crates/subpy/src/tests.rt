@@ -1,0 +1,8 @@
+// What no clause says: worked cases by way of public calls, texts of help and refusals, readers and writers that fail.
+
+mod code;
+mod commands;
+mod instructions;
+mod scope;
+mod tokens;
+mod trees;
