@@ -3,7 +3,7 @@ use Rattle.std.proofs.Common.{◌≡◌, ℕ, zero, suc, ◌+◌, ◌-◌, ◌�
 use Rattle.std.specs.Prelude.{slice_get}
 use Rattle.si_semantics.specs.Value.{Value}
 use Rattle.si_semantics.specs.Operations.{Iterator, Next, Item, Exhausted, Refuses, next_item}
-use Rattle.si_semantics.specs.Meaning.{State, Raises, Returns, Breaks, Continues, Result, Gives, Leaves, Asks, Cut, Meaning, visit, then, after_turn, turn_of, for_loop, over}
+use Rattle.si_semantics.specs.Meaning.{State, Raises, Returns, Breaks, Continues, Result, Gives, Leaves, Asks, Cut, Meaning, visit, after_turn, turn_of, for_loop, over}
 use Rattle.si_semantics.specs.Machine.{NextItem, EnterLoop, DoContinue, LeaveBlock, Place, At, Block, Loop, Each, Table, Course, gives_item, starts_for, next}
 use Rattle.si_compile.specs.Code.{compiled}
 use Rattle.si_compile.specs.Correct.{Meets, Runs, end_at}
