@@ -1,5 +1,5 @@
 -- Ranges that have the same items, and the integers that a range gives.
-use Rattle.std.proofs.Common.{◌≡◌, ℕ, ℤ, List, Bool, Option, Some, Ok, sym, ap, subst, ◌∙◌}
+use Rattle.std.proofs.Common.{◌≡◌, ℕ, ℤ, List, Bool, Option, Some, sym, ap, subst, ◌∙◌}
 use Rattle.std.specs.Prelude.{nat_eq, ◌&&◌, ◌||◌}
 use Rattle.si_semantics.specs.Value as pure
 use Rattle.si_semantics.specs.Text.{same_int}

@@ -152,38 +152,3 @@ pub fn push_ascii(text: &mut Text, ascii: &str) -> Result<(), NoMemory>
     }
     Ok(())
 }
-
-#[cfg(test)]
-mod tests {
-    use super::*;
-    use std::test::Fail;
-
-    #[test]
-    fn causes_say_why(rt: HostRuntime) -> Result<(), Fail> {
-        let mut table = CodeTable::new(rt.alloc());
-        table.put_load("a")?;
-        table.put_load("total")?;
-        let cases = [
-            (Cause::TooLong, "OverflowError", "too long"),
-            (Cause::NotCallable, "TypeError", "not callable"),
-            (Cause::WrongArguments, "TypeError", "wrong arguments"),
-            (Cause::TooDeep, "RecursionError", "too deep"),
-            (
-                Cause::NotDefined(1),
-                "NameError",
-                "name total is not defined",
-            ),
-            (
-                Cause::NotBound(1),
-                "UnboundLocalError",
-                "local total is not bound",
-            ),
-        ];
-        for (cause, kind, message) in cases {
-            assert_eq!(rt; cause.kind().name(), kind);
-            let text = cause.message(rt.alloc(), &table)?;
-            assert_eq!(rt; text.as_str(), message);
-        }
-        Ok(())
-    }
-}

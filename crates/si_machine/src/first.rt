@@ -143,23 +143,3 @@ fn built_in_kinds() -> [Kind; 16]
         Kind::ValueError,
     ]
 }
-
-#[cfg(test)]
-mod tests {
-    use super::*;
-    use std::test::Fail;
-
-    #[test]
-    fn built_ins_have_names(rt: HostRuntime) -> Result<(), Fail> {
-        assert_eq!(rt; built_in("repr"), Some(Value::BuiltIn(BuiltIn::Repr)));
-        assert_eq!(rt; built_in("ValueError"), Some(Value::Kind(Kind::ValueError)));
-        assert_eq!(rt;
-            built_in("BaseException"),
-            Some(Value::Kind(Kind::BaseException))
-        );
-        assert_eq!(rt; built_in("QueueEmpty"), None);
-        assert_eq!(rt; built_in("prints"), None);
-        assert_eq!(rt; built_in("__name__"), None);
-        Ok(())
-    }
-}

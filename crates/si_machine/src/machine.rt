@@ -112,20 +112,3 @@ impl Machine {
         }
     }
 }
-
-#[cfg(test)]
-mod tests {
-    use super::*;
-    use std::test::Fail;
-
-    #[test]
-    fn a_machine_without_code_stands(rt: HostRuntime) -> Result<(), Fail> {
-        let mut machine = Machine::new(rt.alloc());
-        assert!(rt; !machine.is_running());
-        assert_eq!(rt; machine.step(), Step::Starved);
-        assert_eq!(rt; machine.printed(), "");
-        assert!(rt; matches!(machine.take_outcome(), Outcome::Returned));
-        assert!(rt; machine.take_printed().is_empty());
-        Ok(())
-    }
-}

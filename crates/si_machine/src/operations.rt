@@ -143,30 +143,3 @@ pub fn integer_in(x: Value) -> Result<i64, Cause>
         _ => Err(Cause::WrongType),
     }
 }
-
-#[cfg(test)]
-mod tests {
-    use super::*;
-    use std::test::Fail;
-
-    #[test]
-    fn functions_have_no_operators(rt: HostRuntime) -> Result<(), Fail> {
-        let mut texts = Texts::new(rt.alloc());
-        let f = Value::Function(0, 0);
-        let wrong = Err(Fault::Raises(Cause::WrongType));
-        assert_eq!(rt; binary(&mut texts, BinaryOperator::Add, f, f), wrong);
-        assert_eq!(rt;
-            binary(&mut texts, BinaryOperator::Multiply, Value::Int(2), f),
-            wrong
-        );
-        assert_eq!(rt;
-            unary(&texts, UnaryOperator::Minus, f),
-            Err(Cause::WrongType)
-        );
-        assert_eq!(rt;
-            unary(&texts, UnaryOperator::Not, f),
-            Ok(Value::Truth(false))
-        );
-        Ok(())
-    }
-}

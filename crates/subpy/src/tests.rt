@@ -3,6 +3,7 @@
 mod code;
 mod commands;
 mod instructions;
+mod machine;
 mod scope;
 mod tokens;
 mod trees;
