@@ -1,6 +1,6 @@
 // The shared state with the journal of its calls.
 
-ghost use Rattle.std.specs.Prelude.{◌≡◌, ◌<◌, ◌≤◌, ◌+◌, ◌↔◌, [], IfOk, IfErr, IsOk, IsErrAnd, OnOk, OnErr, MatchOption, None, Some, true, false, slice_get};
+ghost use Rattle.std.specs.Prelude.{◌≡◌, ◌<◌, ◌≤◌, ◌+◌, ◌↔◌, [], length, IfOk, IfErr, IsOk, IsErrAnd, OnOk, OnErr, MatchOption, None, Some, true, false, slice_get};
 ghost use Rattle.si_plain.specs.Characters.{characters_of};
 ghost use Rattle.si_semantics.specs.History.{answer_in};
 ghost use Rattle.si_parcel.specs.Shared.{action_of, answer_of};
@@ -10,6 +10,7 @@ use crate::shared::Shared;
 use si_parcel::{Action, Answer};
 use si_plain::{Limits, NoMemory, Text};
 use si_queues::Queue;
+use si_semantics::sharing::within_limits;
 use std::alloc::Global;
 use std::marker::Model;
 
@@ -101,11 +102,15 @@ impl Hub {
         })
     }
 
-    /// Each call of the journal was enabled at its point, and was replied its answer. Costs nothing.
+    /// Each call of the journal was enabled at its point, and was replied its answer; and there are at most as many
+    /// interpreters as the limits allow, closed ones counted. Costs nothing.
     pub fn facts(&self)
-        ensures { IsTold self.now.past }
+        ensures told { IsTold self.now.past }
+        ensures few { length (state_of self.now.past).interpreters ≤ self.now.past.limits.interpreters }
     {
         let _ = &self.journal;
+        let _most = self.limits.interpreters();
+        within_limits();
     }
 
     /// The calls that were made, in order.

@@ -13,3 +13,6 @@ pub mod refused;
 pub use queue::Queue;
 pub use queues::{MAX_QUEUES, Queues};
 pub use refused::{NotPut, Refusal};
+
+#[cfg(test)]
+mod tests;

@@ -13,3 +13,6 @@ pub mod run;
 pub use interpreter::{Interpreter, Standing};
 pub use registry::Registry;
 pub use run::Run;
+
+#[cfg(test)]
+mod tests;

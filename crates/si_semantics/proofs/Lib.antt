@@ -16,6 +16,8 @@ pub mod KindsAbove
 pub mod WorkedParcels
 pub mod WorkedShared
 pub mod Firsts
+pub mod Rows
+pub mod Journals
 pub mod Cutting
 pub mod Deriving
 pub mod WorkedGrammar

@@ -1,15 +1,18 @@
 -- The worked cases of the shared state compute.
 use Rattle.std.specs.Prelude.{refl}
 use Rattle.si_semantics.specs.Shared.{reply}
+use Rattle.si_semantics.specs.History.{state_after, Told}
 use Rattle.si_semantics.specs.SharedCases.{SharedCases}
 
 pub worked_shared : SharedCases
-unfolding reply
+unfolding reply state_after Told
 worked_shared = record {
   fourteen_calls = refl;
   create_at_the_limit = refl;
   create_below_the_limit = refl;
   a_queue_is_made = refl;
+  create_queue_at_the_limit = refl;
+  create_queue_below_the_limit = refl;
   put_where_full = refl;
   put_where_not_full = refl;
   put_without_a_limit = refl;
@@ -59,4 +62,12 @@ worked_shared = record {
   a_run_in_the_inbox_is_not_taken = refl;
   closed_ones_do_nothing = refl;
   none_does_nothing = refl;
+  calls_of_a_queue = (refl, (refl, (refl, (refl, (refl, (refl, (refl, (refl, tt))))))));
+  put_into_a_queue = refl;
+  taken_from_a_queue = refl;
+  held_by_a_queue = refl;
+  a_number_is_given = refl;
+  no_number_is_given = refl;
+  a_closed_one_stands_so = refl;
+  none_stands_so = refl;
 }

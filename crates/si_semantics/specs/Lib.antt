@@ -32,5 +32,6 @@ pub mod Layout
 pub mod LayoutCases
 pub mod Shared
 pub mod History
+pub mod SharedLaws
 pub mod SharedCases
 pub mod GrammarCases

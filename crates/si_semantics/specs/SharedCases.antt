@@ -1,13 +1,14 @@
 -- Worked cases of the shared state: what actions are answered, computed from the table.
-use Rattle.std.specs.Prelude.{◌≡◌, codes, ℕ, pos, List, [], ◌∷◌, true, false, Option, Some, None}
+use Rattle.std.specs.Prelude.{◌≡◌, codes, ℕ, pos, List, [], ◌∷◌, replicate, true, false, Option, Some, None}
 use Rattle.si_plain.specs.declared.kind.Kind.TheVariants.{ValueError}
 use Rattle.si_semantics.specs.Value.{Text}
 use Rattle.si_semantics.specs.Parcels.{Tree, Leaf, Int, Str}
 use Rattle.si_semantics.specs.Life.{Returned, Raised}
 use Rattle.si_semantics.specs.Actions.{Job, Bind, Run, Closing, Action, Create, CreateQueue, Put, PutNow, Get, GetNow, Size, Prepare, Start, Await, IsRunning, Close, ListAll, Take, End, Answer}
 use Rattle.si_semantics.specs.Actions as answer
-use Rattle.si_semantics.specs.Shared.{State, Queue, Interpreter, Standing, Idle, Running, Closed, Replied, reply, first_state}
-use Rattle.si_semantics.specs.History.{next_state, answer_in}
+use Rattle.si_semantics.specs.Shared.{State, Queue, Interpreter, Standing, Idle, Running, Closed, Replied, reply, empty_queue, first_state}
+use Rattle.si_semantics.specs.History.{Call, next_state, answer_in}
+use Rattle.si_semantics.specs.SharedLaws.{IsJournal, state_by, put_into, taken_from, held_by, given, OfQueue, standing_in, call}
 
 -- what actions are answered one after another, each by an interpreter; None where one is not enabled
 abbrev pub answers_to : ℕ → State → List (ℕ × Action) → List (Option Answer)
@@ -113,6 +114,23 @@ with_queues queues = record midway { queues = queues }
 abbrev pub with_interpreters : List Interpreter → State
 with_interpreters interpreters = record midway { interpreters = interpreters }
 
+-- there are so many empty queues
+abbrev pub with_empty : ℕ → State
+with_empty n = with_queues (replicate n (empty_queue 0))
+
+-- of a queue of two items: one and two are put in, one more is refused, and one is taken
+abbrev pub queue_calls : List Call
+queue_calls =
+    call 0 Take (answer.Given (Run 0 []))
+    ∷ call 0 (CreateQueue 2) (answer.QueueMade 0)
+    ∷ call 0 (CreateQueue 0) (answer.QueueMade 1)
+    ∷ call 0 (Put 0 one) answer.Done
+    ∷ call 0 (Put 1 two) answer.Done
+    ∷ call 0 (PutNow 0 two) answer.Done
+    ∷ call 0 (PutNow 0 one) answer.Full
+    ∷ call 0 (GetNow 0) (answer.Item one)
+    ∷ []
+
 -- each case has its name; what shows it is a computation
 pub record SharedCases : Type 0 where
   pub fourteen_calls : answers_to 2 (first_state []) asked ≡ answered
@@ -120,6 +138,8 @@ pub record SharedCases : Type 0 where
   pub create_below_the_limit : said Create ≡ Some (answer.Created 5)
   pub a_queue_is_made : reply 8 midway 0 (CreateQueue 7) ≡ Replied (answer.QueueMade 3)
       (with_queues (record { maxsize = 0; items = [] } ∷ record { maxsize = 1; items = one ∷ [] } ∷ record { maxsize = 2; items = one ∷ [] } ∷ record { maxsize = 7; items = [] } ∷ []))
+  pub create_queue_at_the_limit : reply 8 (with_empty 1024) 0 (CreateQueue 7) ≡ Replied answer.Limit (with_empty 1024)
+  pub create_queue_below_the_limit : answer_in (reply 8 (with_empty 1023) 0 (CreateQueue 7)) ≡ Some (answer.QueueMade 1023)
   pub put_where_full : said (Put 1 two) ≡ None
   pub put_where_not_full : reply 8 midway 0 (Put 2 two) ≡ Replied answer.Done
       (with_queues (record { maxsize = 0; items = [] } ∷ record { maxsize = 1; items = one ∷ [] } ∷ record { maxsize = 2; items = one ∷ two ∷ [] } ∷ []))
@@ -214,3 +234,11 @@ pub record SharedCases : Type 0 where
   pub a_run_in_the_inbox_is_not_taken : answer_in (reply 8 midway 2 ListAll) ≡ None
   pub closed_ones_do_nothing : answer_in (reply 8 midway 3 ListAll) ≡ None
   pub none_does_nothing : answer_in (reply 8 midway 5 ListAll) ≡ None
+  pub calls_of_a_queue : IsJournal 1 [] queue_calls
+  pub put_into_a_queue : put_into 0 queue_calls ≡ one ∷ two ∷ []
+  pub taken_from_a_queue : taken_from 0 queue_calls ≡ one ∷ []
+  pub held_by_a_queue : held_by 0 (state_by 1 [] queue_calls) ≡ two ∷ []
+  pub a_number_is_given : given (answer.QueueMade 1) ≡ Some (OfQueue 1)
+  pub no_number_is_given : given (answer.Item one) ≡ None
+  pub a_closed_one_stands_so : standing_in midway 3 ≡ Some Closed
+  pub none_stands_so : standing_in midway 5 ≡ None

@@ -9,9 +9,12 @@
 // `Cases`, `FunctionCases`, `ExceptionCases`, `FinallyCases`, `ItemCases` and `ScopeCases` (worked cases; `Scripts` has
 // short forms for them), `Laws` (what is proved of lives and of courses). How a text is read: `Tokens`, `Literals` with
 // `LiteralCases`, `Words`, `Layout` with `LayoutCases`, `Grammar` with `GrammarCases`, and `Limits` with `LimitCases`. What
-// interpreters share: `Parcels` with `ParcelCases`, `Actions`, `Shared` and `History` with `SharedCases`.
+// interpreters share: `Parcels` with `ParcelCases`, `Actions`, `Shared` and `History` with `SharedCases`, `SharedLaws` (what
+// is proved of every journal).
 //
-// The one contract is that they hold together (`laws`): the cases compute, and a life and a course only ever grow.
+// The one contract is that they hold together: the cases compute, and a life and a course only ever grow (`laws`); queues
+// keep their order, numbers are given once, and each action has one answer (`sharing`).
 #![tactic(auto)]
 
 pub mod laws;
+pub mod sharing;
