@@ -3,6 +3,7 @@ pub mod Nodes
 pub mod TreeCode
 pub mod Views
 pub mod Depths
+pub mod Same
 pub mod Tops
 pub mod Shared
 pub mod Bare

@@ -64,3 +64,7 @@ node_code = code_by (Atom ⊎ (Shape × ℕ)) (coded⊎ atom_code (coded× shape
 
 abbrev pub tree_code : Coded Tree
 tree_code = code_by (List Node) (coded_list node_code) nodes_of tree_in tree_in_nodes
+
+-- of names with their parcels
+abbrev pub binds_code : Coded (List (List ℕ × Tree))
+binds_code = coded_list (coded× (coded_list coded_ℕ) tree_code)

@@ -74,8 +74,8 @@ impl Action {
         }
     }
 
-    /// Whether the two are the same.
-    pub fn same(&self, other: &Action) -> bool
+    // Whether the two are the same.
+    pub(crate) fn same(&self, other: &Action) -> bool
         ensures { IsTrue result ↔ (self.now ≡ other.now) }
     {
         match (self, other) {
@@ -97,4 +97,28 @@ impl Action {
             _ => false,
         }
     }
+}
+
+impl PartialEq for Action {
+    ghost use Rattle.si_parcel.specs.Same.{same_by, same_by_per};
+    ghost use Rattle.si_parcel.specs.contracts.action.Action.{the_row};
+
+    ghost eq = { same_by the_row.coded };
+
+    ghost laws = { same_by_per the_row.coded };
+
+    /// Whether the two are the same.
+    fn eq(&self, other: &Action) -> bool
+        ensures eq { result ≡ same_by the_row.coded self.now other.now }
+        ensures same { IsTrue result ↔ (self.now ≡ other.now) }
+    {
+        self.same(other)
+    }
+}
+
+impl Eq for Action {
+    ghost use Rattle.si_parcel.specs.Same.{same_by_equiv};
+    ghost use Rattle.si_parcel.specs.contracts.action.Action.{the_row};
+
+    ghost laws = { same_by_equiv the_row.coded };
 }

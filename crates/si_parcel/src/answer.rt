@@ -79,8 +79,8 @@ impl Answer {
         }
     }
 
-    /// Whether the two are the same.
-    pub fn same(&self, other: &Answer) -> bool
+    // Whether the two are the same.
+    pub(crate) fn same(&self, other: &Answer) -> bool
         ensures { IsTrue result ↔ (self.now ≡ other.now) }
     {
         match (self, other) {
@@ -99,7 +99,7 @@ impl Answer {
             (Answer::Main, Answer::Main) => true,
             (Answer::Ended(outcome), Answer::Ended(other)) => outcome.same(other),
             (Answer::Truth(b), Answer::Truth(c)) => *b == *c,
-            (Answer::Ids(ids), Answer::Ids(others)) => ids.same(others),
+            (Answer::Ids(ids), Answer::Ids(others)) => ids == others,
             (Answer::Given(job), Answer::Given(other)) => job.same(other),
             _ => false,
         }
@@ -137,4 +137,28 @@ impl Answer {
             Action::End(_) => matches!(self, Answer::Done),
         }
     }
+}
+
+impl PartialEq for Answer {
+    ghost use Rattle.si_parcel.specs.Same.{same_by, same_by_per};
+    ghost use Rattle.si_parcel.specs.contracts.answer.Answer.{the_row};
+
+    ghost eq = { same_by the_row.coded };
+
+    ghost laws = { same_by_per the_row.coded };
+
+    /// Whether the two are the same.
+    fn eq(&self, other: &Answer) -> bool
+        ensures eq { result ≡ same_by the_row.coded self.now other.now }
+        ensures same { IsTrue result ↔ (self.now ≡ other.now) }
+    {
+        self.same(other)
+    }
+}
+
+impl Eq for Answer {
+    ghost use Rattle.si_parcel.specs.Same.{same_by_equiv};
+    ghost use Rattle.si_parcel.specs.contracts.answer.Answer.{the_row};
+
+    ghost laws = { same_by_equiv the_row.coded };
 }

@@ -53,8 +53,8 @@ impl Atom {
         }
     }
 
-    /// Whether the two are the same atom.
-    pub fn same(&self, other: &Atom) -> bool
+    // Whether the two are the same atom.
+    pub(crate) fn same(&self, other: &Atom) -> bool
         ensures { IsTrue result ↔ (self.now ≡ other.now) }
     {
         match (self, other) {
@@ -84,6 +84,30 @@ impl Atom {
             Atom::Queue(id, _) => show_queue(*id, out),
         }
     }
+}
+
+impl PartialEq for Atom {
+    ghost use Rattle.si_parcel.specs.Same.{same_by, same_by_per};
+    ghost use Rattle.si_parcel.specs.contracts.atom.Atom.{the_row};
+
+    ghost eq = { same_by the_row.coded };
+
+    ghost laws = { same_by_per the_row.coded };
+
+    /// Whether the two are the same.
+    fn eq(&self, other: &Atom) -> bool
+        ensures eq { result ≡ same_by the_row.coded self.now other.now }
+        ensures same { IsTrue result ↔ (self.now ≡ other.now) }
+    {
+        self.same(other)
+    }
+}
+
+impl Eq for Atom {
+    ghost use Rattle.si_parcel.specs.Same.{same_by_equiv};
+    ghost use Rattle.si_parcel.specs.contracts.atom.Atom.{the_row};
+
+    ghost laws = { same_by_equiv the_row.coded };
 }
 
 fn show_int(n: i64, out: &mut String) -> Result<(), AllocError>

@@ -15,13 +15,12 @@ pub struct Binds {
 
 impl Model for Binds {
     ghost use Rattle.std.specs.Prelude.{ℕ, List};
-    ghost use Rattle.std.specs.Coded.{coded×, coded_ℕ, coded_list};
     ghost use Rattle.si_semantics.specs.Parcels.{Tree};
-    ghost use Rattle.si_parcel.specs.TreeCode.{tree_code};
+    ghost use Rattle.si_parcel.specs.TreeCode.{binds_code};
 
     ghost Value = { List (List ℕ × Tree) };
 
-    ghost coded = { coded_list (coded× (coded_list coded_ℕ) tree_code) };
+    ghost coded = { binds_code };
 
     ghost view = { λ b. b.pairs.items };
 }
@@ -61,8 +60,8 @@ impl Binds {
         Ok(Binds { pairs })
     }
 
-    /// Whether the two are the same pairs in the same order.
-    pub fn same(&self, other: &Binds) -> bool
+    // Whether the two are the same pairs in the same order.
+    pub(crate) fn same(&self, other: &Binds) -> bool
         ensures { IsTrue result ↔ (self.now ≡ other.now) }
     {
         let pairs = self.pairs.as_slice();
@@ -78,6 +77,30 @@ impl Binds {
         }
         true
     }
+}
+
+impl PartialEq for Binds {
+    ghost use Rattle.si_parcel.specs.Same.{same_by, same_by_per};
+    ghost use Rattle.si_parcel.specs.TreeCode.{binds_code};
+
+    ghost eq = { same_by binds_code };
+
+    ghost laws = { same_by_per binds_code };
+
+    /// Whether the two are the same.
+    fn eq(&self, other: &Binds) -> bool
+        ensures eq { result ≡ same_by binds_code self.now other.now }
+        ensures same { IsTrue result ↔ (self.now ≡ other.now) }
+    {
+        self.same(other)
+    }
+}
+
+impl Eq for Binds {
+    ghost use Rattle.si_parcel.specs.Same.{same_by_equiv};
+    ghost use Rattle.si_parcel.specs.TreeCode.{binds_code};
+
+    ghost laws = { same_by_equiv binds_code };
 }
 
 // Whether two names and their parcels are the same.

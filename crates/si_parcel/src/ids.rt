@@ -1,6 +1,6 @@
 // Numbers of interpreters.
 
-ghost use Rattle.std.specs.Prelude.{◌≡◌, ◌↔◌, IfOk, IsTrue};
+ghost use Rattle.std.specs.Prelude.{◌≡◌, IfOk};
 
 use std::alloc::{AllocError, Global};
 use std::marker::Model;
@@ -48,11 +48,25 @@ impl Ids {
         let ids = self.ids.as_slice().to_vec(alloc)?;
         Ok(Ids { ids })
     }
+}
 
-    /// Whether the two are the same numbers in the same order.
-    pub fn same(&self, other: &Ids) -> bool
-        ensures { IsTrue result ↔ (self.now ≡ other.now) }
-    {
+impl PartialEq for Ids {
+    ghost use Rattle.std.specs.Prelude.{bytes_eq};
+    ghost use Rattle.std.specs.Cmp.{partial_equiv_from_equiv};
+    ghost use Rattle.std.specs.Cmp.Lexicographic.{nat_list_eq_equiv};
+
+    ghost eq = { bytes_eq };
+
+    ghost laws = { partial_equiv_from_equiv nat_list_eq_equiv };
+
+    /// Whether the two are the same.
+    fn eq(&self, other: &Ids) -> bool {
         self.ids.as_slice() == other.ids.as_slice()
     }
+}
+
+impl Eq for Ids {
+    ghost use Rattle.std.specs.Cmp.Lexicographic.{nat_list_eq_equiv};
+
+    ghost laws = { nat_list_eq_equiv };
 }

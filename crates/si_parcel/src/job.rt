@@ -33,8 +33,8 @@ impl Job {
         }
     }
 
-    /// Whether the two are the same.
-    pub fn same(&self, other: &Job) -> bool
+    // Whether the two are the same.
+    pub(crate) fn same(&self, other: &Job) -> bool
         ensures { IsTrue result ↔ (self.now ≡ other.now) }
     {
         match (self, other) {
@@ -44,4 +44,28 @@ impl Job {
             _ => false,
         }
     }
+}
+
+impl PartialEq for Job {
+    ghost use Rattle.si_parcel.specs.Same.{same_by, same_by_per};
+    ghost use Rattle.si_parcel.specs.contracts.job.Job.{the_row};
+
+    ghost eq = { same_by the_row.coded };
+
+    ghost laws = { same_by_per the_row.coded };
+
+    /// Whether the two are the same.
+    fn eq(&self, other: &Job) -> bool
+        ensures eq { result ≡ same_by the_row.coded self.now other.now }
+        ensures same { IsTrue result ↔ (self.now ≡ other.now) }
+    {
+        self.same(other)
+    }
+}
+
+impl Eq for Job {
+    ghost use Rattle.si_parcel.specs.Same.{same_by_equiv};
+    ghost use Rattle.si_parcel.specs.contracts.job.Job.{the_row};
+
+    ghost laws = { same_by_equiv the_row.coded };
 }

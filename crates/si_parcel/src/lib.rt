@@ -3,8 +3,8 @@
 // Each value stands for pure data of `si_semantics`: a `Parcel` for a tree (`Parcels`), an `Action` and an `Answer` for
 // those of `Actions`. A contract sees a parcel as its tree alone; specs/Shared.antt says for which action a value stands.
 //
-// In reading order: `octets` (a row of bytes), `atom` (what has no parts), `parcel` and `top` (one level of it), `binds`
-// and `ids` (lists in actions and answers), `outcome`, `job`, `action`, `answer`.
+// In reading order: `octets` (a row of bytes), `atom` (what has no parts), `parcel`, `refused` (what is past its limits) and
+// `top` (one level of it), `binds` and `ids` (lists in actions and answers), `outcome`, `job`, `action`, `answer`.
 #![tactic(auto)]
 
 pub mod action;
@@ -16,6 +16,7 @@ pub mod job;
 pub mod octets;
 pub mod outcome;
 pub mod parcel;
+pub mod refused;
 pub mod top;
 
 pub use action::Action;
@@ -27,6 +28,7 @@ pub use job::Job;
 pub use octets::Octets;
 pub use outcome::Outcome;
 pub use parcel::Parcel;
+pub use refused::{TooLong, TupleFault};
 pub use top::Top;
 
 #[cfg(test)]

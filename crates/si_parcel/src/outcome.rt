@@ -29,8 +29,8 @@ impl Outcome {
         }
     }
 
-    /// Whether the two are the same.
-    pub fn same(&self, other: &Outcome) -> bool
+    // Whether the two are the same.
+    pub(crate) fn same(&self, other: &Outcome) -> bool
         ensures { IsTrue result ↔ (self.now ≡ other.now) }
     {
         match (self, other) {
@@ -41,4 +41,28 @@ impl Outcome {
             _ => false,
         }
     }
+}
+
+impl PartialEq for Outcome {
+    ghost use Rattle.si_parcel.specs.Same.{same_by, same_by_per};
+    ghost use Rattle.si_parcel.specs.contracts.outcome.Outcome.{the_row};
+
+    ghost eq = { same_by the_row.coded };
+
+    ghost laws = { same_by_per the_row.coded };
+
+    /// Whether the two are the same.
+    fn eq(&self, other: &Outcome) -> bool
+        ensures eq { result ≡ same_by the_row.coded self.now other.now }
+        ensures same { IsTrue result ↔ (self.now ≡ other.now) }
+    {
+        self.same(other)
+    }
+}
+
+impl Eq for Outcome {
+    ghost use Rattle.si_parcel.specs.Same.{same_by_equiv};
+    ghost use Rattle.si_parcel.specs.contracts.outcome.Outcome.{the_row};
+
+    ghost laws = { same_by_equiv the_row.coded };
 }

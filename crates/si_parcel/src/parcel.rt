@@ -1,13 +1,17 @@
 // A parcel: a value on its way from one interpreter to another.
 
-ghost use Rattle.std.specs.Prelude.{◌≡◌, ◌↔◌, ◌++◌, ◌≤◌, length, IsTrue, IfOk, OnOk, IfSome, IsSome, string_bytes, encode_utf8_all};
+ghost use Rattle.std.specs.Prelude.{◌≡◌, ◌↔◌, ◌++◌, ◌<◌, ◌≤◌, Err, length, IsTrue, IfOk, IfErr, IsOk, OnOk, string_bytes, encode_utf8_all};
 ghost use Rattle.si_semantics.specs.Parcels.{Leaf, tuple_of, size_of, levels_of, length_of, IsParcel, shown, separator, closing};
 ghost use Rattle.si_semantics.specs.Parcels as tree;
 ghost use Rattle.si_parcel.specs.Atoms.{atom_of};
 ghost use Rattle.si_parcel.specs.Tops.{tree_of_top};
+ghost use Rattle.si_parcel.specs.TreeCode.{tree_code};
+ghost use Rattle.si_parcel.specs.Same.{same_by, same_by_per, same_by_equiv};
+ghost use Rattle.si_parcel.specs.declared.refused.TupleFault.TheVariants.{TooLarge, TooDeep};
 
 use crate::atom::Atom;
 use crate::octets::Octets;
+use crate::refused::{TooLong, TupleFault};
 use crate::top::Top;
 use si_plain::Text;
 use si_plain::limits::MAX_STR_LENGTH;
@@ -87,46 +91,54 @@ impl Parcel {
         Parcel::short_atom(Atom::Queue(id, maxsize))
     }
 
-    /// A str. `None` where it has more than 1,048,576 characters.
-    pub fn str(text: Text) -> Option<Parcel>
-        ensures str { IfSome result (λ p. p ≡ Leaf (tree.Str text)) }
-        ensures short { IsSome result ↔ (length text ≤ 1048576) }
+    /// A str. `TooLong`, with the text, where it has more than 1,048,576 characters.
+    pub fn str(text: Text) -> Result<Parcel, TooLong<Text>>
+        ensures str { IfOk result (λ p. p ≡ Leaf (tree.Str text)) }
+        ensures short { IsOk result ↔ (length text ≤ 1048576) }
+        ensures back { IfErr result (λ e. e.given ≡ text) }
     {
         if text.len() > MAX_STR_LENGTH {
-            return None;
+            return Err(TooLong { given: text });
         }
-        Some(Parcel::short_atom(Atom::Str(text)))
+        Ok(Parcel::short_atom(Atom::Str(text)))
     }
 
-    /// A bytes. `None` where it has more than 1,048,576 bytes.
-    pub fn bytes(bytes: Octets) -> Option<Parcel>
-        ensures bytes { IfSome result (λ p. p ≡ Leaf (tree.Bytes bytes)) }
-        ensures short { IsSome result ↔ (length bytes ≤ 1048576) }
+    /// A bytes. `TooLong`, with the bytes, where it has more than 1,048,576 of them.
+    pub fn bytes(bytes: Octets) -> Result<Parcel, TooLong<Octets>>
+        ensures bytes { IfOk result (λ p. p ≡ Leaf (tree.Bytes bytes)) }
+        ensures short { IsOk result ↔ (length bytes ≤ 1048576) }
+        ensures back { IfErr result (λ e. e.given ≡ bytes) }
     {
         if bytes.as_slice().len() > MAX_STR_LENGTH {
-            return None;
+            return Err(TooLong { given: bytes });
         }
-        Some(Parcel::short_atom(Atom::Bytes(bytes)))
+        Ok(Parcel::short_atom(Atom::Bytes(bytes)))
     }
 
-    /// A tuple of these items. `None` where it would have more than 65,536 values, or more than 200 levels.
-    pub fn tuple(items: Vec<Parcel>) -> Option<Parcel>
-        ensures tuple { IfSome result (λ p. p ≡ tuple_of items.items) }
-        ensures small { IsSome result ↔ IsParcel (tuple_of items.items) }
+    /// A tuple of these items. `TooLarge`, with the items, where it would have more than 65,536 values; else `TooDeep`, with
+    /// the items, where it would have more than 200 levels.
+    pub fn tuple(items: Vec<Parcel>) -> Result<Parcel, TupleFault>
+        ensures tuple { IfOk result (λ p. p ≡ tuple_of items.items) }
+        ensures small { IsOk result ↔ IsParcel (tuple_of items.items) }
+        ensures large { (result ≡ Err (TooLarge items)) ↔ (65536 < size_of (tuple_of items.items)) }
+        ensures deep { (result ≡ Err (TooDeep items)) ↔ ((size_of (tuple_of items.items) ≤ 65536) × (200 < levels_of (tuple_of items.items))) }
     {
         let mut size = 1;
         let mut levels = 0;
         'items: for item in &items {
             item.facts();
-            if item.size() > MAX_SIZE - size || item.levels() == MAX_LEVELS {
-                return None;
+            if item.size() > MAX_SIZE - size {
+                return Err(TupleFault::TooLarge(items));
             }
             size += item.size();
             if levels < item.levels() {
                 levels = item.levels();
             }
         }
-        Some(Parcel {
+        if levels == MAX_LEVELS {
+            return Err(TupleFault::TooDeep(items));
+        }
+        Ok(Parcel {
             node: Node::Tuple(items),
             size,
             levels: levels + 1,
@@ -199,8 +211,8 @@ impl Parcel {
         }
     }
 
-    /// Whether the two are the same tree: True is never 1.
-    pub fn same(&self, other: &Parcel) -> bool
+    // Whether the two are the same tree.
+    pub(crate) fn same(&self, other: &Parcel) -> bool
         ensures { IsTrue result ↔ (self.now ≡ other.now) }
     {
         match (&self.node, &other.node) {
@@ -246,6 +258,24 @@ impl Parcel {
             }
         }
     }
+}
+
+impl PartialEq for Parcel {
+    ghost eq = { same_by tree_code };
+
+    ghost laws = { same_by_per tree_code };
+
+    /// Whether the two are the same tree: True is never 1.
+    fn eq(&self, other: &Parcel) -> bool
+        ensures eq { result ≡ same_by tree_code self.now other.now }
+        ensures same { IsTrue result ↔ (self.now ≡ other.now) }
+    {
+        self.same(other)
+    }
+}
+
+impl Eq for Parcel {
+    ghost laws = { same_by_equiv tree_code };
 }
 
 // What stands before the item at a place.

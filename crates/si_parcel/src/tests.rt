@@ -1,20 +1,20 @@
 // Parcels and actions from end to end: the texts are what CPython 3.14 prints, but for that of a queue.
 
-use crate::{Action, Answer, Binds, Ids, Job, Octets, Outcome, Parcel, Top};
+use crate::{Action, Answer, Binds, Ids, Job, Octets, Outcome, Parcel, Top, TupleFault};
 use si_plain::{Kind, Text};
 use std::alloc::Global;
 use std::test::Fail;
 
 fn str(alloc: Global, text: &str) -> Result<Parcel, Fail> {
-    Ok(Parcel::str(Text::from_str(alloc, text)?).ok_or("too long")?)
+    Ok(Parcel::str(Text::from_str(alloc, text)?).map_err(|_| "too long")?)
 }
 
 fn bytes(alloc: Global, bytes: &[u8]) -> Result<Parcel, Fail> {
-    Ok(Parcel::bytes(Octets::from_slice(alloc, bytes)?).ok_or("too long")?)
+    Ok(Parcel::bytes(Octets::from_slice(alloc, bytes)?).map_err(|_| "too long")?)
 }
 
 fn tuple(items: Vec<Parcel>) -> Result<Parcel, Fail> {
-    Ok(Parcel::tuple(items).ok_or("too large")?)
+    Ok(Parcel::tuple(items).map_err(|_| "too large")?)
 }
 
 // `('a', (1, None), b'\x00')`
@@ -48,7 +48,7 @@ fn a_nested_tuple(rt: HostRuntime) -> Result<(), Fail> {
     assert_eq!(rt; parcel.size(), 6);
     assert_eq!(rt; parcel.levels(), 2);
     assert!(rt; matches!(parcel.top(), Top::Tuple([_, _, _])));
-    assert!(rt; parcel.clone_parcel(alloc)?.same(&parcel));
+    assert!(rt; parcel.clone_parcel(alloc)? == parcel);
     Ok(())
 }
 
@@ -65,9 +65,9 @@ fn atoms(rt: HostRuntime) -> Result<(), Fail> {
     assert_eq!(rt; bytes(alloc, b"a\xff")?.show(alloc)?.as_str(), "b'a\\xff'");
     assert_eq!(rt; deep(alloc, 1)?.show(alloc)?.as_str(), "(None,)");
     assert_eq!(rt; tuple(Vec::new(alloc))?.show(alloc)?.as_str(), "()");
-    assert!(rt; !Parcel::truth(true).same(&Parcel::int(1)));
-    assert!(rt; !Parcel::queue(3, 10).same(&Parcel::queue(4, 10)));
-    assert!(rt; !str(alloc, "a")?.same(&bytes(alloc, b"a")?));
+    assert!(rt; Parcel::truth(true) != Parcel::int(1));
+    assert!(rt; Parcel::queue(3, 10) != Parcel::queue(4, 10));
+    assert!(rt; str(alloc, "a")? != bytes(alloc, b"a")?);
     Ok(())
 }
 
@@ -77,11 +77,11 @@ fn two_hundred_levels_and_no_more(rt: HostRuntime) -> Result<(), Fail> {
     let parcel = deep(alloc, 200)?;
     assert_eq!(rt; parcel.levels(), 200);
     assert_eq!(rt; parcel.show(alloc)?.len(), 604);
-    assert!(rt; parcel.clone_parcel(alloc)?.same(&parcel));
-    assert!(rt; !parcel.same(&deep(alloc, 199)?));
+    assert!(rt; parcel.clone_parcel(alloc)? == parcel);
+    assert!(rt; parcel != deep(alloc, 199)?);
     let mut items = Vec::with_capacity(alloc, 1)?;
     items.push(parcel)?;
-    assert!(rt; Parcel::tuple(items).is_none());
+    assert!(rt; matches!(Parcel::tuple(items), Err(TupleFault::TooDeep(_))));
     Ok(())
 }
 
@@ -95,10 +95,10 @@ fn as_many_values_as_allowed(rt: HostRuntime) -> Result<(), Fail> {
     let parcel = tuple(items)?;
     assert_eq!(rt; parcel.size(), 65_536);
     assert_eq!(rt; parcel.show(alloc)?.len(), 196_605);
-    assert!(rt; parcel.clone_parcel(alloc)?.same(&parcel));
+    assert!(rt; parcel.clone_parcel(alloc)? == parcel);
     let mut items = Vec::with_capacity(alloc, 1)?;
     items.push(parcel)?;
-    assert!(rt; Parcel::tuple(items).is_none());
+    assert!(rt; matches!(Parcel::tuple(items), Err(TupleFault::TooLarge(_))));
     Ok(())
 }
 
@@ -167,7 +167,7 @@ fn actions_are_cloned_and_compared(rt: HostRuntime) -> Result<(), Fail> {
         let asked = action(alloc, i)?;
         for j in 0..16 {
             let other = action(alloc, j)?.clone_action(alloc)?;
-            assert_eq!(rt; asked.same(&other), i == j, "{i} {j}");
+            assert_eq!(rt; asked == other, i == j, "{i} {j}");
         }
     }
     Ok(())
@@ -180,7 +180,7 @@ fn answers_are_cloned_and_compared(rt: HostRuntime) -> Result<(), Fail> {
         let given = answer(alloc, i)?;
         for j in 0..20 {
             let other = answer(alloc, j)?.clone_answer(alloc)?;
-            assert_eq!(rt; given.same(&other), i == j, "{i} {j}");
+            assert_eq!(rt; given == other, i == j, "{i} {j}");
         }
     }
     Ok(())
