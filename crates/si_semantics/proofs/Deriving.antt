@@ -6,7 +6,7 @@ use Rattle.si_semantics.specs.Value.{Text}
 use Rattle.si_semantics.specs.Tree.{BinaryOperator, UnaryOperator, ComparisonOperator, Or, Expr, Name, Unary, Binary, Boolean, Compare, Comparisons, Stmt, Stmts, Evaluate, Assign, If, While, NoStmts}
 use Rattle.si_semantics.specs.Tokens as tokens
 use Rattle.si_semantics.specs.Grammar.{Terminal, NAME, NUMBER, Sign, Word, NEWLINE, INDENT, DEDENT, ENDMARKER, level_of, left_level, right_level, symbol_of, prefix_level, prefix_of, comparison_of, is_identity, value_of_int, Many, Link, links_of, Compares, Spells, max_depth, Small, Simple, Suite, Nests, max_nesting, Derives}
-use Rattle.si_semantics.specs.Cases.{int, arguments, suite}
+use Rattle.si_semantics.specs.Worked.Straight.{int, arguments, suite}
 
 -- ---- expressions
 

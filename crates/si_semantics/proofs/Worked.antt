@@ -4,7 +4,7 @@ use Rattle.std.specs.Fmt.{digits}
 use Rattle.si_plain.specs.Integers.{in_range, sum_of, difference_of, product_of, negative_of, floor_over, floor_of, rest_of, floor_quotient, floor_remainder, power_of, power_result, shifted_left, shifted_right, inverted, bits_and, bits_or, bits_xor}
 use Rattle.si_plain.specs.Kinds.{name_of}
 use Rattle.si_plain.specs.Repr.{quote_of, escaped, repr_of}
-use Rattle.si_semantics.specs.Cases.{Cases}
+use Rattle.si_semantics.specs.Worked.Straight.{Cases}
 
 pub worked : Cases
 unfolding digits in_range sum_of difference_of product_of negative_of floor_over floor_of rest_of floor_quotient floor_remainder power_of power_result shifted_left shifted_right inverted bits_and bits_or bits_xor name_of quote_of escaped repr_of

@@ -3,7 +3,7 @@ use Rattle.std.specs.Prelude.{refl}
 use Rattle.std.specs.Fmt.{digits}
 use Rattle.si_plain.specs.Integers.{in_range, sum_of, difference_of, floor_over, floor_of, rest_of, floor_quotient}
 use Rattle.si_plain.specs.Kinds.{name_of}
-use Rattle.si_semantics.specs.FunctionCases.{FunctionCases}
+use Rattle.si_semantics.specs.Worked.Functions.{FunctionCases}
 
 pub worked_functions : FunctionCases
 unfolding digits in_range sum_of difference_of floor_over floor_of rest_of floor_quotient name_of

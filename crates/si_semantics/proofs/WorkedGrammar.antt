@@ -7,9 +7,9 @@ use Rattle.si_semantics.specs.Words as words
 use Rattle.si_semantics.specs.Words.{symbols, keywords}
 use Rattle.si_semantics.specs.Layout.{Line}
 use Rattle.si_semantics.specs.Grammar.{Terminal, NAME, NUMBER, Sign, Positional, ByName}
-use Rattle.si_semantics.specs.Cases.{int, arguments, suite}
-use Rattle.si_semantics.specs.FunctionCases.{f, x}
-use Rattle.si_semantics.specs.GrammarCases.{f_of_x, an_if, an_elif, a_call, a_while, difference, bracketed, negated_chain, GrammarCases}
+use Rattle.si_semantics.specs.Worked.Straight.{int, arguments, suite}
+use Rattle.si_semantics.specs.Worked.Functions.{f, x}
+use Rattle.si_semantics.specs.Worked.Grammar.{f_of_x, an_if, an_elif, a_call, a_while, difference, bracketed, negated_chain, GrammarCases}
 use Rattle.si_semantics.proofs.Cutting.{word_is, longest, has_tokens}
 use Rattle.si_semantics.proofs.Deriving.{name, number, in_brackets, unary, binary, Statement, assigned, evaluated, word, line, in_line, in_block, one_branch, Parsed, text, three_branches, loop, text_of_two, comparison, compares, no_more, either}
 

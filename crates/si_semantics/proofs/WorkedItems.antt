@@ -4,7 +4,7 @@ use Rattle.std.specs.Fmt.{digits}
 use Rattle.si_plain.specs.Integers.{in_range, sum_of, difference_of, negative_of, floor_over, floor_of, rest_of, floor_quotient}
 use Rattle.si_plain.specs.Kinds.{name_of}
 use Rattle.si_plain.specs.Repr.{quote_of, escaped, repr_of}
-use Rattle.si_semantics.specs.ItemCases.{ItemCases}
+use Rattle.si_semantics.specs.Worked.Items.{ItemCases}
 
 pub worked : ItemCases
 unfolding digits in_range sum_of difference_of negative_of floor_over floor_of rest_of floor_quotient name_of quote_of escaped repr_of

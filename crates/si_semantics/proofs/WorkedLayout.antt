@@ -2,7 +2,7 @@
 use Rattle.std.specs.Prelude.{refl}
 use Rattle.std.proofs.Common.{arith}
 use Rattle.si_semantics.specs.Words.{symbols, keywords}
-use Rattle.si_semantics.specs.LayoutCases.{LayoutCases}
+use Rattle.si_semantics.specs.Worked.Layout.{LayoutCases}
 
 pub worked_layout : LayoutCases
 unfolding symbols keywords

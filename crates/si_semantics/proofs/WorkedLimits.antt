@@ -1,6 +1,6 @@
 -- The worked cases of limits compute.
 use Rattle.std.specs.Prelude.{refl}
-use Rattle.si_semantics.specs.LimitCases.{LimitCases}
+use Rattle.si_semantics.specs.Worked.Limits.{LimitCases}
 
 pub worked_limits : LimitCases
 worked_limits = record {

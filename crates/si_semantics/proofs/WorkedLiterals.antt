@@ -1,7 +1,7 @@
 -- The worked cases of literals compute.
 use Rattle.std.specs.Prelude.{refl}
 use Rattle.std.specs.Str.{chars}
-use Rattle.si_semantics.specs.LiteralCases.{LiteralCases}
+use Rattle.si_semantics.specs.Worked.Literals.{LiteralCases}
 
 pub worked : LiteralCases
 unfolding chars

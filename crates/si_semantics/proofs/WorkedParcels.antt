@@ -2,7 +2,7 @@
 use Rattle.std.specs.Prelude.{refl}
 use Rattle.std.specs.Fmt.{digits}
 use Rattle.si_plain.specs.Repr.{quote_of, escaped, escaped_byte, repr_of, bytes_repr_of}
-use Rattle.si_semantics.specs.ParcelCases.{ParcelCases}
+use Rattle.si_semantics.specs.Worked.Parcels.{ParcelCases}
 
 pub worked : ParcelCases
 unfolding digits quote_of escaped escaped_byte repr_of bytes_repr_of

@@ -1,6 +1,6 @@
 -- The worked cases of scopes compute.
 use Rattle.std.specs.Prelude.{refl}
-use Rattle.si_semantics.specs.ScopeCases.{ScopeCases}
+use Rattle.si_semantics.specs.Worked.Scope.{ScopeCases}
 
 pub worked_scope : ScopeCases
 worked_scope = record {

@@ -2,7 +2,7 @@
 use Rattle.std.specs.Prelude.{refl}
 use Rattle.si_semantics.specs.Shared.{reply}
 use Rattle.si_semantics.specs.History.{state_after, Told}
-use Rattle.si_semantics.specs.SharedCases.{SharedCases}
+use Rattle.si_semantics.specs.Worked.Shared.{SharedCases}
 
 pub worked_shared : SharedCases
 unfolding reply state_after Told

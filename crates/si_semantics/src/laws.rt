@@ -1,17 +1,17 @@
 // Laws of lives and of courses, for those who build on them.
 
-ghost use Rattle.si_semantics.specs.Cases.{Cases};
-ghost use Rattle.si_semantics.specs.FunctionCases.{FunctionCases};
-ghost use Rattle.si_semantics.specs.ExceptionCases.{ExceptionCases};
-ghost use Rattle.si_semantics.specs.FinallyCases.{FinallyCases};
-ghost use Rattle.si_semantics.specs.ItemCases.{ItemCases};
-ghost use Rattle.si_semantics.specs.ScopeCases.{ScopeCases};
-ghost use Rattle.si_semantics.specs.LiteralCases.{LiteralCases};
-ghost use Rattle.si_semantics.specs.LayoutCases.{LayoutCases};
-ghost use Rattle.si_semantics.specs.ParcelCases.{ParcelCases};
-ghost use Rattle.si_semantics.specs.SharedCases.{SharedCases};
-ghost use Rattle.si_semantics.specs.LimitCases.{LimitCases};
-ghost use Rattle.si_semantics.specs.GrammarCases.{GrammarCases};
+ghost use Rattle.si_semantics.specs.Worked.Straight.{Cases};
+ghost use Rattle.si_semantics.specs.Worked.Functions.{FunctionCases};
+ghost use Rattle.si_semantics.specs.Worked.Exceptions.{ExceptionCases};
+ghost use Rattle.si_semantics.specs.Worked.Finally.{FinallyCases};
+ghost use Rattle.si_semantics.specs.Worked.Items.{ItemCases};
+ghost use Rattle.si_semantics.specs.Worked.Scope.{ScopeCases};
+ghost use Rattle.si_semantics.specs.Worked.Literals.{LiteralCases};
+ghost use Rattle.si_semantics.specs.Worked.Layout.{LayoutCases};
+ghost use Rattle.si_semantics.specs.Worked.Parcels.{ParcelCases};
+ghost use Rattle.si_semantics.specs.Worked.Shared.{SharedCases};
+ghost use Rattle.si_semantics.specs.Worked.Limits.{LimitCases};
+ghost use Rattle.si_semantics.specs.Worked.Grammar.{GrammarCases};
 ghost use Rattle.si_semantics.specs.Laws.{Binding, OneLife, LivesGrow, GoneStays, AnswersWait, OnePieceALine, OneMoment, LeftByExceptions, KindsAbove};
 
 /// The worked cases: what scripts print and how they end.

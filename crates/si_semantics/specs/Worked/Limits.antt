@@ -2,8 +2,8 @@
 use Rattle.std.specs.Prelude.{◌≡◌, codes, ℕ, zero, suc, List, [], ◌∷◌, Some, None}
 use Rattle.si_semantics.specs.Tree.{Add, Less, And, Binary, Boolean, Conditional, Stmt, Assign, Pass, If, While, For, Return, Raise, Try, Finally, Stmts, NoStmts, NoClauses, MoreClauses}
 use Rattle.si_semantics.specs.Limits.{depth_of, longest_str, greatest_in, most_parameters_in, nesting_in}
-use Rattle.si_semantics.specs.Cases.{int, str, minus, arguments, suite, compared, i_name, a_text}
-use Rattle.si_semantics.specs.FunctionCases.{f, n, x, define, prints}
+use Rattle.si_semantics.specs.Worked.Straight.{int, str, minus, arguments, suite, compared, i_name, a_text}
+use Rattle.si_semantics.specs.Worked.Functions.{f, n, x, define, prints}
 
 -- ---- statements
 

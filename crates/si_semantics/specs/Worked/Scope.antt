@@ -3,8 +3,8 @@ use Rattle.std.specs.Prelude.{◌≡◌, codes, List, [], ◌∷◌, Bool, true,
 use Rattle.si_semantics.specs.Value.{Text}
 use Rattle.si_semantics.specs.Tree.{Add, Name, Stmt, Assign, Augment, Pass, If, While, For, Break, Continue, Return, Global, Raise, Try, Finally, Stmts, NoStmts, Clauses, NoClauses, MoreClauses}
 use Rattle.si_semantics.specs.Scope.{is_scoped, locals_of}
-use Rattle.si_semantics.specs.Cases.{int, i_name, suite, left_by_break}
-use Rattle.si_semantics.specs.FunctionCases.{f, g, n, x, define, prints}
+use Rattle.si_semantics.specs.Worked.Straight.{int, i_name, suite, left_by_break}
+use Rattle.si_semantics.specs.Worked.Functions.{f, g, n, x, define, prints}
 
 -- ---- scripts
 

@@ -6,7 +6,7 @@ use Rattle.si_semantics.specs.World.{Answer, Taken, Done, Run}
 use Rattle.si_semantics.specs.Life.{Returned, End, Told, life_of}
 use Rattle.si_semantics.specs.Shows.{pieces_of, end_of, texts_of}
 use Rattle.si_semantics.specs.Laws.{state_of}
-use Rattle.si_semantics.specs.Cases.{int, a_text, arguments, print, suite, compared, run_of, report_of, report_within}
+use Rattle.si_semantics.specs.Worked.Straight.{int, a_text, arguments, print, suite, compared, run_of, report_of, report_within}
 
 -- ---- scripts
 

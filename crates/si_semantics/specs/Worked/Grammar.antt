@@ -6,8 +6,8 @@ use Rattle.si_semantics.specs.Tokens.{Token}
 use Rattle.si_semantics.specs.Words.{IsLongest}
 use Rattle.si_semantics.specs.Layout.{token, HasTokens}
 use Rattle.si_semantics.specs.Grammar.{terminal_of, Derives}
-use Rattle.si_semantics.specs.Cases.{int, arguments, suite}
-use Rattle.si_semantics.specs.FunctionCases.{f, x, called}
+use Rattle.si_semantics.specs.Worked.Straight.{int, arguments, suite}
+use Rattle.si_semantics.specs.Worked.Functions.{f, x, called}
 
 -- the bytes of a text have tokens from which these statements derive
 abbrev pub IsReadAs : List ℕ → List Stmt → Type 0

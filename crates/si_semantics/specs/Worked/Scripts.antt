@@ -5,8 +5,8 @@ use Rattle.si_semantics.specs.Tree.{FloorDivide, Expr, Name, Binary, Call, Stmt,
 use Rattle.si_semantics.specs.Life.{Told}
 use Rattle.si_semantics.specs.Shows.{joined, texts_of}
 use Rattle.si_semantics.specs.Report.{outcome_line}
-use Rattle.si_semantics.specs.Cases.{int, str, arguments, suite, run_within, outcome}
-use Rattle.si_semantics.specs.FunctionCases.{called, prints}
+use Rattle.si_semantics.specs.Worked.Straight.{int, str, arguments, suite, run_within, outcome}
+use Rattle.si_semantics.specs.Worked.Functions.{called, prints}
 
 -- ---- names
 
