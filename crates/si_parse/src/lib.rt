@@ -23,4 +23,3 @@ pub mod statement;
 
 pub use fault::ParseFault;
 pub use parser::parse;
-

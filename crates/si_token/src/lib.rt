@@ -25,4 +25,3 @@ mod words;
 pub use numbers::int_value;
 pub use scan::{TokenFault, tokens};
 pub use token::{Keyword, Span, Symbol, Token, TokenKind};
-

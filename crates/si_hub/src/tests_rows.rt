@@ -1,0 +1,181 @@
+// Each action through its row: each answer that it may be given, and where it is not enabled.
+
+use crate::Hub;
+use crate::tests::{act, hub, same, text, x_is_one};
+use si_parcel::{Action, Answer, Ids, Job, Outcome, Parcel};
+use si_plain::{Kind, NoMemory};
+use std::alloc::Global;
+use std::test::Fail;
+
+// A hub whose interpreter 0 has taken its run.
+fn running(alloc: Global, interpreters: u32) -> Result<Hub, Fail> {
+    let mut hub = hub(alloc, interpreters)?;
+    act(&mut hub, 0, Action::Take)?;
+    Ok(hub)
+}
+
+// What interpreter 0 asks of a queue of one item.
+pub(crate) fn queue_asked(at: u32) -> Action {
+    match at {
+        0 => Action::Size(0),
+        1 => Action::CreateQueue(1),
+        2 => Action::Get(0),
+        3 => Action::GetNow(0),
+        4 => Action::Put(0, Parcel::int(7)),
+        5 => Action::Put(0, Parcel::none()),
+        6 => Action::PutNow(0, Parcel::none()),
+        7 => Action::Size(0),
+        8 => Action::Get(0),
+        9 => Action::PutNow(0, Parcel::truth(true)),
+        10 => Action::GetNow(0),
+        _ => Action::Put(1, Parcel::int(7)),
+    }
+}
+
+pub(crate) fn queue_answered(at: u32) -> Option<Answer> {
+    match at {
+        0 => None,
+        1 => Some(Answer::QueueMade(0)),
+        2 => None,
+        3 => Some(Answer::Empty),
+        4 => Some(Answer::Done),
+        5 => None,
+        6 => Some(Answer::Full),
+        7 => Some(Answer::Count(1)),
+        8 => Some(Answer::Item(Parcel::int(7))),
+        9 => Some(Answer::Done),
+        10 => Some(Answer::Item(Parcel::truth(true))),
+        _ => None,
+    }
+}
+
+#[test]
+fn queues(rt: HostRuntime) -> Result<(), Fail> {
+    let mut hub = running(rt.alloc(), 1)?;
+    for at in 0..12 {
+        let told = act(&mut hub, 0, queue_asked(at))?;
+        assert!(rt; same(&told, &queue_answered(at)), "at {at}");
+    }
+    Ok(())
+}
+
+#[test]
+fn as_many_queues_as_allowed(rt: HostRuntime) -> Result<(), Fail> {
+    let mut hub = running(rt.alloc(), 1)?;
+    for _ in 0..1_024 {
+        act(&mut hub, 0, Action::CreateQueue(0))?;
+    }
+    let told = act(&mut hub, 0, Action::CreateQueue(0))?;
+    assert!(rt; same(&told, &Some(Answer::Limit)));
+    Ok(())
+}
+
+// What is asked of three interpreters, of which 2 is closed.
+pub(crate) fn closing_asked(alloc: Global, at: u32) -> Result<(u32, Action), NoMemory> {
+    Ok(match at {
+        0 => (0, Action::Create),
+        1 => (0, Action::Create),
+        2 => (0, Action::Create),
+        3 => (0, Action::IsRunning(2)),
+        4 => (0, Action::Close(0)),
+        5 => (0, Action::Close(2)),
+        6 => (0, Action::Close(2)),
+        7 => (0, Action::Prepare(2, x_is_one(alloc)?)),
+        8 => (0, Action::Start(2, text(alloc, "t")?)),
+        9 => (0, Action::IsRunning(2)),
+        10 => (0, Action::ListAll),
+        11 => (2, Action::Take),
+        12 => (2, Action::Take),
+        _ => (0, Action::Close(3)),
+    })
+}
+
+fn zero_and_one(alloc: Global) -> Result<Ids, NoMemory> {
+    let mut ids = Vec::with_capacity(alloc, 2)?;
+    ids.push(0)?;
+    ids.push(1)?;
+    Ok(Ids::new(ids))
+}
+
+pub(crate) fn closing_answered(alloc: Global, at: u32) -> Result<Option<Answer>, NoMemory> {
+    Ok(match at {
+        0 => Some(Answer::Created(1)),
+        1 => Some(Answer::Created(2)),
+        2 => Some(Answer::Limit),
+        3 => Some(Answer::Truth(false)),
+        4 => Some(Answer::Current),
+        5 => Some(Answer::Done),
+        6..10 => Some(Answer::NotFound),
+        10 => Some(Answer::Ids(zero_and_one(alloc)?)),
+        11 => Some(Answer::Given(Job::Closing)),
+        _ => None,
+    })
+}
+
+#[test]
+fn closing(rt: HostRuntime) -> Result<(), Fail> {
+    let alloc = rt.alloc();
+    let mut hub = running(alloc, 3)?;
+    for at in 0..14 {
+        let (by, action) = closing_asked(alloc, at)?;
+        let told = act(&mut hub, by, action)?;
+        assert!(rt; same(&told, &closing_answered(alloc, at)?), "at {at}");
+    }
+    Ok(())
+}
+
+// What is asked of two interpreters, of which 1 is given names and a run.
+pub(crate) fn run_asked(alloc: Global, at: u32) -> Result<(u32, Action), NoMemory> {
+    Ok(match at {
+        0 => (0, Action::Create),
+        1 => (0, Action::Prepare(1, x_is_one(alloc)?)),
+        2 => (0, Action::Start(1, text(alloc, "t")?)),
+        3 => (0, Action::Start(1, text(alloc, "t")?)),
+        4 => (0, Action::Prepare(1, x_is_one(alloc)?)),
+        5 => (0, Action::Close(1)),
+        6 => (1, Action::ListAll),
+        7 => (1, Action::Take),
+        8 => (1, Action::Take),
+        9 => (1, Action::Close(0)),
+        10 => (0, Action::IsRunning(1)),
+        11 => (0, Action::Await(1)),
+        12 => (1, Action::End(raised(alloc)?)),
+        13 => (0, Action::Await(1)),
+        _ => (0, Action::IsRunning(1)),
+    })
+}
+
+fn raised(alloc: Global) -> Result<Outcome, NoMemory> {
+    let message = text(alloc, "done")?;
+    Ok(Outcome::Raised(Kind::ValueError, message))
+}
+
+pub(crate) fn run_answered(alloc: Global, at: u32) -> Result<Option<Answer>, NoMemory> {
+    Ok(match at {
+        0 => Some(Answer::Created(1)),
+        1 => Some(Answer::Done),
+        2 => Some(Answer::Started(1)),
+        3..6 => Some(Answer::Running),
+        6 => None,
+        7 => Some(Answer::Given(Job::Bind(x_is_one(alloc)?))),
+        8 => Some(Answer::Given(Job::Run(1, text(alloc, "t")?))),
+        9 => Some(Answer::Main),
+        10 => Some(Answer::Truth(true)),
+        11 => None,
+        12 => Some(Answer::Done),
+        13 => Some(Answer::Ended(raised(alloc)?)),
+        _ => Some(Answer::Truth(false)),
+    })
+}
+
+#[test]
+fn a_run(rt: HostRuntime) -> Result<(), Fail> {
+    let alloc = rt.alloc();
+    let mut hub = running(alloc, 2)?;
+    for at in 0..15 {
+        let (by, action) = run_asked(alloc, at)?;
+        let told = act(&mut hub, by, action)?;
+        assert!(rt; same(&told, &run_answered(alloc, at)?), "at {at}");
+    }
+    Ok(())
+}
