@@ -3,7 +3,7 @@
 use crate::emit::emit_suite;
 use si_code::{CodeTable, Instr};
 use si_plain::Names;
-use si_syntax::{BinaryOperator, BooleanOperator, Clause, ComparisonOperator, Expr, Stmt};
+use si_syntax::{BinaryOperator, BooleanOperator, Clause, ComparisonOperator, Expr, Stmt, Target};
 use std::alloc::{AllocError, Global};
 use std::test::Fail;
 
@@ -91,7 +91,7 @@ fn a_loop_begins_again_or_ends(rt: HostRuntime) -> Result<(), Fail> {
 fn items_are_gone_over(rt: HostRuntime) -> Result<(), Fail> {
     let alloc = rt.alloc();
     let rounds = Stmt::For(
-        String::from_str(alloc, "x")?,
+        Target::Named(String::from_str(alloc, "x")?),
         name(alloc, "a")?,
         suite(alloc, "b")?,
         suite(alloc, "c")?,
@@ -228,9 +228,9 @@ fn operands_that_may_be_passed_over(rt: HostRuntime) -> Result<(), Fail> {
         Box::new(alloc, either)?,
         Box::new(alloc, Expr::Truth(false))?,
     );
-    let first = Stmt::Assign(String::from_str(alloc, "x")?, value);
+    let first = Stmt::Assign(Target::Named(String::from_str(alloc, "x")?), value);
     let second = Stmt::Augment(
-        String::from_str(alloc, "x")?,
+        Target::Named(String::from_str(alloc, "x")?),
         BinaryOperator::Add,
         Expr::Int(1),
     );
