@@ -3,7 +3,6 @@ use Rattle.std.proofs.Common.{◌≡◌, ℕ, ◌+◌, ◌<◌, ◌≤◌, List,
 use Rattle.std.specs.List.{AllByRecursion}
 use Rattle.std.proofs.lemmas.List.{drop_all}
 use Rattle.si_semantics.specs.Value.{Text}
-use Rattle.si_semantics.specs.Scope.{place_of}
 use Rattle.si_semantics.specs.Tree as tree
 use Rattle.si_semantics.specs.Tree.{functions_of, functions_in}
 use Rattle.si_semantics.specs.Machine as machine
@@ -17,7 +16,7 @@ use Rattle.si_syntax.specs.declared.expr.Expr.TheVariants.{rolls-Boolean, rolls-
 use Rattle.si_syntax.specs.declared.expr.Expr.TheViews as views
 use Rattle.si_syntax.specs.declared.stmt.Stmt.{Stmt}
 use Rattle.si_syntax.specs.Trees.{boolean_of, body_of, comparison_of, expr_of, view_step, link_of, elif_of}
-use Rattle.si_compile.specs.Code.{expr_code, operands_code, chain_code, stmt_code, stmts_code, store_code}
+use Rattle.si_compile.specs.Code.{expr_code, operands_code, chain_code, stmt_code, stmts_code, bind_code}
 use Rattle.si_code.specs.Contents.{Contents, Extends}
 use Rattle.si_code.specs.Jumps.{Due, Aims}
 use Rattle.si_compile.specs.Jumps.{branch_front, turn_front, round_front}
@@ -99,14 +98,14 @@ module _ (ls : List Text) where
       tree_gains ls first t (tree.While (expr_of test) (body_of ss) (body_of ends)) seen
       (loop_gains (Code ls test) (stmts_code ls first (body_of ss)) (stmts_code ls (first + length (functions_in (body_of ss))) (body_of ends)) enter here front numbered aim)
 
-  pub for_stmt : {t0 t1 t2 t3 t4 : Contents} (first then : ℕ) (name : Text) (items : Expr) (ss ends : List Stmt) (t : tree.Stmt) (enter : ℕ) → t ≡ tree.For name (expr_of items) (body_of ss) (body_of ends)
-      → then ≡ first + length (functions_in (body_of ss)) → enter ≡ length t1.lines + 2
-      → Gains t0 t1 (Code ls items ++ machine.StartFor ∷ []) → Gains t1 t2 (round_front (store_code name (place_of name ls)) (stmts_code ls first (body_of ss))) → Gains t2 t3 (stmts_code ls then (body_of ends)) → Ends t3 enter t4
+  pub for_stmt : {t0 t1 t2 t3 t4 : Contents} (first then : ℕ) (target : tree.Target) (items : Expr) (ss ends : List Stmt) (t : tree.Stmt) (enter : ℕ) → t ≡ tree.For target (expr_of items) (body_of ss) (body_of ends)
+      → then ≡ first + length (functions_in (body_of ss)) → enter ≡ length t1.lines + (length (bind_code ls target) + 1)
+      → Gains t0 t1 (Code ls items ++ machine.StartFor ∷ []) → Gains t1 t2 (round_front (bind_code ls target) (stmts_code ls first (body_of ss))) → Gains t2 t3 (stmts_code ls then (body_of ends)) → Ends t3 enter t4
       → Gains t0 t4 (stmt_code ls first t)
-  for_stmt {t0} {t1} {t2} {t3} {t4} first then name items ss ends t enter seen goes here over front last end =
+  for_stmt {t0} {t1} {t2} {t3} {t4} first then target items ss ends t enter seen goes here over front last end =
       let numbered = subst (λ n. Gains t2 t3 (stmts_code ls n (body_of ends))) goes last in
-      tree_gains ls first t (tree.For name (expr_of items) (body_of ss) (body_of ends)) seen
-      (for_gains (Code ls items) (store_code name (place_of name ls)) (stmts_code ls first (body_of ss)) (stmts_code ls (first + length (functions_in (body_of ss))) (body_of ends)) enter here over front numbered end)
+      tree_gains ls first t (tree.For target (expr_of items) (body_of ss) (body_of ends)) seen
+      (for_gains (Code ls items) (bind_code ls target) (stmts_code ls first (body_of ss)) (stmts_code ls (first + length (functions_in (body_of ss))) (body_of ends)) enter here over front numbered end)
 
   -- one `elif` of several
   pub next_elif : {t1 t2 : Contents} (bs : List (Expr × Vec Stmt Global)) (i : ℕ) (b : Expr × Vec Stmt Global) (last : tree.Stmts) (ss : List Stmt) (at now then : ℕ) → i < length bs → get_or bs i b ≡ b → ss ≡ b.1.items → then ≡ now + length (functions_in (body_of ss)) → at + 1 ≡ length t2.lines
@@ -151,9 +150,9 @@ pub while_number : (first then now : ℕ) (test : Expr) (ss ends : List Stmt) (t
     → then ≡ first + length (functions_in (body_of ss)) → now ≡ then + length (functions_in (body_of ends)) → now ≡ first + length (functions_of t)
 while_number first then now test ss ends t seen goes on = tree_number now first t (tree.While (expr_of test) (body_of ss) (body_of ends)) seen (if_number first then now ss (body_of ends) goes on)
 
-pub for_number : (first then now : ℕ) (name : Text) (items : Expr) (ss ends : List Stmt) (t : tree.Stmt) → t ≡ tree.For name (expr_of items) (body_of ss) (body_of ends)
+pub for_number : (first then now : ℕ) (target : tree.Target) (items : Expr) (ss ends : List Stmt) (t : tree.Stmt) → t ≡ tree.For target (expr_of items) (body_of ss) (body_of ends)
     → then ≡ first + length (functions_in (body_of ss)) → now ≡ then + length (functions_in (body_of ends)) → now ≡ first + length (functions_of t)
-for_number first then now name items ss ends t seen goes on = tree_number now first t (tree.For name (expr_of items) (body_of ss) (body_of ends)) seen (if_number first then now ss (body_of ends) goes on)
+for_number first then now target items ss ends t seen goes on = tree_number now first t (tree.For target (expr_of items) (body_of ss) (body_of ends)) seen (if_number first then now ss (body_of ends) goes on)
 
 -- ---- what stood in front
 

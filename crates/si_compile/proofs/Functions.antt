@@ -10,6 +10,7 @@ use Rattle.si_semantics.specs.Grammar.{elifs_of, clauses_of}
 use Rattle.si_semantics.specs.Machine as machine
 use Rattle.si_semantics.specs.Scope.{locals_of}
 use Rattle.si_syntax.specs.declared.expr.Expr.{Expr}
+use Rattle.si_syntax.specs.declared.target.Target.{Target}
 use Rattle.si_syntax.specs.declared.stmt.Stmt.{Stmt, size-Stmt}
 use denote.Param.Weighed.{most}
 use Rattle.si_syntax.specs.declared.stmt.Stmt.TheViews as stmt_views
@@ -176,11 +177,11 @@ finally_front body clauses last final finals s is done =
 
 -- a loop, of either kind, has this suite and this else suite
 abbrev pub IsLoop : Stmt → Vec Stmt Global → Vec Stmt Global → Type 0
-IsLoop s body last = ((x : Expr) × (s ≡ stmt_views.While x body last)) ⊎ ((y : String Global) × (x : Expr) × (s ≡ stmt_views.For y x body last))
+IsLoop s body last = ((x : Expr) × (s ≡ stmt_views.While x body last)) ⊎ ((y : Target) × (x : Expr) × (s ≡ stmt_views.For y x body last))
 
 pub loop_defines : (s : Stmt) (body last : Vec Stmt Global) (ss ends : List Stmt) → IsLoop s body last → ss ≡ body.items → ends ≡ last.items → loop_functions (stmt_of s) ≡ functions_in (body_of ss) ++ functions_in (body_of ends)
 loop_defines s body last ss ends (inl (x, is)) suite end = ap loop_functions (while_seen x body last ss ends s is suite end)
-loop_defines s body last ss ends (inr (y, x, is)) suite end = ap loop_functions (for_seen y x body last (string_bytes y) ss ends s is refl suite end)
+loop_defines s body last ss ends (inr (y, x, is)) suite end = ap loop_functions (for_seen y x body last ss ends s is suite end)
 
 -- its suites are smaller
 pub loop_suite : (s : Stmt) (body last : Vec Stmt Global) (ss : List Stmt) → IsLoop s body last → ss ≡ body.items → most size-Stmt ss < size-Stmt s

@@ -49,50 +49,56 @@ loop_gains {t0} {t1} {t2} {t3} test body last enter here h k aim =
 
 -- ---- `for`
 
-pub round_gains : {t2 t3 t4 t5 t6 t7 t8 : Contents} (put : Instr) (body : List Instr) (skip : ℕ) → skip ≡ length t2.lines
-    → Gains t2 t3 (NextItem 0 ∷ []) → Gains t3 t4 (put ∷ []) → Gains t4 t5 (EnterLoop 3 0 ∷ []) → Gains t5 t6 body → Gains t6 t7 (DoContinue ∷ []) → Aims t7 skip t8
+pub round_gains : {t2 t3 t4 t5 t6 t7 t8 : Contents} (put body : List Instr) (skip : ℕ) → skip ≡ length t2.lines
+    → Gains t2 t3 (NextItem 0 ∷ []) → Gains t3 t4 put → Gains t4 t5 (EnterLoop (length t4.lines + 1 - skip) 0 ∷ []) → Gains t5 t6 body → Gains t6 t7 (DoContinue ∷ []) → Aims t7 skip t8
     → Gains t2 t8 (round_front put body)
 round_gains {t2} {t3} {t4} {t5} {t6} {t7} {t8} put body skip e2 h2 h3 h4 h5 h6 aim =
+    let back : length t4.lines + 1 - skip ≡ length put + 2 = omega (arith, e2, length_gained h2, length_gained h3) in
+    let enter = EnterLoop (length put + 2) 0 in
+    let entered = subst (λ k. Gains t4 t5 (EnterLoop k 0 ∷ [])) back h4 in
     let turn = body ++ DoContinue ∷ [] in
-    let inside = Gains-append t4 t5 t7 (EnterLoop 3 0 ∷ []) turn h4 (Gains-append t5 t6 t7 body (DoContinue ∷ []) h5 h6) in
-    let rest = put ∷ (EnterLoop 3 0 ∷ turn) in
-    let all = Gains-append t2 t3 t7 (NextItem 0 ∷ []) rest h2 (Gains-append t3 t4 t7 (put ∷ []) (EnterLoop 3 0 ∷ turn) h3 inside) in
-    let far : length rest ≡ length body + 3 = omega (arith, length-append body (DoContinue ∷ [])) in
+    let inside = Gains-append t4 t5 t7 (enter ∷ []) turn entered (Gains-append t5 t6 t7 body (DoContinue ∷ []) h5 h6) in
+    let rest = put ++ (enter ∷ turn) in
+    let all = Gains-append t2 t3 t7 (NextItem 0 ∷ []) rest h2 (Gains-append t3 t4 t7 put (enter ∷ turn) h3 inside) in
+    let far : length rest ≡ length put + length body + 2 = omega (arith, length-append put (enter ∷ turn), length-append body (DoContinue ∷ [])) in
     let here : skip ≡ length t2.lines + 0 = omega (arith, e2) in
     subst (Gains t2 t8) (ap (λ k. NextItem k ∷ rest) far) (aim t2 [] rest (NextItem 0) all here)
 
-pub round_at : {t2 t3 t4 : Contents} (put : Instr) (enter : ℕ) → enter ≡ length t4.lines → Gains t2 t3 (NextItem 0 ∷ []) → Gains t3 t4 (put ∷ []) → enter ≡ length t2.lines + 2
+pub round_at : {t2 t3 t4 : Contents} (put : List Instr) (enter : ℕ) → enter ≡ length t4.lines → Gains t2 t3 (NextItem 0 ∷ []) → Gains t3 t4 put → enter ≡ length t2.lines + (length put + 1)
 round_at put enter here h k = omega (arith, here, length_gained h, length_gained k)
 
 -- what ends a `for`
 abbrev pub Ends : Contents → ℕ → Contents → Type 0
 Ends old enter new =
-    (front : Contents) (before rest : List Instr) → Gains front old (before ++ EnterLoop 3 0 ∷ rest) → enter ≡ length front.lines + length before
-    → Gains front new (before ++ (EnterLoop 3 (length rest + 1) ∷ (rest ++ (Jump 1 ∷ (LeaveBlock ∷ [])))))
+    (front : Contents) (before rest : List Instr) (back : ℕ) → Gains front old (before ++ EnterLoop back 0 ∷ rest) → enter ≡ length front.lines + length before
+    → Gains front new (before ++ (EnterLoop back (length rest + 1) ∷ (rest ++ (Jump 1 ∷ (LeaveBlock ∷ [])))))
 
 pub ends_gains : {t0 t1 t2 t3 : Contents} (enter : ℕ) → Gains t0 t1 (Jump 1 ∷ []) → Aims t1 enter t2 → Gains t2 t3 (LeaveBlock ∷ []) → Ends t0 enter t3
-ends_gains {t0} {t1} {t2} {t3} enter h aim k front before rest g here =
+ends_gains {t0} {t1} {t2} {t3} enter h aim k front before rest back g here =
     let more = rest ++ Jump 1 ∷ [] in
-    let all = subst (Gains front t1) (append_assoc before (EnterLoop 3 0 ∷ rest) (Jump 1 ∷ [])) (Gains-append front t0 t1 (before ++ EnterLoop 3 0 ∷ rest) (Jump 1 ∷ []) g h) in
+    let all = subst (Gains front t1) (append_assoc before (EnterLoop back 0 ∷ rest) (Jump 1 ∷ [])) (Gains-append front t0 t1 (before ++ EnterLoop back 0 ∷ rest) (Jump 1 ∷ []) g h) in
     let far : length more ≡ length rest + 1 = omega (arith, length-append rest (Jump 1 ∷ [])) in
-    let enters = EnterLoop 3 (length rest + 1) in
-    let aimed = subst (Gains front t2) (ap (λ n. before ++ (EnterLoop 3 n ∷ more)) far) (aim front before more (EnterLoop 3 0) all here) in
+    let enters = EnterLoop back (length rest + 1) in
+    let aimed = subst (Gains front t2) (ap (λ n. before ++ (EnterLoop back n ∷ more)) far) (aim front before more (EnterLoop back 0) all here) in
     subst (Gains front t3) (append_assoc before (enters ∷ more) (LeaveBlock ∷ []) ∙ ap (λ l. before ++ (enters ∷ l)) (append_assoc rest (Jump 1 ∷ []) (LeaveBlock ∷ [])))
     (Gains-append front t2 t3 (before ++ (enters ∷ more)) (LeaveBlock ∷ []) aimed k)
 
-pub for_gains : {t0 t1 t2 t3 t4 : Contents} (items : List Instr) (put : Instr) (body last : List Instr) (enter : ℕ) → enter ≡ length t1.lines + 2
+pub for_gains : {t0 t1 t2 t3 t4 : Contents} (items put body last : List Instr) (enter : ℕ) → enter ≡ length t1.lines + (length put + 1)
     → Gains t0 t1 (items ++ StartFor ∷ []) → Gains t1 t2 (round_front put body) → Gains t2 t3 last → Ends t3 enter t4
     → Gains t0 t4 (for_code items put body last)
 for_gains {t0} {t1} {t2} {t3} {t4} items put body last enter here h0 h1 h2 ends =
     let turn = body ++ DoContinue ∷ [] in
-    let next = NextItem (length body + 3) in
+    let next = NextItem (length put + length body + 2) in
+    let back = length put + 2 in
     let end = Jump 1 ∷ (LeaveBlock ∷ []) in
     let whole = body ++ (DoContinue ∷ (last ++ end)) in
     let far : length (turn ++ last) + 1 ≡ length body + length last + 2 = omega (arith, length-append turn last, length-append body (DoContinue ∷ [])) in
     let joins : (turn ++ last) ++ end ≡ whole = append_assoc turn last end ∙ append_assoc body (DoContinue ∷ []) (last ++ end) in
-    let rounds = subst (Gains t1 t4) (ap (λ n. next ∷ (put ∷ (EnterLoop 3 n ∷ ((turn ++ last) ++ end)))) far ∙ ap (λ l. next ∷ (put ∷ (EnterLoop 3 (length body + length last + 2) ∷ l))) joins)
-    (ends t1 (next ∷ (put ∷ [])) (turn ++ last) (Gains-append t1 t2 t3 (round_front put body) last h1 h2) here) in
-    let rest = next ∷ (put ∷ (EnterLoop 3 (length body + length last + 2) ∷ whole)) in
+    let in_front = subst (Gains t1 t3) (ap (λ l. next ∷ l) (append_assoc put (EnterLoop back 0 ∷ turn) last)) (Gains-append t1 t2 t3 (round_front put body) last h1 h2) in
+    let place : enter ≡ length t1.lines + length (next ∷ put) = omega (arith, here) in
+    let rounds = subst (Gains t1 t4) (ap (λ n. next ∷ (put ++ (EnterLoop back n ∷ ((turn ++ last) ++ end)))) far ∙ ap (λ l. next ∷ (put ++ (EnterLoop back (length body + length last + 2) ∷ l))) joins)
+    (ends t1 (next ∷ put) (turn ++ last) back in_front place) in
+    let rest = next ∷ (put ++ (EnterLoop back (length body + length last + 2) ∷ whole)) in
     subst (Gains t0 t4) (append_assoc items (StartFor ∷ []) rest) (Gains-append t0 t1 t4 (items ++ StartFor ∷ []) rest h0 rounds)
 
 -- ---- what stood in front

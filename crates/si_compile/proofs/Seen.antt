@@ -5,12 +5,13 @@ use Rattle.si_semantics.specs.Tree as tree
 use Rattle.si_semantics.specs.Tree.{functions_of}
 use Rattle.si_semantics.specs.Grammar.{elifs_of, clauses_of}
 use Rattle.si_syntax.specs.declared.expr.Expr.{Expr}
+use Rattle.si_syntax.specs.declared.target.Target.{Target}
 use Rattle.si_syntax.specs.declared.stmt.Stmt.{Stmt}
 use Rattle.si_syntax.specs.declared.stmt.Stmt.TheFolds.{fold-roll-Stmt}
 use Rattle.si_syntax.specs.declared.stmt.Stmt.TheOpen.{Stmt-F}
 use Rattle.si_syntax.specs.declared.stmt.Stmt.TheVariants.{rolls-While, rolls-For, rolls-Define}
 use Rattle.si_syntax.specs.declared.stmt.Stmt.TheViews as views
-use Rattle.si_syntax.specs.Trees.{expr_of, stmt_of, stmt_step, body_of, elif_of, clause_of}
+use Rattle.si_syntax.specs.Trees.{expr_of, target_of, stmt_of, stmt_step, body_of, elif_of, clause_of}
 use Rattle.si_syntax.proofs.Forms.{if_is, try_is, finally_is}
 use Rattle.si_code.specs.Contents.{Contents}
 use Rattle.si_code.specs.Views.{Gains}
@@ -44,12 +45,11 @@ while_seen test body last ss ends s is suite end =
     ap stmt_of (is ∙ sym (rolls-While test body last)) ∙ fold-roll-Stmt tree.Stmt stmt_step (Stmt-F.While test body last)
     ∙ ap (λ l. tree.While (expr_of test) (body_of l) (body_of last.items)) (sym suite) ∙ ap (λ l. tree.While (expr_of test) (body_of ss) (body_of l)) (sym end)
 
-pub for_seen : (x : String Global) (items : Expr) (body last : Vec Stmt Global) (name : Text) (ss ends : List Stmt) (s : Stmt)
-    → s ≡ views.For x items body last → name ≡ string_bytes x → ss ≡ body.items → ends ≡ last.items → stmt_of s ≡ tree.For name (expr_of items) (body_of ss) (body_of ends)
-for_seen x items body last name ss ends s is named suite end =
+pub for_seen : (x : Target) (items : Expr) (body last : Vec Stmt Global) (ss ends : List Stmt) (s : Stmt)
+    → s ≡ views.For x items body last → ss ≡ body.items → ends ≡ last.items → stmt_of s ≡ tree.For (target_of x) (expr_of items) (body_of ss) (body_of ends)
+for_seen x items body last ss ends s is suite end =
     ap stmt_of (is ∙ sym (rolls-For x items body last)) ∙ fold-roll-Stmt tree.Stmt stmt_step (Stmt-F.For x items body last)
-    ∙ ap (λ y. tree.For y (expr_of items) (body_of body.items) (body_of last.items)) (sym named)
-    ∙ ap (λ l. tree.For name (expr_of items) (body_of l) (body_of last.items)) (sym suite) ∙ ap (λ l. tree.For name (expr_of items) (body_of ss) (body_of l)) (sym end)
+    ∙ ap (λ l. tree.For (target_of x) (expr_of items) (body_of l) (body_of last.items)) (sym suite) ∙ ap (λ l. tree.For (target_of x) (expr_of items) (body_of ss) (body_of l)) (sym end)
 
 pub define_seen : (line : ℕ) (x : String Global) (ps : Vec (String Global) Global) (body : Vec Stmt Global) (s : Stmt)
     → s ≡ views.Define line x ps body → stmt_of s ≡ tree.Define (string_bytes x) (map string_bytes ps.items) (body_of body.items)

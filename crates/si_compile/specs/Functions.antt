@@ -22,7 +22,7 @@ if_functions _ = []
 -- those of a loop
 abbrev pub loop_functions : Stmt → List Function
 loop_functions (While a b c) = functions_in b ++ functions_in c
-loop_functions (For x a b c) = functions_in b ++ functions_in c
+loop_functions (For t a b c) = functions_in b ++ functions_in c
 loop_functions _ = []
 
 -- those of a `try` with a finally suite

@@ -5,8 +5,8 @@ ghost use Rattle.si_semantics.specs.Machine as machine;
 ghost use Rattle.si_semantics.specs.Scope.{place_of};
 ghost use Rattle.si_semantics.specs.Tree.{functions_in, functions_of};
 ghost use Rattle.si_semantics.specs.Value.{Function, Nothing};
-ghost use Rattle.si_syntax.specs.Trees.{binary_of, body_of, expr_of, stmt_of};
-ghost use Rattle.si_compile.specs.Code.{expr_code, load_code, raise_code, return_code, stmt_code, stmts_code, store_code, unbind_code};
+ghost use Rattle.si_syntax.specs.Trees.{binary_of, body_of, expr_of, stmt_of, target_of};
+ghost use Rattle.si_compile.specs.Code.{bind_code, expr_code, raise_code, return_code, stmt_code, stmts_code, store_code, target_code, unbind_code};
 ghost use Rattle.si_code.specs.Contents.{Extends};
 ghost use Rattle.si_compile.specs.Jumps.{branch_front, only_if};
 ghost use Rattle.si_code.specs.Views.{Gains};
@@ -16,7 +16,7 @@ use crate::handlers::{emit_finally, emit_try};
 use crate::loops::{emit_for, emit_while};
 use si_code::{CodeTable, Instr};
 use si_plain::{Names, NoMemory};
-use si_syntax::{BinaryOperator, Expr, Stmt};
+use si_syntax::{BinaryOperator, Expr, Stmt, Target};
 use std::alloc::AllocError;
 
 /// Statements one after another, where these names are local. The functions that they define are numbered from `next`
@@ -51,9 +51,9 @@ fn emit_stmt(
 {
     match stmt {
         Stmt::Evaluate(expr) => emit_evaluate(table, locals, expr),
-        Stmt::Assign(name, expr) => emit_assign(table, locals, name.as_str(), expr),
-        Stmt::Augment(name, operator, expr) => {
-            emit_augment(table, locals, name.as_str(), *operator, expr)
+        Stmt::Assign(target, expr) => emit_assign(table, locals, target, expr),
+        Stmt::Augment(target, operator, expr) => {
+            emit_augment(table, locals, target, *operator, expr)
         }
         Stmt::Pass => Ok(()),
         Stmt::If(_, _, _, _) => emit_if(table, locals, next, stmt),
@@ -79,36 +79,60 @@ fn emit_evaluate(table: &mut CodeTable, locals: &Names, expr: &Expr) -> Result<(
     table.put(Instr::Discard)
 }
 
-// The binding of a name to the value of an expression.
+// The binding of a target to the value of an expression.
 fn emit_assign(
     table: &mut CodeTable,
     locals: &Names,
-    name: &str,
+    target: &Target,
     expr: &Expr,
 ) -> Result<(), NoMemory>
-    ensures ok { OnOk result (Gains table.old table.new (expr_code locals.now (expr_of expr.now) ++ store_code name.now (place_of name.now locals.now) ∷ [])) }
+    ensures ok { OnOk result (Gains table.old table.new (expr_code locals.now (expr_of expr.now) ++ bind_code locals.now (target_of target.now))) }
     ensures extends { Extends table.old table.new }
 {
     emit_expr(table, locals, expr)?;
-    emit_store(table, locals, name)
+    emit_bind(table, locals, target)
 }
 
-// The same, of what the operator gives for its own value and that of the expression.
+// The same, to what the operator gives for its own value and that of the expression.
 fn emit_augment(
     table: &mut CodeTable,
     locals: &Names,
-    name: &str,
+    target: &Target,
     operator: BinaryOperator,
     expr: &Expr,
 ) -> Result<(), NoMemory>
-    ensures ok { let place = place_of name.now locals.now in
-        OnOk result (Gains table.old table.new (load_code name.now place ∷ (expr_code locals.now (expr_of expr.now) ++ (machine.ApplyBinary (binary_of operator) ∷ (store_code name.now place ∷ []))))) }
+    ensures ok { OnOk result (Gains table.old table.new
+        (target_code locals.now (target_of target.now) ++ (expr_code locals.now (expr_of expr.now) ++ (machine.ApplyBinary (binary_of operator) ∷ bind_code locals.now (target_of target.now))))) }
     ensures extends { Extends table.old table.new }
 {
-    emit_load(table, locals, name)?;
+    emit_target(table, locals, target)?;
     emit_expr(table, locals, expr)?;
     table.put(Instr::Binary(operator))?;
-    emit_store(table, locals, name)
+    emit_bind(table, locals, target)
+}
+
+// The value of a target.
+fn emit_target(table: &mut CodeTable, locals: &Names, target: &Target) -> Result<(), NoMemory>
+    ensures ok { OnOk result (Gains table.old table.new (target_code locals.now (target_of target.now))) }
+    ensures extends { Extends table.old table.new }
+{
+    match target {
+        Target::Named(name) => emit_load(table, locals, name.as_str()),
+    }
+}
+
+/// The binding of a target to the value on top of the operand stack.
+pub(crate) fn emit_bind(
+    table: &mut CodeTable,
+    locals: &Names,
+    target: &Target,
+) -> Result<(), NoMemory>
+    ensures ok { OnOk result (Gains table.old table.new (bind_code locals.now (target_of target.now))) }
+    ensures extends { Extends table.old table.new }
+{
+    match target {
+        Target::Named(name) => emit_store(table, locals, name.as_str()),
+    }
 }
 
 // An `if`, each `elif`, and the else suite. Another statement has no code here.

@@ -1,19 +1,18 @@
 // The code of loops.
-ghost use Rattle.std.specs.Prelude.{◌≡◌, ◌+◌, ◌≤◌, List, [], ◌∷◌, ◌++◌, length, IfOk, OnOk};
+ghost use Rattle.std.specs.Prelude.{◌≡◌, ℕ, ◌+◌, ◌≤◌, List, [], ◌∷◌, ◌++◌, length, IfOk, OnOk};
 ghost use Rattle.si_semantics.specs.Machine as machine;
-ghost use Rattle.si_semantics.specs.Scope.{place_of};
 ghost use Rattle.si_semantics.specs.Tree.{functions_in, functions_of};
-ghost use Rattle.si_syntax.specs.Trees.{body_of, expr_of, stmt_of};
-ghost use Rattle.si_compile.specs.Code.{expr_code, stmt_code, stmts_code, store_code};
+ghost use Rattle.si_syntax.specs.Trees.{body_of, expr_of, stmt_of, target_of};
+ghost use Rattle.si_compile.specs.Code.{bind_code, expr_code, stmt_code, stmts_code};
 ghost use Rattle.si_compile.specs.Jumps.{only_for, only_while, round_front, turn_front};
 ghost use Rattle.si_code.specs.Contents.{Contents, Extends};
 ghost use Rattle.si_code.specs.Views.{Gains};
 
-use crate::emit::{emit_store, emit_suite};
+use crate::emit::{emit_bind, emit_suite};
 use crate::expression::emit_expr;
 use si_code::{CodeTable, Instr};
 use si_plain::{Names, NoMemory};
-use si_syntax::{Expr, Stmt};
+use si_syntax::{Expr, Stmt, Target};
 
 /// A `while`. Another statement has no code here.
 #[cycle(stmts)]
@@ -75,11 +74,11 @@ pub(crate) fn emit_for(
     ensures next { OnOk result (next.new ≡ next.old + length (functions_of (only_for (stmt_of stmt.now)))) }
     ensures extends { Extends table.old table.new }
 {
-    let Stmt::For(name, items, body, last) = stmt else {
+    let Stmt::For(target, items, body, last) = stmt else {
         return Ok(());
     };
     emit_items(table, locals, items)?;
-    let enter = emit_round(table, locals, next, name.as_str(), body)?;
+    let enter = emit_round(table, locals, next, target, body)?;
     emit_suite(table, locals, next, last)?;
     emit_last_round(table, enter)
 }
@@ -100,20 +99,20 @@ fn emit_round(
     table: &mut CodeTable,
     locals: &Names,
     next: &mut u32,
-    name: &str,
+    target: &Target,
     body: &[Stmt],
 ) -> Result<usize, NoMemory>
     ensures ok { let suite = stmts_code locals.now next.old (body_of body.now) in
-        OnOk result (Gains table.old table.new (round_front (store_code name.now (place_of name.now locals.now)) suite)) }
+        OnOk result (Gains table.old table.new (round_front (bind_code locals.now (target_of target.now)) suite)) }
     ensures next { OnOk result (next.new ≡ next.old + length (functions_in (body_of body.now))) }
-    ensures at { IfOk result (λ at. at ≡ length table.old.lines + 2) }
+    ensures at { IfOk result (λ at. at ≡ length table.old.lines + (length (bind_code locals.now (target_of target.now)) + 1)) }
     ensures extends { Extends table.old table.new }
 {
     let skip = table.len();
     table.put(Instr::NextItem(0))?;
-    emit_store(table, locals, name)?;
+    emit_bind(table, locals, target)?;
     let enter = table.len();
-    table.put(Instr::EnterLoop(3, 0))?;
+    table.put_enter(skip)?;
     emit_suite(table, locals, next, body)?;
     table.put(Instr::Continue)?;
     table.aim(skip)?;
@@ -122,8 +121,8 @@ fn emit_round(
 
 // The end of a `for` whose suite is entered at this place: `break` leads to the last instruction, which lets the items go.
 fn emit_last_round(table: &mut CodeTable, enter: usize) -> Result<(), NoMemory>
-    ensures ok { OnOk result ((front : Contents) (before rest : List machine.Instr) → Gains front table.old (before ++ machine.EnterLoop 3 0 ∷ rest) → enter ≡ length front.lines + length before
-        → Gains front table.new (before ++ (machine.EnterLoop 3 (length rest + 1) ∷ (rest ++ (machine.Jump 1 ∷ (machine.LeaveBlock ∷ [])))))) }
+    ensures ok { OnOk result ((front : Contents) (before rest : List machine.Instr) (back : ℕ) → Gains front table.old (before ++ machine.EnterLoop back 0 ∷ rest) → enter ≡ length front.lines + length before
+        → Gains front table.new (before ++ (machine.EnterLoop back (length rest + 1) ∷ (rest ++ (machine.Jump 1 ∷ (machine.LeaveBlock ∷ [])))))) }
     ensures extends { (front : Contents) → length front.lines ≤ enter → Extends front table.old → Extends front table.new }
 {
     table.put(Instr::Jump(1))?;

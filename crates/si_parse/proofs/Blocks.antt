@@ -3,9 +3,9 @@ use Rattle.std.proofs.Common.{◌≡◌, ℕ, zero, suc, ◌<◌, List, [], ◌�
 use Rattle.std.specs.Prelude.{option_map, flat_map, if◌then◌else◌}
 use Rattle.std.proofs.lemmas.List.{append-nil}
 use Rattle.si_semantics.specs.Value.{Text}
-use Rattle.si_semantics.specs.Tree.{Expr, Constant, Name, Unary, Binary, Call, Boolean, Compare, Conditional, Stmt, Evaluate, Assign, Augment, Pass, If, While, For, Break, Continue, Define, Return, Global, Raise, Try, Finally, Stmts}
+use Rattle.si_semantics.specs.Tree.{Expr, Constant, Name, Unary, Binary, Call, Boolean, Compare, Conditional, Stmt, Target, Named, Evaluate, Assign, Augment, Pass, If, While, For, Break, Continue, Define, Return, Global, Raise, Try, Finally, Stmts}
 use Rattle.si_semantics.specs.Tokens as token
-use Rattle.si_semantics.specs.Grammar.{Terminal, NAME, Sign, Word, NEWLINE, INDENT, DEDENT, Many, Behind, Spells, max_depth, IsExpression, Simple, stmts_of, Lines, Block, Suite, Branch, Tested, Otherwise, elifs_of, Compound, Nests}
+use Rattle.si_semantics.specs.Grammar.{Terminal, NAME, Sign, Word, NEWLINE, INDENT, DEDENT, Many, Behind, Spells, max_depth, IsExpression, Simple, stmts_of, Lines, Block, Suite, Branch, Tested, Otherwise, elifs_of, Compound, Nests, IsTarget}
 use Rattle.si_parse.specs.Reading.{then_read, rest_of, after_colon, after_newline, after_indent, after_elif, after_in, after_except, after_finally, after_open, name_at, parameters_by, defined_by, define_by, after_else, expression_at, LineParser, is_dedent, many_by, indented_by, suite_from, suite_by, branch_by, with_branch, elif_by, is_none, no_elif, elifs_by, otherwise_from, otherwise_by, joined_if, if_by, joined_while, while_by, target_from, target_by, joined_for, for_by, Header, if_header, while_header, for_header, try_header, def_header, header_at, compound_by, with_compound, block_from, block_at}
 use Rattle.si_parse.proofs.Laws.{then_read_some, some_inj, spells_looser, spells_deeper, name_tighter, after_newline_some, after_colon_some, after_indent_some, after_elif_some, after_in_some, header_word, header_at_some, after_open_some, name_at_some, after_else_some}
 use Rattle.si_parse.proofs.Levels.{high, at_condition}
@@ -38,15 +38,15 @@ dedent_only (_ ∷ ts) h = cc
 
 -- ---- the target of a `for`
 
-abbrev TargetRead : List Terminal → Text × List Terminal → Type 0
-TargetRead ts x = (f : List Terminal) × (ts ≡ f ++ Word token.InWord ∷ x.1) × Spells max_depth 18 (Name x.0) f
+abbrev TargetRead : List Terminal → Target × List Terminal → Type 0
+TargetRead ts x = (f : List Terminal) × (ts ≡ f ++ Word token.InWord ∷ x.1) × IsTarget x.0 f
 
-target_behind : (f ts : List Terminal) (y : Text) (o : Option (List Terminal)) → after_in ts ≡ o → Spells max_depth 18 (Name y) f → (x : Text × List Terminal) → option_map {U = Text × List Terminal} (λ rest. (y, rest)) o ≡ Some x → TargetRead (f ++ ts) x
+target_behind : (f ts : List Terminal) (y : Text) (o : Option (List Terminal)) → after_in ts ≡ o → Spells max_depth 18 (Name y) f → (x : Target × List Terminal) → option_map {U = Target × List Terminal} (λ rest. (Named y, rest)) o ≡ Some x → TargetRead (f ++ ts) x
 target_behind f ts y None is spelled x h = cc
 target_behind f ts y (Some rest) is spelled x h =
-    let P : Text × List Terminal → Type 0 = TargetRead (f ++ ts) in subst P (some_inj (y, rest) x h) (f, ap (λ t. f ++ t) (after_in_some ts rest is), spelled)
+    let P : Target × List Terminal → Type 0 = TargetRead (f ++ ts) in subst P (some_inj (Named y, rest) x h) (f, ap (λ t. f ++ t) (after_in_some ts rest is), spelled)
 
-target_is : (f ts : List Terminal) (e : Expr) → Spells max_depth 16 e f → (x : Text × List Terminal) → target_from e (after_in ts) ≡ Some x → TargetRead (f ++ ts) x
+target_is : (f ts : List Terminal) (e : Expr) → Spells max_depth 16 e f → (x : Target × List Terminal) → target_from e (after_in ts) ≡ Some x → TargetRead (f ++ ts) x
 target_is f ts (Name y) spelled x h = target_behind f ts y (after_in ts) refl (name_tighter max_depth 16 18 y f spelled) x h
 target_is f ts (Constant v) spelled x h = cc
 target_is f ts (Unary op e) spelled x h = cc
@@ -56,14 +56,14 @@ target_is f ts (Boolean op e others) spelled x h = cc
 target_is f ts (Compare e cs) spelled x h = cc
 target_is f ts (Conditional e g i) spelled x h = cc
 
-target_reads : (ts : List Terminal) (x : Text × List Terminal) → target_by ts ≡ Some x → TargetRead ts x
+target_reads : (ts : List Terminal) (x : Target × List Terminal) → target_by ts ≡ Some x → TargetRead ts x
 target_reads ts x h =
     let s = then_read_some (expression_at max_depth 16 ts) (λ r. target_from r.0 (after_in r.2)) x h in
     let a = expression_sound max_depth 16 (omega arith) (high 16 (omega arith)) ts s.0 s.1 in
     let P : List Terminal → Type 0 = λ t. TargetRead t x in
     subst P (sym a.0.split) (target_is a.0.front s.0.2 s.0.0 (spells_deeper s.0.1 max_depth a.1 16 s.0.0 a.0.front a.0.spelled) x s.2)
 
-target_complete : (x : Text) (f more : List Terminal) → Spells max_depth 18 (Name x) f → target_by (f ++ Word token.InWord ∷ more) ≡ Some (x, more)
+target_complete : (x : Text) (f more : List Terminal) → IsTarget (Named x) f → target_by (f ++ Word token.InWord ∷ more) ≡ Some (Named x, more)
 target_complete x f more h =
     let loose = spells_looser max_depth 16 18 (Name x) f (omega arith) h in
     let c = expression_complete max_depth max_depth 16 (Name x) f (Word token.InWord ∷ more) (omega arith) (omega arith) loose (omega arith) refl in
@@ -283,7 +283,7 @@ compound_begun L (If test body other) f more h =
 compound_begun L (While test body other) f more h =
     let P : List Terminal → Type 0 = λ f. Begun f more in
     subst P (sym h.2) (record { ends = record { elifs = refl; elses = refl; excepts = refl; finals = refl; some = omega arith }; in_block = refl; long = omega arith })
-compound_begun L (For x over body other) f more h =
+compound_begun L (For t over body other) f more h =
     let P : List Terminal → Type 0 = λ f. Begun f more in
     subst P (sym h.3) (record { ends = record { elifs = refl; elses = refl; excepts = refl; finals = refl; some = omega arith }; in_block = refl; long = omega arith })
 compound_begun L (Try body cs other) f more h =
@@ -299,8 +299,8 @@ compound_begun L (Return a) f more h = absurd h
 compound_begun L (Raise a) f more h = absurd h
 compound_begun L (Global xs) f more h = absurd h
 compound_begun L (Evaluate e) f more h = absurd h
-compound_begun L (Assign x e) f more h = absurd h
-compound_begun L (Augment x op e) f more h = absurd h
+compound_begun L (Assign t e) f more h = absurd h
+compound_begun L (Augment t op e) f more h = absurd h
 compound_begun L Pass f more h = absurd h
 compound_begun L Break f more h = absurd h
 compound_begun L Continue f more h = absurd h
@@ -424,7 +424,7 @@ module _ (L : Lines) (line : LineParser) (complete : LineComplete L line) (begin
             ∙ ap (λ last. Some (While test body last, more)) (sym o.1),
       )
 
-  for_complete : (x : Text) (over : Expr) (body other : Stmts) (f more : List Terminal) → Compound L (For x over body other) f → Ends more → (g : List Terminal) × (f ≡ Word token.ForWord ∷ g) × (for_by line (g ++ more) ≡ Some (For x over body other, more))
+  for_complete : (x : Text) (over : Expr) (body other : Stmts) (f more : List Terminal) → Compound L (For (Named x) over body other) f → Ends more → (g : List Terminal) × (f ≡ Word token.ForWord ∷ g) × (for_by line (g ++ more) ≡ Some (For (Named x) over body other, more))
   for_complete x over body other f more h e =
       let o = otherwise_complete other h.2 more h.6 e in
       let split : (h.0 ++ Word token.InWord ∷ (h.1 ++ h.2)) ++ more ≡ h.0 ++ Word token.InWord ∷ (h.1 ++ (h.2 ++ more)) =
@@ -433,9 +433,9 @@ module _ (L : Lines) (line : LineParser) (complete : LineComplete L line) (begin
         h.3,
         ap (for_by line) split
             ∙ ap (λ o. then_read o (λ x. then_read (branch_by line x.1) (λ b. then_read (otherwise_by line b.1) (joined_for x.0 b.0)))) (target_complete x h.0 (h.1 ++ (h.2 ++ more)) h.4)
-            ∙ ap (λ o. then_read o (λ b. then_read (otherwise_by line b.1) (joined_for x b.0))) (branch_complete (over, body) h.1 (h.2 ++ more) h.5)
-            ∙ ap (λ o. then_read o (joined_for x (over, body))) o.2
-            ∙ ap (λ last. Some (For x over body last, more)) (sym o.1),
+            ∙ ap (λ o. then_read o (λ b. then_read (otherwise_by line b.1) (joined_for (Named x) b.0))) (branch_complete (over, body) h.1 (h.2 ++ more) h.5)
+            ∙ ap (λ o. then_read o (joined_for (Named x) (over, body))) o.2
+            ∙ ap (λ last. Some (For (Named x) over body last, more)) (sym o.1),
       )
 
   define_complete : (x : Text) (ps : List Text) (body : Stmts) (f more : List Terminal) → Compound L (Define x ps body) f → (g : List Terminal) × (f ≡ Word token.DefWord ∷ g) × (define_by line (g ++ more) ≡ Some (Define x ps body, more))
@@ -465,9 +465,9 @@ module _ (L : Lines) (line : LineParser) (complete : LineComplete L line) (begin
       let c = while_complete test rest other f more h e in
       let P : List Terminal → Type 0 = λ f. Read body (While test rest other ∷ []) f more in
       subst P (sym c.1) (ap (λ o. then_read o (with_compound body)) c.2)
-  compound_read body (For x over rest other) f more h e =
+  compound_read body (For (Named x) over rest other) f more h e =
       let c = for_complete x over rest other f more h e in
-      let P : List Terminal → Type 0 = λ f. Read body (For x over rest other ∷ []) f more in
+      let P : List Terminal → Type 0 = λ f. Read body (For (Named x) over rest other ∷ []) f more in
       subst P (sym c.1) (ap (λ o. then_read o (with_compound body)) c.2)
   compound_read body (Try rest cs other) f more h e =
       let c = try_complete L line suite_complete rest cs other f more h (record { no_except = e.excepts; no_else = e.elses; some = e.some }) e.finals in
@@ -485,8 +485,8 @@ module _ (L : Lines) (line : LineParser) (complete : LineComplete L line) (begin
   compound_read body (Raise x) f more h e = absurd h
   compound_read body (Global xs) f more h e = absurd h
   compound_read body (Evaluate x) f more h e = absurd h
-  compound_read body (Assign x v) f more h e = absurd h
-  compound_read body (Augment x op v) f more h e = absurd h
+  compound_read body (Assign t v) f more h e = absurd h
+  compound_read body (Augment t op v) f more h e = absurd h
   compound_read body Pass f more h e = absurd h
   compound_read body Break f more h e = absurd h
   compound_read body Continue f more h e = absurd h

@@ -187,8 +187,8 @@ of_none n s d t p k = record { depth = omega (arith, d); literals = omega (arith
 
 small_keeps : (n : ℕ) (s : Stmt) (f : List Terminal) → Small s f → Keeps n s
 small_keeps n (Evaluate e) f h = of_expression n (Evaluate e) e refl refl refl refl (bounded max_depth 1 e f h)
-small_keeps n (Assign x e) f h = of_expression n (Assign x e) e refl refl refl refl (bounded max_depth 1 e h.1 h.4)
-small_keeps n (Augment x op e) f h = of_expression n (Augment x op e) e refl refl refl refl (bounded max_depth 1 e h.1 h.4)
+small_keeps n (Assign t e) f h = of_expression n (Assign t e) e refl refl refl refl (bounded max_depth 1 e h.1 h.4)
+small_keeps n (Augment t op e) f h = of_expression n (Augment t op e) e refl refl refl refl (bounded max_depth 1 e h.1 h.4)
 small_keeps n Pass f h = of_none n Pass refl refl refl refl
 small_keeps n Break f h = of_none n Break refl refl refl refl
 small_keeps n Continue f h = of_none n Continue refl refl refl refl
@@ -198,7 +198,7 @@ small_keeps n (Global xs) f h = of_none n (Global xs) refl refl refl refl
 small_keeps n (Define x ps body) f h = absurd h
 small_keeps n (If test body other) f h = absurd h
 small_keeps n (While test body other) f h = absurd h
-small_keeps n (For x over body other) f h = absurd h
+small_keeps n (For t over body other) f h = absurd h
 small_keeps n (Raise None) f h = of_none n (Raise None) refl refl refl refl
 small_keeps n (Raise (Some e)) f h = of_expression n (Raise (Some e)) e refl refl refl refl (bounded max_depth 1 e h.0 h.2)
 small_keeps n (Try body cs other) f h = absurd h
@@ -333,8 +333,8 @@ module _ (n : ℕ) (L : Lines) (kept : Kept n L) where
   compound_keeps (While test body other) f h =
       looped_keeps n (While test body other) test body other (λ m. refl) refl (omega arith)
       (bounded max_depth 1 test h.3.0 h.3.3) (suite_keeps body h.3.1 h.3.4) (last_keeps other h.1 h.4)
-  compound_keeps (For x over body other) f h =
-      looped_keeps n (For x over body other) over body other (λ m. refl) refl (omega arith)
+  compound_keeps (For t over body other) f h =
+      looped_keeps n (For t over body other) over body other (λ m. refl) refl (omega arith)
       (bounded max_depth 1 over h.5.0 h.5.3) (suite_keeps body h.5.1 h.5.4) (last_keeps other h.2 h.6)
   compound_keeps (Try body cs other) f h =
       let t = handlers_keep cs other h.1 h.5 in try_keeps n body cs other (suite_keeps body h.0 h.3) t.0 t.1
@@ -346,8 +346,8 @@ module _ (n : ℕ) (L : Lines) (kept : Kept n L) where
   compound_keeps (Return a) f h = absurd h
   compound_keeps (Global xs) f h = absurd h
   compound_keeps (Evaluate e) f h = absurd h
-  compound_keeps (Assign x e) f h = absurd h
-  compound_keeps (Augment x op e) f h = absurd h
+  compound_keeps (Assign t e) f h = absurd h
+  compound_keeps (Augment t op e) f h = absurd h
   compound_keeps Pass f h = absurd h
   compound_keeps Break f h = absurd h
   compound_keeps Continue f h = absurd h

@@ -3,7 +3,7 @@ use Rattle.std.proofs.Common.{◌≡◌, ℕ, ◌+◌, ◌<◌, List, [], ◌∷
 use Rattle.std.specs.Prelude.{option_map, if◌then◌else◌}
 use Rattle.std.proofs.lemmas.List.{append-nil, length-map}
 use Rattle.si_semantics.specs.Value.{Text}
-use Rattle.si_semantics.specs.Tree.{BinaryOperator, Add, Subtract, Multiply, FloorDivide, Modulo, Power, BitOr, BitXor, BitAnd, ShiftLeft, ShiftRight, Expr, Constant, Name, Unary, Binary, Call, Boolean, Compare, Conditional, Stmt, Evaluate, Assign, Augment, Pass, If, While, For, Break, Continue, Define, Return, Global, Raise, Try, Finally}
+use Rattle.si_semantics.specs.Tree.{BinaryOperator, Add, Subtract, Multiply, FloorDivide, Modulo, Power, BitOr, BitXor, BitAnd, ShiftLeft, ShiftRight, Expr, Constant, Name, Unary, Binary, Call, Boolean, Compare, Conditional, Stmt, Named, Evaluate, Assign, Augment, Pass, If, While, For, Break, Continue, Define, Return, Global, Raise, Try, Finally}
 use Rattle.si_semantics.specs.Tokens.{Symbol}
 use Rattle.si_semantics.specs.Tokens as token
 use Rattle.si_semantics.specs.Grammar.{Terminal, Sign, Word, NEWLINE, Following, Separated, max_depth, IsExpression, augmented_of, Small, Simple}
@@ -80,7 +80,7 @@ sign_weak (Some Power) ts = (omega arith, refl)
 abbrev SmallRead : List Terminal → Stmt × List Terminal → Type 0
 SmallRead ts r = (f : List Terminal) × (ts ≡ f ++ r.1) × Small r.0 f
 
-assigned_small : (x : Text) (a : Option BinaryOperator) (e : Expr) (f g : List Terminal) → IsExpression (Name x) f → IsExpression e g → Small (assigned x a e) (f ++ Sign (sign_of a) ∷ g)
+assigned_small : (x : Text) (a : Option BinaryOperator) (e : Expr) (f g : List Terminal) → IsExpression (Name x) f → IsExpression e g → Small (assigned (Named x) a e) (f ++ Sign (sign_of a) ∷ g)
 assigned_small x None e f g h i = (f, g, refl, h, i)
 assigned_small x (Some op) e f g h i = (f, g, refl, h, i)
 
@@ -88,10 +88,10 @@ from_reads : (f ts : List Terminal) (e : Expr) (o : Option (Option BinaryOperato
 from_reads f ts e None is spelled r h =
     let P : Stmt × List Terminal → Type 0 = SmallRead (f ++ ts) in subst P (some_inj (Evaluate e, ts) r h) (f, refl, spelled)
 from_reads f ts (Name x) (Some a) is spelled r h =
-    let s = then_read_some (expression_at max_depth 1 a.1) (λ r. Some (assigned x a.0 r.0, r.2)) r h in
+    let s = then_read_some (expression_at max_depth 1 a.1) (λ r. Some (assigned (Named x) a.0 r.0, r.2)) r h in
     let b = expression_sound max_depth 1 (omega arith) at_condition a.1 s.0 s.1 in
     let P : Stmt × List Terminal → Type 0 = SmallRead (f ++ ts) in
-    subst P (some_inj (assigned x a.0 s.0.0, s.0.2) r s.2) (
+    subst P (some_inj (assigned (Named x) a.0 s.0.0, s.0.2) r s.2) (
       f ++ Sign (sign_of a.0) ∷ b.0.front,
       ap (λ t. f ++ t) (assignment_some ts a.0 a.1 is ∙ ap (λ t. Sign (sign_of a.0) ∷ t) b.0.split) ∙ sym (append_assoc f (Sign (sign_of a.0) ∷ b.0.front) s.0.2),
       assigned_small x a.0 s.0.0 f b.0.front spelled (spells_deeper s.0.1 max_depth b.1 1 s.0.0 b.0.front b.0.spelled),
@@ -193,7 +193,7 @@ by_expression m e f more h =
     ∙ ap (λ o. small_from (expression_at max_depth) ts None None o (after_raise ts)) (global_not ts start)
     ∙ ap (λ o. small_from (expression_at max_depth) ts None None None o) (raise_not ts start)
 
-assigned_complete : (x : Text) (a : Option BinaryOperator) (e : Expr) (f g whole more : List Terminal) → whole ≡ f ++ Sign (sign_of a) ∷ g → IsExpression (Name x) f → IsExpression e g → Follows more → statement_by (expression_at max_depth) (whole ++ more) ≡ Some (assigned x a e, more)
+assigned_complete : (x : Text) (a : Option BinaryOperator) (e : Expr) (f g whole more : List Terminal) → whole ≡ f ++ Sign (sign_of a) ∷ g → IsExpression (Name x) f → IsExpression e g → Follows more → statement_by (expression_at max_depth) (whole ++ more) ≡ Some (assigned (Named x) a e, more)
 assigned_complete x a e f g whole more is hx he ends =
     let behind = g ++ more in
     let weak = sign_weak a behind in
@@ -204,7 +204,7 @@ assigned_complete x a e f g whole more is hx he ends =
     ∙ by_expression max_depth (Name x) f (Sign (sign_of a) ∷ behind) hx
     ∙ ap (λ r. then_read r (λ r. statement_from (expression_at max_depth) r.2 r.0 (assignment_at r.2))) c.3
     ∙ ap (statement_from (expression_at max_depth) (Sign (sign_of a) ∷ behind) (Name x)) (assignment_is a behind)
-    ∙ ap (λ r. then_read r (λ r. Some (assigned x a r.0, r.2))) d.3
+    ∙ ap (λ r. then_read r (λ r. Some (assigned (Named x) a r.0, r.2))) d.3
 
 small_over : (ts : List Terminal) → ends_small ts ≡ true → (0 < length ts) × (no_comma ts ≡ true)
 small_over [] h = cc
@@ -229,8 +229,8 @@ statement_complete : (s : Stmt) (f more : List Terminal) → Small s f → Follo
 statement_complete (Evaluate e) f more h ends =
     let c = expression_complete max_depth max_depth 1 e f more (omega arith) (omega arith) h ends.0 ends.1 in
     by_expression max_depth e f more h ∙ ap (λ r. then_read r (λ r. statement_from (expression_at max_depth) r.2 r.0 (assignment_at r.2))) c.3 ∙ ap (statement_from (expression_at max_depth) more e) ends.2
-statement_complete (Assign x e) f more h ends = assigned_complete x None e h.0 h.1 f more h.2 h.3 h.4 ends
-statement_complete (Augment x op e) f more h ends = assigned_complete x (Some op) e h.0 h.1 f more h.2 h.3 h.4 ends
+statement_complete (Assign (Named x) e) f more h ends = assigned_complete x None e h.0 h.1 f more h.2 h.3 h.4 ends
+statement_complete (Augment (Named x) op e) f more h ends = assigned_complete x (Some op) e h.0 h.1 f more h.2 h.3 h.4 ends
 statement_complete Pass f more h ends = ap (λ t. statement_by (expression_at max_depth) (t ++ more)) h
 statement_complete Break f more h ends = ap (λ t. statement_by (expression_at max_depth) (t ++ more)) h
 statement_complete Continue f more h ends = ap (λ t. statement_by (expression_at max_depth) (t ++ more)) h
@@ -261,8 +261,8 @@ target_starts x s f g whole more is h = ap starts (ap (λ t. t ++ more) is ∙ a
 
 pub small_starts : (s : Stmt) (f more : List Terminal) → Small s f → starts (f ++ more) ≡ true
 small_starts (Evaluate e) f more h = expression_starts e f more h
-small_starts (Assign x e) f more h = target_starts x token.Equal h.0 h.1 f more h.2 h.3
-small_starts (Augment x op e) f more h = target_starts x (augmented_of op) h.0 h.1 f more h.2 h.3
+small_starts (Assign (Named x) e) f more h = target_starts x token.Equal h.0 h.1 f more h.2 h.3
+small_starts (Augment (Named x) op e) f more h = target_starts x (augmented_of op) h.0 h.1 f more h.2 h.3
 small_starts Pass f more h = ap (λ t. starts (t ++ more)) h
 small_starts Break f more h = ap (λ t. starts (t ++ more)) h
 small_starts Continue f more h = ap (λ t. starts (t ++ more)) h

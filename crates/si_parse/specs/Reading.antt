@@ -1,7 +1,7 @@
 -- Reading as a function on lists of terminals, which the parser computes: what stands between grammar and code.
 use Rattle.std.specs.Prelude.{ℕ, zero, suc, ◌+◌, max, List, [], ◌∷◌, ◌++◌, length, Option, Some, None, option_map, nat_lt, nat_le, nat_eq, Bool, true, false, not, ◌&&◌, if◌then◌else◌}
 use Rattle.si_semantics.specs.Value.{Text, Nothing, Truth, Int, Str}
-use Rattle.si_semantics.specs.Tree.{BinaryOperator, Add, Subtract, Multiply, FloorDivide, Modulo, Power, BitOr, BitXor, BitAnd, ShiftLeft, ShiftRight, UnaryOperator, ComparisonOperator, BooleanOperator, Expr, Constant, Name, Unary, Binary, Call, Boolean, Compare, Conditional, Stmt, Evaluate, Assign, Augment, Pass, If, While, For, Break, Continue, Define, Return, Global, Raise, Try, Finally, Stmts}
+use Rattle.si_semantics.specs.Tree.{BinaryOperator, Add, Subtract, Multiply, FloorDivide, Modulo, Power, BitOr, BitXor, BitAnd, ShiftLeft, ShiftRight, UnaryOperator, ComparisonOperator, BooleanOperator, Expr, Constant, Name, Unary, Binary, Call, Boolean, Compare, Conditional, Stmt, Target, Named, Evaluate, Assign, Augment, Pass, If, While, For, Break, Continue, Define, Return, Global, Raise, Try, Finally, Stmts}
 use Rattle.si_semantics.specs.Tree as tree
 use Rattle.si_semantics.specs.Scope.{is_in}
 use Rattle.si_semantics.specs.Tokens.{Symbol, Keyword}
@@ -542,15 +542,19 @@ assignment_at [] = None
 assignment_at (Sign s ∷ ts) = option_map (λ op. (op, ts)) (assignment_symbol s)
 assignment_at (_ ∷ ts) = None
 
-abbrev pub assigned : Text → Option BinaryOperator → Expr → Stmt
-assigned x None e = Assign x e
-assigned x (Some op) e = Augment x op e
+-- the target that an expression is
+abbrev pub as_target : Expr → Option Target
+as_target (Name x) = Some (Named x)
+as_target _ = None
+
+abbrev pub assigned : Target → Option BinaryOperator → Expr → Stmt
+assigned t None e = Assign t e
+assigned t (Some op) e = Augment t op e
 
 -- what an expression begins: an assignment to it, or itself
 abbrev pub statement_from : Parser → List Terminal → Expr → Option (Option BinaryOperator × List Terminal) → Option (Stmt × List Terminal)
 statement_from sub ts e None = Some (Evaluate e, ts)
-statement_from sub ts (Name x) (Some a) = then_read (sub 1 a.1) (λ r. Some (assigned x a.0 r.0, r.2))
-statement_from sub ts _ (Some a) = None
+statement_from sub ts e (Some a) = then_read (as_target e) (λ t. then_read (sub 1 a.1) (λ r. Some (assigned t a.0 r.0, r.2)))
 
 abbrev pub spelled_by : Parser → List Terminal → Option (Stmt × List Terminal)
 spelled_by sub ts = then_read (sub 1 ts) (λ r. statement_from sub r.2 r.0 (assignment_at r.2))
@@ -663,21 +667,20 @@ joined_while b o = Some (While b.0 b.1 (stmts_of o.0), o.1)
 abbrev pub while_by : LineParser → List Terminal → Option (Stmt × List Terminal)
 while_by line ts = then_read (branch_by line ts) (λ b. then_read (otherwise_by line b.1) (joined_while b.0))
 
--- the target that an expression is, where it is a name and the word `in` stands behind it
-abbrev pub target_from : Expr → Option (List Terminal) → Option (Text × List Terminal)
-target_from (Name x) behind = option_map (λ rest. (x, rest)) behind
-target_from _ behind = None
+-- the target that an expression is, where the word `in` stands behind it
+abbrev pub target_from : Expr → Option (List Terminal) → Option (Target × List Terminal)
+target_from e behind = then_read (as_target e) (λ t. option_map (λ rest. (t, rest)) behind)
 
 -- The target of a `for`, and the terminals behind the `in`. A name is of every level: one is asked at which no operator but `**` is read.
-abbrev pub target_by : List Terminal → Option (Text × List Terminal)
+abbrev pub target_by : List Terminal → Option (Target × List Terminal)
 target_by ts = then_read (expression_at max_depth 16 ts) (λ r. target_from r.0 (after_in r.2))
 
-abbrev pub joined_for : Text → Branch → List Stmt × List Terminal → Option (Stmt × List Terminal)
-joined_for x b o = Some (For x b.0 b.1 (stmts_of o.0), o.1)
+abbrev pub joined_for : Target → Branch → List Stmt × List Terminal → Option (Stmt × List Terminal)
+joined_for t b o = Some (For t b.0 b.1 (stmts_of o.0), o.1)
 
 -- from behind the `for`
 abbrev pub for_by : LineParser → List Terminal → Option (Stmt × List Terminal)
-for_by line ts = then_read (target_by ts) (λ x. then_read (branch_by line x.1) (λ b. then_read (otherwise_by line b.1) (joined_for x.0 b.0)))
+for_by line ts = then_read (target_by ts) (λ t. then_read (branch_by line t.1) (λ b. then_read (otherwise_by line b.1) (joined_for t.0 b.0)))
 
 -- a function of this name and these parameters, from its suite on
 abbrev pub defined_by : LineParser → Text → List Text × List Terminal → Option (Stmt × List Terminal)

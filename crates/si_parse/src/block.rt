@@ -2,19 +2,20 @@
 
 ghost use Rattle.std.specs.Prelude.{◌≡◌, ℕ, ◌+◌, ◌-◌, ◌*◌, ◌<◌, [], length, map, option_map, string_bytes};
 ghost use Rattle.si_syntax.specs.Trees.{expr_of, stmt_of, branch_of};
-ghost use Rattle.si_parse.specs.Reading.{indented_by, suite_by, branch_by, elifs_by, otherwise_by, if_by, while_by, target_by, for_by, define_by, compound_by, block_at};
+ghost use Rattle.si_parse.specs.Reading.{indented_by, suite_by, branch_by, elifs_by, otherwise_by, if_by, while_by, for_by, define_by, compound_by, block_at};
 ghost use Rattle.si_parse.specs.Gives.{Gives, from, header_view};
 
 use crate::expression::expression;
 use crate::fault::ParseFault;
 use crate::handler::try_statement;
 use crate::lookahead::{
-    Header, after_colon, after_dedent, after_elif, after_else, after_in, after_indent,
-    after_newline, after_open, header_at, line_at,
+    Header, after_colon, after_dedent, after_elif, after_else, after_indent, after_newline,
+    after_open, header_at, line_at,
 };
 use crate::name::{name, parameters};
-use crate::precedence::{ANY, FACTOR};
+use crate::precedence::ANY;
 use crate::statement::line;
+use crate::target::target;
 use si_plain::limits::MAX_EXPRESSION_DEPTH;
 use si_syntax::{Expr, Stmt};
 use si_token::Token;
@@ -108,21 +109,6 @@ fn while_statement(
     Ok((Stmt::While(test, body, last), end))
 }
 
-// The name that is the target of a `for`, and the place behind the `in`. A name is of every level: it is asked for at one
-// at which no operator but `**` is read.
-fn target(alloc: Global, tokens: &[Token], start: usize) -> Result<(String, usize), ParseFault>
-    ensures { Gives (λ x. (string_bytes x.0, from tokens.now x.1)) result (target_by (from tokens.now start)) }
-{
-    let (first, _, at) = expression(alloc, MAX_EXPRESSION_DEPTH, FACTOR, tokens, start)?;
-    let Expr::Name(name) = first else {
-        return Err(ParseFault::Syntax(line_at(tokens, start)));
-    };
-    match after_in(tokens, at) {
-        Some(behind) => Ok((name, behind)),
-        None => Err(ParseFault::Syntax(line_at(tokens, at))),
-    }
-}
-
 // The statement from behind its `for`.
 #[cycle(blocks)]
 fn for_statement(
@@ -134,10 +120,10 @@ fn for_statement(
     requires { parts < 999 }
     ensures { Gives (λ x. (stmt_of x.0, from tokens.now x.1)) result (for_by (block_at parts) (from tokens.now start)) }
 {
-    let (name, behind) = target(alloc, tokens, start)?;
+    let (target, behind) = target(alloc, tokens, start)?;
     let ((over, body), at) = branch(alloc, parts, tokens, behind)?;
     let (last, end) = otherwise(alloc, parts, tokens, at)?;
-    Ok((Stmt::For(name, over, body, last), end))
+    Ok((Stmt::For(target, over, body, last), end))
 }
 
 // The statement from behind its `def`, which stands in the line.

@@ -5,8 +5,8 @@
 //
 // In reading order: `fault` says why a text is refused, `literal` has the values of literals, `lookahead` the token at
 // a place, `name` names in a row, `precedence` what continues an expression and how tightly, `argument` what a call is
-// passed, `expression` reads an expression by precedence climbing, `statement` small statements and lines, `block`
-// compound statements and their suites, `handler` those of `try`, and `parser` a whole text.
+// passed, `expression` reads an expression by precedence climbing, `target` a target, `statement` small statements and
+// lines, `block` compound statements and their suites, `handler` those of `try`, and `parser` a whole text.
 #![tactic(auto)]
 
 pub mod argument;
@@ -20,6 +20,7 @@ pub mod name;
 pub mod parser;
 pub mod precedence;
 pub mod statement;
+pub mod target;
 
 pub use fault::ParseFault;
 pub use parser::parse;

@@ -16,6 +16,7 @@ use crate::lookahead::{
 };
 use crate::name::names;
 use crate::precedence::ANY;
+use crate::target::as_target;
 use si_plain::limits::MAX_EXPRESSION_DEPTH;
 use si_syntax::{BinaryOperator, Expr, Stmt};
 use si_token::{Keyword, Symbol, Token, TokenKind};
@@ -78,13 +79,13 @@ fn spelled(alloc: Global, tokens: &[Token], start: usize) -> Result<(Stmt, usize
     let Some((operator, behind)) = assignment_at(tokens, at) else {
         return Ok((Stmt::Evaluate(first), at));
     };
-    let Expr::Name(name) = first else {
+    let Some(target) = as_target(first) else {
         return Err(ParseFault::Syntax(line_at(tokens, at)));
     };
     let (value, _, end) = expression(alloc, MAX_EXPRESSION_DEPTH, ANY, tokens, behind)?;
     match operator {
-        None => Ok((Stmt::Assign(name, value), end)),
-        Some(operator) => Ok((Stmt::Augment(name, operator, value), end)),
+        None => Ok((Stmt::Assign(target, value), end)),
+        Some(operator) => Ok((Stmt::Augment(target, operator, value), end)),
     }
 }
 

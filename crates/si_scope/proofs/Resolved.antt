@@ -33,14 +33,14 @@ two_texts f o names fs gs p q now later = ap (option_and_then f) now ∙ then_sa
 mutual
   stmt_is : (a : Stmt) (loop : Bool) (names : List (List Text)) → resolved a loop names ≡ behind names (functions_of a) (stmt_scoped (InText loop) a)
   stmt_is (Evaluate e) loop names = none_behind names
-  stmt_is (Assign x e) loop names = none_behind names
-  stmt_is (Augment x o e) loop names = none_behind names
+  stmt_is (Assign t e) loop names = none_behind names
+  stmt_is (Augment t o e) loop names = none_behind names
   stmt_is Pass loop names = none_behind names
   stmt_is (If a b c) loop names =
       two_texts (resolved_all c loop) (resolved_all b loop names) names (functions_in b) (functions_in c) (stmts_scoped (InText loop) b) (stmts_scoped (InText loop) c) (stmts_are b loop names) (stmts_are c loop)
   stmt_is (While a b c) loop names =
       two_texts (resolved_all c loop) (resolved_all b true names) names (functions_in b) (functions_in c) (stmts_scoped (InText true) b) (stmts_scoped (InText loop) c) (stmts_are b true names) (stmts_are c loop)
-  stmt_is (For x a b c) loop names =
+  stmt_is (For t a b c) loop names =
       two_texts (resolved_all c loop) (resolved_all b true names) names (functions_in b) (functions_in c) (stmts_scoped (InText true) b) (stmts_scoped (InText loop) c) (stmts_are b true names) (stmts_are c loop)
   stmt_is Break loop names = ap (λ l. if loop then Some l else None) (sym (append-nil names))
   stmt_is Continue loop names = ap (λ l. if loop then Some l else None) (sym (append-nil names))

@@ -5,7 +5,7 @@ use Rattle.std.specs.Option.{option_and_then, option_map}
 use Rattle.std.proofs.Math.Bool.{and_assoc, or-false}
 use Rattle.std.proofs.lemmas.List.{append-nil}
 use Rattle.si_semantics.specs.Value.{Text}
-use Rattle.si_semantics.specs.Tree.{Expr, Stmt, Evaluate, Assign, Augment, Pass, If, While, For, Break, Continue, Define, Return, Global, Raise, Try, Finally, Stmts, NoStmts, MoreStmts, Clauses, NoClauses, MoreClauses}
+use Rattle.si_semantics.specs.Tree.{Expr, Stmt, Named, Evaluate, Assign, Augment, Pass, If, While, For, Break, Continue, Define, Return, Global, Raise, Try, Finally, Stmts, NoStmts, MoreStmts, Clauses, NoClauses, MoreClauses}
 use Rattle.si_semantics.specs.Scope.{is_in, are_apart, are_distinct, with_new, names_of, names_of_value, name_in, bound_by, bound_in, bound_in_clauses, declared_by, declared_in, declared_in_clauses, used_by, used_in, used_in_clauses, declares_first, declare_first, clauses_declare_first, InText, InFunction, stmt_scoped, stmts_scoped, clauses_scoped}
 use Rattle.si_scope.specs.declared.seen.Seen.{Seen}
 use Rattle.si_scope.specs.Walk.{with_names, using, binding_any, declaring, after, after_all, after_clauses, local_to}
@@ -177,12 +177,12 @@ two_suites n ub uc bb bc in_b in_c = in_both (n ++ ub) uc bb bc (behind_names n 
 mutual
   bound_apart : (a : Stmt) → Within (bound_by a) (used_by a)
   bound_apart (Evaluate e) = no_names (names_of e)
-  bound_apart (Assign x e) = name_first x (names_of e) [] (no_names (names_of e))
-  bound_apart (Augment x o e) = name_first x (names_of e) [] (no_names (names_of e))
+  bound_apart (Assign (Named x) e) = name_first x (names_of e) [] (no_names (names_of e))
+  bound_apart (Augment (Named x) o e) = name_first x (names_of e) [] (no_names (names_of e))
   bound_apart Pass = no_names []
   bound_apart (If a b c) = two_suites (names_of a) (used_in b) (used_in c) (bound_in b) (bound_in c) (all_bound_apart b) (all_bound_apart c)
   bound_apart (While a b c) = two_suites (names_of a) (used_in b) (used_in c) (bound_in b) (bound_in c) (all_bound_apart b) (all_bound_apart c)
-  bound_apart (For x a b c) =
+  bound_apart (For (Named x) a b c) =
       name_first x ((names_of a ++ used_in b) ++ used_in c) (bound_in b ++ bound_in c)
       (two_suites (names_of a) (used_in b) (used_in c) (bound_in b) (bound_in c) (all_bound_apart b) (all_bound_apart c))
   bound_apart Break = no_names []
@@ -230,8 +230,8 @@ named s a (Some x) = ap (λ u. seen_of u s.declared (with_new s.locals s.declare
 mutual
   stmt_is : (a : Stmt) (loop returns : Bool) (s : Seen) → after a loop returns s ≡ given s (used_by a) (declared_by a) (bound_by a) (declares_first a && stmt_scoped (InFunction loop returns) a)
   stmt_is (Evaluate e) loop returns s = one_row s (names_of e) []
-  stmt_is (Assign x e) loop returns s = one_row s (x ∷ names_of e) (x ∷ [])
-  stmt_is (Augment x o e) loop returns s = one_row s (x ∷ names_of e) (x ∷ [])
+  stmt_is (Assign (Named x) e) loop returns s = one_row s (x ∷ names_of e) (x ∷ [])
+  stmt_is (Augment (Named x) o e) loop returns s = one_row s (x ∷ names_of e) (x ∷ [])
   stmt_is Pass loop returns s = one_row s [] []
   stmt_is (If a b c) loop returns s =
       suites_are (after_all c loop returns) (after_all b loop returns (using (names_of a) s)) s (names_of a) [] (used_in b) (declared_in b) (bound_in b) (used_in c) (declared_in c) (bound_in c)
@@ -241,7 +241,7 @@ mutual
       suites_are (after_all c loop returns) (after_all b true returns (using (names_of a) s)) s (names_of a) [] (used_in b) (declared_in b) (bound_in b) (used_in c) (declared_in c) (bound_in c)
       (declare_first b) (stmts_scoped (InFunction true returns) b) (declare_first c) (stmts_scoped (InFunction loop returns) c)
       (stmts_are b true returns (using (names_of a) s)) (stmts_are c loop returns) (no_names (names_of a)) (all_bound_apart b)
-  stmt_is (For x a b c) loop returns s =
+  stmt_is (For (Named x) a b c) loop returns s =
       let front = seen_in s (x ∷ names_of a) [] (x ∷ []) in
       suites_are (after_all c loop returns) (after_all b true returns front) s (x ∷ names_of a) (x ∷ []) (used_in b) (declared_in b) (bound_in b) (used_in c) (declared_in c) (bound_in c)
       (declare_first b) (stmts_scoped (InFunction true returns) b) (declare_first c) (stmts_scoped (InFunction loop returns) c)

@@ -3,7 +3,7 @@ use Rattle.std.specs.Prelude.{List, [], ◌∷◌, ◌++◌, Bool, true, false, 
 use Rattle.std.specs.Option.{option_and_then, option_map}
 use Rattle.si_plain.specs.Names.{with_name}
 use Rattle.si_semantics.specs.Value.{Text}
-use Rattle.si_semantics.specs.Tree.{Stmt, Evaluate, Assign, Augment, Pass, If, While, For, Break, Continue, Define, Return, Global, Raise, Try, Finally, Stmts, NoStmts, MoreStmts, Clauses, NoClauses, MoreClauses}
+use Rattle.si_semantics.specs.Tree.{Stmt, Target, Named, Evaluate, Assign, Augment, Pass, If, While, For, Break, Continue, Define, Return, Global, Raise, Try, Finally, Stmts, NoStmts, MoreStmts, Clauses, NoClauses, MoreClauses}
 use Rattle.si_semantics.specs.Scope.{is_in, are_distinct, with_new, names_of, names_of_value}
 use Rattle.si_scope.specs.declared.seen.Seen.{Seen}
 
@@ -28,6 +28,10 @@ using xs s = record { used = with_names s.used xs; declared = s.declared; locals
 abbrev pub binding : Text → Seen → Seen
 binding x s = record { used = with_name s.used x; declared = s.declared; locals = with_new s.locals s.declared (x ∷ []) }
 
+-- a target is bound
+abbrev pub binding_target : Target → Seen → Seen
+binding_target (Named x) s = binding x s
+
 -- names are declared global, of which none was used
 abbrev pub declaring : List Text → Seen → Option Seen
 declaring [] s = Some s
@@ -42,13 +46,13 @@ abbrev mutual
   -- a statement, in a loop or in none, where `return` may stand or may not
   pub after : Stmt → (loop returns : Bool) → Seen → Option Seen
   after (Evaluate a) loop returns s = Some (using (names_of a) s)
-  after (Assign x a) loop returns s = Some (using (names_of a) (binding x s))
-  after (Augment x o a) loop returns s = Some (using (names_of a) (binding x s))
+  after (Assign t a) loop returns s = Some (using (names_of a) (binding_target t s))
+  after (Augment t o a) loop returns s = Some (using (names_of a) (binding_target t s))
   after Pass loop returns s = Some s
   after (If a b c) loop returns s = option_and_then (after_all c loop returns) (after_all b loop returns (using (names_of a) s))
   after (While a b c) loop returns s = option_and_then (after_all c loop returns) (after_all b true returns (using (names_of a) s))
-  after (For x a b c) loop returns s =
-      option_and_then (after_all c loop returns) (after_all b true returns (using (names_of a) (binding x s)))
+  after (For t a b c) loop returns s =
+      option_and_then (after_all c loop returns) (after_all b true returns (using (names_of a) (binding_target t s)))
   after Break loop returns s = if loop then Some s else None
   after Continue loop returns s = if loop then Some s else None
   after (Define f ps b) loop returns s = None
@@ -91,7 +95,7 @@ abbrev mutual
   pub resolved : Stmt → Bool → List (List Text) → Option (List (List Text))
   resolved (If a b c) loop names = option_and_then (resolved_all c loop) (resolved_all b loop names)
   resolved (While a b c) loop names = option_and_then (resolved_all c loop) (resolved_all b true names)
-  resolved (For x a b c) loop names = option_and_then (resolved_all c loop) (resolved_all b true names)
+  resolved (For t a b c) loop names = option_and_then (resolved_all c loop) (resolved_all b true names)
   resolved Break loop names = if loop then Some names else None
   resolved Continue loop names = if loop then Some names else None
   resolved (Define f ps b) loop names = option_map (λ locals. names ++ locals ∷ []) (local_to ps b)

@@ -2,14 +2,14 @@
 ghost use Rattle.std.specs.Prelude.{◌≡◌, [], IfOk, IfErr, OnOk, map, string_bytes, true, false};
 ghost use Rattle.std.specs.Option.{option_map};
 ghost use Rattle.si_semantics.specs.Scope.{are_distinct, names_of, names_of_value};
-ghost use Rattle.si_syntax.specs.Trees.{expr_of};
+ghost use Rattle.si_syntax.specs.Trees.{expr_of, target_of};
 ghost use Rattle.si_scope.specs.Faults.{Leaves, IsScope};
-ghost use Rattle.si_scope.specs.Walk.{binding, binding_any, declaring, using};
+ghost use Rattle.si_scope.specs.Walk.{binding, binding_any, binding_target, declaring, using};
 
 use crate::expression::use_names;
 use crate::fault::ScopeFault;
 use si_plain::{Names, NoMemory};
-use si_syntax::{Expr, Line};
+use si_syntax::{Expr, Line, Target};
 use std::alloc::Global;
 
 // The names that were used or bound, and the parameters; those that were declared global; and those that are local.
@@ -67,6 +67,15 @@ impl Seen {
         }
     }
 
+    // A target is bound.
+    fn bind_target(&mut self, target: &Target) -> Result<(), NoMemory>
+        ensures { OnOk result (self.new ≡ binding_target (target_of target.now) self.old) }
+    {
+        match target {
+            Target::Named(name) => self.bind(name.as_str()),
+        }
+    }
+
     // The names of an expression are used.
     pub(crate) fn use_expr(&mut self, expr: &Expr) -> Result<(), NoMemory>
         ensures { OnOk result (self.new ≡ using (names_of (expr_of expr.now)) self.old) }
@@ -84,11 +93,11 @@ impl Seen {
         }
     }
 
-    // A name is bound to the value of an expression, or to what it gives.
-    pub(crate) fn set(&mut self, name: &str, expr: &Expr) -> Result<(), NoMemory>
-        ensures { OnOk result (self.new ≡ using (names_of (expr_of expr.now)) (binding name.now self.old)) }
+    // A target is bound to the value of an expression, or to what it gives.
+    pub(crate) fn set(&mut self, target: &Target, expr: &Expr) -> Result<(), NoMemory>
+        ensures { OnOk result (self.new ≡ using (names_of (expr_of expr.now)) (binding_target (target_of target.now) self.old)) }
     {
-        self.bind(name)?;
+        self.bind_target(target)?;
         self.use_expr(expr)
     }
 

@@ -49,7 +49,7 @@ fn see_stmt(stmt: &Stmt, place: Place, seen: &mut Seen) -> Result<(), ScopeFault
     match stmt {
         Stmt::Evaluate(expr) => Ok(seen.use_expr(expr)?),
         Stmt::Raise(value) => Ok(seen.use_value(value)?),
-        Stmt::Assign(name, expr) | Stmt::Augment(name, _, expr) => Ok(seen.set(name, expr)?),
+        Stmt::Assign(target, expr) | Stmt::Augment(target, _, expr) => Ok(seen.set(target, expr)?),
         Stmt::Pass => Ok(()),
         Stmt::If(test, body, elifs, last) => {
             seen.use_expr(test)?;

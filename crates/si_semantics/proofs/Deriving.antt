@@ -3,7 +3,7 @@ use Rattle.std.proofs.Common.{ℕ, suc, ◌<◌, ◌≤◌, List, [], ◌∷◌,
 use Rattle.std.specs.Prelude.{pos}
 use Rattle.std.proofs.lemmas.List.{append-nil}
 use Rattle.si_semantics.specs.Value.{Text}
-use Rattle.si_semantics.specs.Tree.{BinaryOperator, UnaryOperator, ComparisonOperator, Or, Expr, Name, Unary, Binary, Boolean, Compare, Comparisons, Stmt, Stmts, Evaluate, Assign, If, While, NoStmts}
+use Rattle.si_semantics.specs.Tree.{BinaryOperator, UnaryOperator, ComparisonOperator, Or, Expr, Name, Unary, Binary, Boolean, Compare, Comparisons, Stmt, Named, Stmts, Evaluate, Assign, If, While, NoStmts}
 use Rattle.si_semantics.specs.Tokens as tokens
 use Rattle.si_semantics.specs.Grammar.{Terminal, NAME, NUMBER, Sign, Word, NEWLINE, INDENT, DEDENT, ENDMARKER, level_of, left_level, right_level, symbol_of, prefix_level, prefix_of, comparison_of, is_identity, value_of_int, Many, Link, links_of, Compares, Spells, max_depth, Small, Simple, Suite, Nests, max_nesting, Derives}
 use Rattle.si_semantics.specs.Worked.Straight.{int, arguments, suite}
@@ -94,7 +94,7 @@ pub record Statement (s : Stmt) : Type 0 where
   pub terminals : List Terminal
   pub spelled : Small s terminals
 
-abbrev pub assigned : {e : Expr} (y : Text) → Expression max_depth 1 e → Statement (Assign y e)
+abbrev pub assigned : {e : Expr} (y : Text) → Expression max_depth 1 e → Statement (Assign (Named y) e)
 assigned y e =
     record { terminals = NAME y ∷ (Sign tokens.Equal ∷ e.terminals); spelled = (NAME y ∷ [], e.terminals, refl, inl refl, e.spelled) }
 

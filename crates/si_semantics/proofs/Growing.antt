@@ -3,7 +3,7 @@ use Rattle.std.proofs.Common.{◌≡◌, ℕ, zero, suc, ◌+◌, ◌≤◌, Lis
 use Rattle.std.specs.Prelude.{nat_eq, slice_get}
 use Rattle.std.proofs.lemmas.List.{append-nil}
 use Rattle.si_semantics.specs.Value.{Text, Value, Nothing, Truth, Int, Str, Provided, Function, Range, Class, Address}
-use Rattle.si_semantics.specs.Tree.{BooleanOperator, Expr, Constant, Name, Unary, Binary, Call, Boolean, Compare, Conditional, Exprs, NoExprs, MoreExprs, Comparisons, NoComparisons, MoreComparisons, Stmt, Evaluate, Assign, Augment, Pass, If, While, For, Break, Continue, Define, Return, Global, Raise, Try, Finally, Stmts, NoStmts, MoreStmts, Clauses, NoClauses, MoreClauses, functions_of, functions_in, functions_in_clauses}
+use Rattle.si_semantics.specs.Tree.{BooleanOperator, Expr, Constant, Name, Unary, Binary, Call, Boolean, Compare, Conditional, Exprs, NoExprs, MoreExprs, Comparisons, NoComparisons, MoreComparisons, Stmt, Named, Evaluate, Assign, Augment, Pass, If, While, For, Break, Continue, Define, Return, Global, Raise, Try, Finally, Stmts, NoStmts, MoreStmts, Clauses, NoClauses, MoreClauses, functions_of, functions_in, functions_in_clauses}
 use Rattle.si_semantics.specs.Tree as tree
 use Rattle.si_semantics.specs.Scope.{place_of, locals_of}
 use Rattle.si_semantics.specs.World.{World, Request, Bind, Run, Closing, Answer, Taken, Done, Replied, Got, Failed, Wants, Ran, Gave, Threw, Asked, bind_all}
@@ -211,9 +211,9 @@ lastly e b cs c f active = stmts (behind (functions_in b ++ (functions_in_clause
 mutual
   stmt_adds : (e : Scope) → Calls_add e → (a : Stmt) → Adds (stmt e a)
   stmt_adds e h (Evaluate a) s = both_add s (expr e a (visit s)) _ (trans (visit_adds s) (expr_adds e h a (visit s))) (λ v s1. same s1)
-  stmt_adds e h (Assign x a) s =
+  stmt_adds e h (Assign (Named x) a) s =
       both_add s (expr e a (visit s)) _ (trans (visit_adds s) (expr_adds e h a (visit s))) (λ v s1. trans (visit_adds s1) (assign_adds x (place_of x e.locals) v (visit s1)))
-  stmt_adds e h (Augment x o a) s =
+  stmt_adds e h (Augment (Named x) o a) s =
       both_add s (read x (place_of x e.locals) (visit (visit s))) _
       (trans (trans (visit_adds s) (visit_adds (visit s))) (read_adds x (place_of x e.locals) (visit (visit s))))
       (λ u s1. both_add s1 (expr e a s1) _ (expr_adds e h a s1)
@@ -232,7 +232,7 @@ mutual
   stmt_adds e h (Return a) s = trans (visit_adds s) (returning_adds e h a (visit s))
   stmt_adds e h (Global xs) s = visit_adds s
   stmt_adds e h (Raise a) s = trans (visit_adds s) (raising_adds e h a (visit s))
-  stmt_adds e h (For x a b c) s =
+  stmt_adds e h (For (Named x) a b c) s =
       both_add s (expr e a (visit s)) _ (trans (visit_adds s) (expr_adds e h a (visit s)))
       (λ v s1. over_adds (iterator_of v s1.world) _
       (λ it. for_loop_adds e.turns (λ u s2. assign x (place_of x e.locals) u (visit s2)) (stmts e b) (stmts (behind (functions_in b) e) c)
@@ -546,10 +546,10 @@ module _ (b : List Answer) (locals : List Text) (n m : ℕ) (fewer : n ≤ m) (c
   mutual
     stmt_further : (z : Option ℕ) (i : ℕ) (a : Stmt) (s : State) → Further b (stmt (scope1 z i) a s) (stmt (scope2 z i) a (more b s))
     stmt_further z i (Evaluate a) s = then_further b _ _ _ _ (expr_further z i a (visit s)) (λ v s1. refl) (λ v s1. same s1)
-    stmt_further z i (Assign x a) s =
+    stmt_further z i (Assign (Named x) a) s =
         let p = place_of x locals in
         then_further b _ _ _ _ (expr_further z i a (visit s)) (λ v s1. assign_further b x p v (visit s1)) (λ v s1. trans (visit_adds s1) (assign_adds x p v (visit s1)))
-    stmt_further z i (Augment x o a) s =
+    stmt_further z i (Augment (Named x) o a) s =
         let p = place_of x locals in
         then_further b _ _ _ _ (read_further b x p (visit (visit s)))
         (λ u s1. then_further b _ _ _ _ (expr_further z i a s1)
@@ -574,7 +574,7 @@ module _ (b : List Answer) (locals : List Text) (n m : ℕ) (fewer : n ≤ m) (c
     stmt_further z i (Return a) s = returning_further z i a (visit s)
     stmt_further z i (Global xs) s = refl
     stmt_further z i (Raise a) s = raising_further z i a (visit s)
-    stmt_further z i (For x a c d) s =
+    stmt_further z i (For (Named x) a c d) s =
         let p = place_of x locals in
         let j = i + length (functions_in c) in
         then_further b _ _ _ _ (expr_further z i a (visit s))

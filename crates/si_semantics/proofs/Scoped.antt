@@ -2,7 +2,7 @@
 use Rattle.std.proofs.Common.{◌≡◌, ℕ, zero, suc, List, [], ◌∷◌, ◌++◌, length, Bool, true, false, ◌&&◌, Option, Some, None, refl, subst}
 use Rattle.std.specs.Prelude.{nat_eq, slice_get}
 use Rattle.si_semantics.specs.Value.{Text, Value, Nothing, Truth, Int, Str, Provided, Function, Range, Class, Address}
-use Rattle.si_semantics.specs.Tree.{BooleanOperator, Expr, Constant, Name, Unary, Binary, Call, Boolean, Compare, Conditional, Exprs, NoExprs, MoreExprs, Comparisons, NoComparisons, MoreComparisons, Stmt, Evaluate, Assign, Augment, Pass, If, While, For, Break, Continue, Define, Return, Global, Raise, Try, Finally, Stmts, NoStmts, MoreStmts, Clauses, NoClauses, MoreClauses, functions_of, functions_in, functions_in_clauses}
+use Rattle.si_semantics.specs.Tree.{BooleanOperator, Expr, Constant, Name, Unary, Binary, Call, Boolean, Compare, Conditional, Exprs, NoExprs, MoreExprs, Comparisons, NoComparisons, MoreComparisons, Stmt, Named, Evaluate, Assign, Augment, Pass, If, While, For, Break, Continue, Define, Return, Global, Raise, Try, Finally, Stmts, NoStmts, MoreStmts, Clauses, NoClauses, MoreClauses, functions_of, functions_in, functions_in_clauses}
 use Rattle.si_semantics.specs.Tree as tree
 use Rattle.si_semantics.specs.World.{Request, Answer, Replied, Got, Failed, Wants, Ran, Gave, Threw, Asked}
 use Rattle.si_semantics.specs.Operations.{exception, operate, operate_unary, is_true, compare, load_global, load_local, call_provided, call_by_name, not_callable, wrong_arguments, too_deep, catches, Iterator, iterator_of, Next, Item, Exhausted, Refuses, next_item, reply}
@@ -233,9 +233,9 @@ both_true false b h = cc
 mutual
   stmt_keeps : (w : Within) (e : Scope) → Calls_keep e → (a : Stmt) (s : State) → stmt_scoped w a ≡ true → Keeps w (stmt e a s)
   stmt_keeps w e k (Evaluate a) s h = then_keeps w (expr e a (visit s)) _ (expr_keeps w e k a (visit s)) (λ v s1. tt)
-  stmt_keeps w e k (Assign x a) s h =
+  stmt_keeps w e k (Assign (Named x) a) s h =
       then_keeps w (expr e a (visit s)) _ (expr_keeps w e k a (visit s)) (λ v s1. assign_keeps w x (place_of x e.locals) v (visit s1))
-  stmt_keeps w e k (Augment x o a) s h =
+  stmt_keeps w e k (Augment (Named x) o a) s h =
       then_keeps w (read x (place_of x e.locals) (visit (visit s))) _ (read_keeps w x (place_of x e.locals) (visit (visit s)))
       (λ u s1. then_keeps w (expr e a s1) _ (expr_keeps w e k a s1)
       (λ v s2. then_keeps w (ran (operate o u v s2.world) s2) _ (ran_keeps w (operate o u v s2.world) s2) (λ z s3. assign_keeps w x (place_of x e.locals) z s3)))
@@ -248,7 +248,7 @@ mutual
       let g = both_true (stmts_scoped (looping w) b) (stmts_scoped w c) h in
       loop_keeps w (expr e a) (stmts e b) (stmts (behind (functions_in b) e) c)
       (λ s1. expr_keeps w e k a s1) (λ s1. stmts_keep (looping w) e k b s1 g.0) (λ s1. stmts_keep w (behind (functions_in b) e) k c s1 g.1) e.turns (visit s)
-  stmt_keeps w e k (For x a b c) s h =
+  stmt_keeps w e k (For (Named x) a b c) s h =
       let g = both_true (stmts_scoped (looping w) b) (stmts_scoped w c) h in
       then_keeps w (expr e a (visit s)) _ (expr_keeps w e k a (visit s))
       (λ v s1. over_keeps w (iterator_of v s1.world) _

@@ -1,7 +1,7 @@
 -- The worked cases of reading hold: words and tokens compute, and the tree is derived production by production.
 use Rattle.std.proofs.Common.{ℕ, List, [], ◌∷◌, ◌++◌, inl, refl, lit<, lit≤}
 use Rattle.std.specs.Prelude.{codes}
-use Rattle.si_semantics.specs.Tree.{Subtract, Multiply, Power, Minus, Not, Less, LessEqual, Or, Name, Boolean, Evaluate, Assign, Pass, Break}
+use Rattle.si_semantics.specs.Tree.{Named, Subtract, Multiply, Power, Minus, Not, Less, LessEqual, Or, Name, Boolean, Evaluate, Assign, Pass, Break}
 use Rattle.si_semantics.specs.Tokens as tokens
 use Rattle.si_semantics.specs.Words as words
 use Rattle.si_semantics.specs.Words.{symbols, keywords}
@@ -171,7 +171,7 @@ blocks_spelled =
     (loop (name x) (in_block (one_branch (name f) (in_block (line breaks) (lit< tt))) (lit< tt)))
     (line f_is_called)
 
-abbrev levels_spelled : Parsed (suite (Assign x difference ∷ []))
+abbrev levels_spelled : Parsed (suite (Assign (Named x) difference ∷ []))
 levels_spelled =
     text (line (assigned x
     (binary Subtract (lit≤ tt)
@@ -180,7 +180,7 @@ levels_spelled =
     (unary Minus (lit≤ tt) (binary Power (lit≤ tt) (number (codes "3") 3 refl) (number (codes "4") 4 refl)))
     (number (codes "5") 5 refl)))))
 
-abbrev brackets_spelled : Parsed (suite (Assign x bracketed ∷ []))
+abbrev brackets_spelled : Parsed (suite (Assign (Named x) bracketed ∷ []))
 brackets_spelled =
     text (line (assigned x
     (binary Subtract (lit≤ tt)

@@ -2,7 +2,7 @@
 -- Each rule stands in the line above its production, in the notation of the reference.
 use Rattle.std.specs.Prelude.{◌≡◌, ℕ, zero, suc, ◌<◌, ◌≤◌, Bool, true, false, List, [], ◌∷◌, ◌++◌, length, map, flat_map, ◌⊎◌, Option, Some, None}
 use Rattle.si_semantics.specs.Value.{Text, Nothing, Truth, Int, Str, Provided, Function, Range, Class, Address}
-use Rattle.si_semantics.specs.Tree.{BinaryOperator, Add, Subtract, Multiply, FloorDivide, Modulo, Power, BitOr, BitXor, BitAnd, ShiftLeft, ShiftRight, UnaryOperator, ComparisonOperator, BooleanOperator, Expr, Constant, Name, Unary, Binary, Call, Boolean, Compare, Conditional, Exprs, NoExprs, MoreExprs, Comparisons, NoComparisons, MoreComparisons, Stmt, Evaluate, Assign, Augment, Pass, If, While, For, Break, Continue, Define, Return, Global, Raise, Try, Finally, Stmts, NoStmts, MoreStmts, Clauses, NoClauses, MoreClauses}
+use Rattle.si_semantics.specs.Tree.{BinaryOperator, Add, Subtract, Multiply, FloorDivide, Modulo, Power, BitOr, BitXor, BitAnd, ShiftLeft, ShiftRight, UnaryOperator, ComparisonOperator, BooleanOperator, Expr, Constant, Name, Unary, Binary, Call, Boolean, Compare, Conditional, Exprs, NoExprs, MoreExprs, Comparisons, NoComparisons, MoreComparisons, Stmt, Target, Named, Evaluate, Assign, Augment, Pass, If, While, For, Break, Continue, Define, Return, Global, Raise, Try, Finally, Stmts, NoStmts, MoreStmts, Clauses, NoClauses, MoreClauses}
 use Rattle.si_semantics.specs.Tree as tree
 use Rattle.si_semantics.specs.Scope.{are_distinct}
 use Rattle.si_semantics.specs.Text.{max_length}
@@ -291,18 +291,22 @@ augmented_of Power = token.DoubleStarEqual
 abbrev pub IsName : Text → List Terminal → Type 0
 IsName x ts = ts ≡ NAME x ∷ []
 
+-- target: NAME, round which brackets may stand
+abbrev pub IsTarget : Target → List Terminal → Type 0
+IsTarget (Named x) ts = IsExpression (Name x) ts
+
 -- NAME { ',' NAME }
 abbrev pub Names : List Text → List Terminal → Type 0
 Names [] ts = ⊥
 Names (x ∷ xs) ts = (f : List Terminal) × (ts ≡ NAME x ∷ f) × Many (Behind (Sign token.Comma) IsName) xs f
 
--- small: expression | NAME '=' expression | NAME augmented expression | 'pass' | 'break' | 'continue'
--- | 'return' [expression] | 'global' NAME { ',' NAME } | 'raise' [expression], where brackets may stand round the name that is assigned to
+-- small: expression | target '=' expression | target augmented expression | 'pass' | 'break' | 'continue'
+-- | 'return' [expression] | 'global' NAME { ',' NAME } | 'raise' [expression]
 abbrev pub Small : Stmt → List Terminal → Type 0
 Small (Evaluate e) ts = IsExpression e ts
-Small (Assign x e) ts = (f : List Terminal) × (g : List Terminal) × (ts ≡ f ++ Sign token.Equal ∷ g) × IsExpression (Name x) f × IsExpression e g
-Small (Augment x op e) ts =
-    (f : List Terminal) × (g : List Terminal) × (ts ≡ f ++ Sign (augmented_of op) ∷ g) × IsExpression (Name x) f × IsExpression e g
+Small (Assign t e) ts = (f : List Terminal) × (g : List Terminal) × (ts ≡ f ++ Sign token.Equal ∷ g) × IsTarget t f × IsExpression e g
+Small (Augment t op e) ts =
+    (f : List Terminal) × (g : List Terminal) × (ts ≡ f ++ Sign (augmented_of op) ∷ g) × IsTarget t f × IsExpression e g
 Small Pass ts = ts ≡ Word token.PassWord ∷ []
 Small Break ts = ts ≡ Word token.BreakWord ∷ []
 Small Continue ts = ts ≡ Word token.ContinueWord ∷ []
@@ -314,7 +318,7 @@ Small (Raise (Some e)) ts = Behind (Word token.RaiseWord) IsExpression e ts
 Small (Define x ps body) ts = ⊥
 Small (If test body other) ts = ⊥
 Small (While test body other) ts = ⊥
-Small (For x over body other) ts = ⊥
+Small (For t over body other) ts = ⊥
 Small (Try body cs other) ts = ⊥
 Small (Finally body cs other last) ts = ⊥
 
@@ -403,10 +407,10 @@ Compound L (If test body other) ts =
 -- while: 'while' expression suite ['else' suite]
 Compound L (While test body other) ts =
     (f : List Terminal) × (g : List Terminal) × (ts ≡ Word token.WhileWord ∷ (f ++ g)) × Tested L (test, body) f × Otherwise L other g
--- for: 'for' target 'in' expression suite ['else' suite], where brackets may stand round the name that is the target
-Compound L (For x over body other) ts =
+-- for: 'for' target 'in' expression suite ['else' suite]
+Compound L (For t over body other) ts =
     (f : List Terminal) × (g : List Terminal) × (h : List Terminal)
-    × (ts ≡ Word token.ForWord ∷ (f ++ Word token.InWord ∷ (g ++ h))) × Spells max_depth 18 (Name x) f × Tested L (over, body) g × Otherwise L other h
+    × (ts ≡ Word token.ForWord ∷ (f ++ Word token.InWord ∷ (g ++ h))) × IsTarget t f × Tested L (over, body) g × Otherwise L other h
 -- try: 'try' suite except { except } ['else' suite]
 Compound L (Try body cs other) ts =
     (f : List Terminal) × (g : List Terminal)

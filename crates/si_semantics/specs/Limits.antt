@@ -60,11 +60,11 @@ greatest_of_value m (Some e) = m e
 abbrev mutual
   pub greatest_of : (Expr → ℕ) → Stmt → ℕ
   greatest_of m (Evaluate e) = m e
-  greatest_of m (Assign x e) = m e
-  greatest_of m (Augment x op e) = m e
+  greatest_of m (Assign t e) = m e
+  greatest_of m (Augment t op e) = m e
   greatest_of m (If test body other) = max (m test) (max (greatest_in m body) (greatest_in m other))
   greatest_of m (While test body other) = max (m test) (max (greatest_in m body) (greatest_in m other))
-  greatest_of m (For x over body other) = max (m over) (max (greatest_in m body) (greatest_in m other))
+  greatest_of m (For t over body other) = max (m over) (max (greatest_in m body) (greatest_in m other))
   greatest_of m (Define x ps body) = greatest_in m body
   greatest_of m (Return a) = greatest_of_value m a
   greatest_of m (Raise a) = greatest_of_value m a
@@ -86,7 +86,7 @@ abbrev mutual
   most_parameters_of (Define x ps body) = max (length ps) (most_parameters_in body)
   most_parameters_of (If test body other) = max (most_parameters_in body) (most_parameters_in other)
   most_parameters_of (While test body other) = max (most_parameters_in body) (most_parameters_in other)
-  most_parameters_of (For x over body other) = max (most_parameters_in body) (most_parameters_in other)
+  most_parameters_of (For t over body other) = max (most_parameters_in body) (most_parameters_in other)
   most_parameters_of (Try body cs other) = max (most_parameters_in body) (max (most_parameters_in_clauses cs) (most_parameters_in other))
   most_parameters_of (Finally body cs other last) =
       max (most_parameters_in body) (max (most_parameters_in_clauses cs) (max (most_parameters_in other) (most_parameters_in last)))
@@ -111,7 +111,7 @@ abbrev mutual
   pub nesting_of : Stmt → ℕ
   nesting_of (If test body other) = max (nesting_in body + 1) (nesting_in other + (if is_elif other then 0 else 1))
   nesting_of (While test body other) = max (nesting_in body) (nesting_in other) + 1
-  nesting_of (For x over body other) = max (nesting_in body) (nesting_in other) + 1
+  nesting_of (For t over body other) = max (nesting_in body) (nesting_in other) + 1
   nesting_of (Define x ps body) = nesting_in body + 1
   nesting_of (Try body cs other) = max (nesting_in body) (max (nesting_in_clauses cs) (nesting_in other)) + 1
   nesting_of (Finally body cs other last) = max (nesting_in body) (max (nesting_in_clauses cs) (max (nesting_in other) (nesting_in last))) + 1

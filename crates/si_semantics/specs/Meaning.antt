@@ -1,7 +1,7 @@
 -- What a tree means (Python Language Reference 3.14, 6 to 8): no program counter, no frame, no stack.
 use Rattle.std.specs.Prelude.{ℕ, zero, suc, ◌+◌, List, [], ◌∷◌, ◌++◌, ◌-◌, length, Bool, true, false, not, Option, Some, None, nat_eq, slice_get, slice_set}
 use Rattle.si_semantics.specs.Value.{Text, Value, Nothing, Str, Function, Address}
-use Rattle.si_semantics.specs.Tree.{BooleanOperator, And, Or, Expr, Constant, Name, Unary, Binary, Call, Boolean, Compare, Conditional, Exprs, NoExprs, MoreExprs, Comparisons, NoComparisons, MoreComparisons, Stmt, Evaluate, Assign, Augment, Pass, If, While, For, Break, Continue, Define, Return, Global, Raise, Try, Finally, Stmts, NoStmts, MoreStmts, Clauses, NoClauses, MoreClauses, functions_of, functions_in, functions_in_clauses}
+use Rattle.si_semantics.specs.Tree.{BooleanOperator, And, Or, Expr, Constant, Name, Unary, Binary, Call, Boolean, Compare, Conditional, Exprs, NoExprs, MoreExprs, Comparisons, NoComparisons, MoreComparisons, Stmt, Target, Named, Evaluate, Assign, Augment, Pass, If, While, For, Break, Continue, Define, Return, Global, Raise, Try, Finally, Stmts, NoStmts, MoreStmts, Clauses, NoClauses, MoreClauses, functions_of, functions_in, functions_in_clauses}
 use Rattle.si_semantics.specs.Tree as tree
 use Rattle.si_semantics.specs.Scope.{place_of, locals_of}
 use Rattle.si_semantics.specs.World.{World, Request, Answer, Got, Failed, Wants, Ran, Gave, Threw, Asked, set_global, unset_global}
@@ -106,6 +106,14 @@ read x (Some k) s = ran (load_local x (slot_at k s.slots) s.world) s
 abbrev pub assign : Text → Option ℕ → Value → Meaning (Unit {0})
 assign x None v s = Gives tt (record s { world = set_global x v s.world })
 assign x (Some k) v s = Gives tt (record s { slots = slice_set s.slots k (Some v) })
+
+-- a target is bound to a value (Language Reference, 7.2)
+abbrev pub bind : Scope → Target → Value → Meaning (Unit {0})
+bind e (Named x) v s = assign x (place_of x e.locals) v s
+
+-- the value that a target has (Language Reference, 7.2.1)
+abbrev pub target_value : Scope → Target → Meaning Value
+target_value e (Named x) s = read x (place_of x e.locals) s
 
 -- a name is unbound, where it is bound (Language Reference, 8.4.1)
 abbrev pub unassign : Text → Option ℕ → Meaning (Unit {0})
@@ -240,18 +248,18 @@ named e (Some y) x suite s =
 
 abbrev mutual
   -- a statement (Language Reference, 7 and 8): of an assignment the right side first, then its target; of an augmented
-  -- one the target, its value, the right side, the operation, and then the name is bound (7.2.1); `def` binds its name
+  -- one the target, its value, the right side, the operation, and then the target is bound (7.2.1); `def` binds its name
   -- to the function (8.7), `global` does nothing (7.12)
   pub stmt : Scope → Stmt → Meaning (Unit {0})
   stmt e (Evaluate a) s = then (expr e a (visit s)) (λ v s1. Gives tt s1)
-  stmt e (Assign x a) s = then (expr e a (visit s)) (λ v s1. assign x (place_of x e.locals) v (visit s1))
-  stmt e (Augment x o a) s =
-      then (read x (place_of x e.locals) (visit (visit s))) (λ u s1. then (expr e a s1) (λ v s2. then (ran (operate o u v s2.world) s2) (λ z s3. assign x (place_of x e.locals) z s3)))
+  stmt e (Assign t a) s = then (expr e a (visit s)) (λ v s1. bind e t v (visit s1))
+  stmt e (Augment t o a) s =
+      then (target_value e t (visit (visit s))) (λ u s1. then (expr e a s1) (λ v s2. then (ran (operate o u v s2.world) s2) (λ z s3. bind e t z s3)))
   stmt e Pass s = Gives tt (visit s)
   stmt e (If a b c) s = then (expr e a (visit s)) (λ t s1. choose (is_true t s1.world) (stmts e b s1) (stmts (behind (functions_in b) e) c s1))
   stmt e (While a b c) s = loop e.turns (expr e a) (stmts e b) (stmts (behind (functions_in b) e) c) (visit s)
-  stmt e (For x a b c) s =
-      then (expr e a (visit s)) (λ v s1. over (iterator_of v s1.world) (for_loop e.turns (λ u s2. assign x (place_of x e.locals) u (visit s2)) (stmts e b) (stmts (behind (functions_in b) e) c)) s1)
+  stmt e (For t a b c) s =
+      then (expr e a (visit s)) (λ v s1. over (iterator_of v s1.world) (for_loop e.turns (λ u s2. bind e t u (visit s2)) (stmts e b) (stmts (behind (functions_in b) e) c)) s1)
   stmt e Break s = Leaves Breaks (visit s)
   stmt e Continue s = Leaves Continues (visit s)
   stmt e (Define f ps b) s = assign f (place_of f e.locals) (Function f e.first) (visit s)

@@ -3,7 +3,7 @@
 use Rattle.std.specs.Prelude.{ℕ, ◌+◌, List, [], ◌∷◌, ◌++◌, Bool, true, false, not, ◌&&◌, ◌||◌, Option, Some, None, option_map, if◌then◌else◌}
 use Rattle.si_semantics.specs.Value.{Text}
 use Rattle.si_semantics.specs.Text.{same_text}
-use Rattle.si_semantics.specs.Tree.{Expr, Constant, Name, Unary, Binary, Call, Boolean, Compare, Conditional, Exprs, NoExprs, MoreExprs, Comparisons, NoComparisons, MoreComparisons, Stmt, Evaluate, Assign, Augment, Pass, If, While, For, Break, Continue, Define, Return, Global, Raise, Try, Finally, Stmts, NoStmts, MoreStmts, Clauses, NoClauses, MoreClauses, Function}
+use Rattle.si_semantics.specs.Tree.{Expr, Constant, Name, Unary, Binary, Call, Boolean, Compare, Conditional, Exprs, NoExprs, MoreExprs, Comparisons, NoComparisons, MoreComparisons, Stmt, Target, Named, Evaluate, Assign, Augment, Pass, If, While, For, Break, Continue, Define, Return, Global, Raise, Try, Finally, Stmts, NoStmts, MoreStmts, Clauses, NoClauses, MoreClauses, Function}
 
 -- ---- lists of names
 
@@ -59,6 +59,14 @@ abbrev pub names_of_value : Option Expr → List Text
 names_of_value None = []
 names_of_value (Some a) = names_of a
 
+-- the names that a target binds (4.2.1)
+abbrev pub bound_by_target : Target → List Text
+bound_by_target (Named x) = x ∷ []
+
+-- the names that a target uses or binds
+abbrev pub used_by_target : Target → List Text
+used_by_target (Named x) = x ∷ []
+
 -- a name that may be left out
 abbrev pub name_in : Option Text → List Text
 name_in None = []
@@ -67,11 +75,11 @@ name_in (Some y) = y ∷ []
 abbrev mutual
   -- the names that a statement binds (4.2.1): a `for` its target, an `except` clause the name behind `as`
   pub bound_by : Stmt → List Text
-  bound_by (Assign x a) = x ∷ []
-  bound_by (Augment x o a) = x ∷ []
+  bound_by (Assign t a) = bound_by_target t
+  bound_by (Augment t o a) = bound_by_target t
   bound_by (If a b c) = bound_in b ++ bound_in c
   bound_by (While a b c) = bound_in b ++ bound_in c
-  bound_by (For x a b c) = x ∷ (bound_in b ++ bound_in c)
+  bound_by (For t a b c) = bound_by_target t ++ (bound_in b ++ bound_in c)
   bound_by (Define f ps b) = f ∷ []
   bound_by (Try b cs c) = bound_in b ++ (bound_in_clauses cs ++ bound_in c)
   bound_by (Finally b cs c f) = bound_in b ++ (bound_in_clauses cs ++ (bound_in c ++ bound_in f))
@@ -91,7 +99,7 @@ abbrev mutual
   declared_by (Global xs) = xs
   declared_by (If a b c) = declared_in b ++ declared_in c
   declared_by (While a b c) = declared_in b ++ declared_in c
-  declared_by (For x a b c) = declared_in b ++ declared_in c
+  declared_by (For t a b c) = declared_in b ++ declared_in c
   declared_by (Try b cs c) = declared_in b ++ (declared_in_clauses cs ++ declared_in c)
   declared_by (Finally b cs c f) = declared_in b ++ (declared_in_clauses cs ++ (declared_in c ++ declared_in f))
   declared_by _ = []
@@ -108,12 +116,12 @@ abbrev mutual
   -- the names that a statement uses or binds; a declaration is no use
   pub used_by : Stmt → List Text
   used_by (Evaluate a) = names_of a
-  used_by (Assign x a) = x ∷ names_of a
-  used_by (Augment x o a) = x ∷ names_of a
+  used_by (Assign t a) = used_by_target t ++ names_of a
+  used_by (Augment t o a) = used_by_target t ++ names_of a
   used_by Pass = []
   used_by (If a b c) = names_of a ++ used_in b ++ used_in c
   used_by (While a b c) = names_of a ++ used_in b ++ used_in c
-  used_by (For x a b c) = x ∷ (names_of a ++ used_in b ++ used_in c)
+  used_by (For t a b c) = used_by_target t ++ (names_of a ++ used_in b ++ used_in c)
   used_by Break = []
   used_by Continue = []
   used_by (Define f ps b) = f ∷ []
@@ -138,8 +146,8 @@ abbrev mutual
       are_apart (names_of a) (declared_in b ++ declared_in c) && are_apart (used_in b) (declared_in c) && declare_first b && declare_first c
   declares_first (While a b c) =
       are_apart (names_of a) (declared_in b ++ declared_in c) && are_apart (used_in b) (declared_in c) && declare_first b && declare_first c
-  declares_first (For x a b c) =
-      are_apart (x ∷ names_of a) (declared_in b ++ declared_in c) && are_apart (used_in b) (declared_in c) && declare_first b && declare_first c
+  declares_first (For t a b c) =
+      are_apart (used_by_target t ++ names_of a) (declared_in b ++ declared_in c) && are_apart (used_in b) (declared_in c) && declare_first b && declare_first c
   declares_first (Try b cs c) =
       are_apart (used_in b) (declared_in_clauses cs ++ declared_in c) && are_apart (used_in_clauses cs) (declared_in c)
       && declare_first b && clauses_declare_first cs && declare_first c
@@ -202,12 +210,12 @@ abbrev mutual
   -- a statement stands where it may; a loop's else suite is no part of its body
   pub stmt_scoped : Within → Stmt → Bool
   stmt_scoped w (Evaluate a) = true
-  stmt_scoped w (Assign x a) = true
-  stmt_scoped w (Augment x o a) = true
+  stmt_scoped w (Assign t a) = true
+  stmt_scoped w (Augment t o a) = true
   stmt_scoped w Pass = true
   stmt_scoped w (If a b c) = stmts_scoped w b && stmts_scoped w c
   stmt_scoped w (While a b c) = stmts_scoped (looping w) b && stmts_scoped w c
-  stmt_scoped w (For x a b c) = stmts_scoped (looping w) b && stmts_scoped w c
+  stmt_scoped w (For t a b c) = stmts_scoped (looping w) b && stmts_scoped w c
   stmt_scoped w Break = in_loop w
   stmt_scoped w Continue = in_loop w
   stmt_scoped w (Define f ps b) =

@@ -64,19 +64,24 @@ mutual
     NoComparisons : Comparisons
     MoreComparisons : ComparisonOperator → Expr → Comparisons → Comparisons
 
+-- what a statement binds (4.2.1)
+pub data Target : Type 0 where
+  Named : Text → Target
+
 mutual
   pub data Stmt : Type 0 where
     Evaluate : Expr → Stmt
-    Assign : Text → Expr → Stmt
-    -- `NAME op= expr` (7.2.1)
-    Augment : Text → BinaryOperator → Expr → Stmt
+    -- `target = expr` (7.2)
+    Assign : Target → Expr → Stmt
+    -- `target op= expr` (7.2.1)
+    Augment : Target → BinaryOperator → Expr → Stmt
     Pass : Stmt
     -- the test, the suite, and the else suite; an `elif` is an `if` of its own in the else suite (8.1)
     If : Expr → Stmts → Stmts → Stmt
     -- the test, the suite, and the else suite (8.2)
     While : Expr → Stmts → Stmts → Stmt
     -- the target, what is gone over, the suite, and the else suite (8.3)
-    For : Text → Expr → Stmts → Stmts → Stmt
+    For : Target → Expr → Stmts → Stmts → Stmt
     Break : Stmt
     Continue : Stmt
     -- `def NAME(parameters)` and its suite (8.7)
@@ -117,7 +122,7 @@ abbrev mutual
   functions_of (Define f ps b) = record { name = f; parameters = ps; body = b } ∷ []
   functions_of (If a b c) = functions_in b ++ functions_in c
   functions_of (While a b c) = functions_in b ++ functions_in c
-  functions_of (For x a b c) = functions_in b ++ functions_in c
+  functions_of (For t a b c) = functions_in b ++ functions_in c
   functions_of (Try b cs c) = functions_in b ++ (functions_in_clauses cs ++ functions_in c)
   functions_of (Finally b cs c f) = functions_in b ++ (functions_in_clauses cs ++ (functions_in c ++ functions_in f))
   functions_of _ = []

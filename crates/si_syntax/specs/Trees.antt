@@ -15,6 +15,8 @@ use Rattle.si_syntax.specs.declared.operators.BooleanOperator.{BooleanOperator}
 use Rattle.si_syntax.specs.declared.operators.BooleanOperator.TheVariants as boolean
 use Rattle.si_syntax.specs.declared.expr.Expr.{Expr, fold-Expr}
 use Rattle.si_syntax.specs.declared.expr.Expr.TheOpen.{Expr-F}
+use Rattle.si_syntax.specs.declared.target.Target.{Target}
+use Rattle.si_syntax.specs.declared.target.Target.TheVariants as target
 use Rattle.si_syntax.specs.declared.stmt.Stmt.{Stmt, fold-Stmt}
 use Rattle.si_syntax.specs.declared.stmt.Stmt.TheOpen.{Stmt-F}
 
@@ -72,6 +74,9 @@ expr_of = fold-Expr tree.Expr view_step
 abbrev pub link_of : ComparisonOperator × Expr → tree.ComparisonOperator × tree.Expr
 link_of l = (comparison_of l.0, expr_of l.1)
 
+abbrev pub target_of : Target → tree.Target
+target_of (target.Named x) = tree.Named (string_bytes x)
+
 -- an except clause, with each statement of its suite already seen as its tree
 abbrev pub clause_step : Option Expr × Option (String Global) × Vec tree.Stmt Global → Clause
 clause_step c = (option_map expr_of c.0, option_map string_bytes c.1, stmts_of c.2.items)
@@ -79,13 +84,13 @@ clause_step c = (option_map expr_of c.0, option_map string_bytes c.1, stmts_of c
 -- one level, with each statement of a suite already seen as its tree
 abbrev pub stmt_step : Stmt-F tree.Stmt → tree.Stmt
 stmt_step (Stmt-F.Evaluate e) = tree.Evaluate (expr_of e)
-stmt_step (Stmt-F.Assign x e) = tree.Assign (string_bytes x) (expr_of e)
-stmt_step (Stmt-F.Augment x op e) = tree.Augment (string_bytes x) (binary_of op) (expr_of e)
+stmt_step (Stmt-F.Assign t e) = tree.Assign (target_of t) (expr_of e)
+stmt_step (Stmt-F.Augment t op e) = tree.Augment (target_of t) (binary_of op) (expr_of e)
 stmt_step Stmt-F.Pass = tree.Pass
 stmt_step (Stmt-F.If test body elifs last) =
     tree.If (expr_of test) (stmts_of body.items) (elifs_of (map (λ b. (expr_of b.0, stmts_of b.1.items)) elifs.items) (stmts_of last.items))
 stmt_step (Stmt-F.While test body last) = tree.While (expr_of test) (stmts_of body.items) (stmts_of last.items)
-stmt_step (Stmt-F.For x over body last) = tree.For (string_bytes x) (expr_of over) (stmts_of body.items) (stmts_of last.items)
+stmt_step (Stmt-F.For t over body last) = tree.For (target_of t) (expr_of over) (stmts_of body.items) (stmts_of last.items)
 stmt_step (Stmt-F.Break line) = tree.Break
 stmt_step (Stmt-F.Continue line) = tree.Continue
 stmt_step (Stmt-F.Define line x ps body) = tree.Define (string_bytes x) (map string_bytes ps.items) (stmts_of body.items)

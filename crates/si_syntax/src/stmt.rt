@@ -2,6 +2,7 @@
 
 use crate::expr::Expr;
 use crate::operators::BinaryOperator;
+use crate::target::Target;
 
 /// The line in which a statement begins, counted from 1. It is a hint for people: no tree depends on it.
 pub type Line = usize;
@@ -15,10 +16,10 @@ pub type Clause = (Option<Expr>, Option<String>, Vec<Stmt>);
 pub enum Stmt {
     /// An expression that is evaluated for its effects.
     Evaluate(Expr),
-    /// `NAME = expr`.
-    Assign(String, Expr),
-    /// `NAME op= expr`.
-    Augment(String, BinaryOperator, Expr),
+    /// `target = expr`.
+    Assign(Target, Expr),
+    /// `target op= expr`.
+    Augment(Target, BinaryOperator, Expr),
     Pass,
     /// The test and the suite of an `if`, those of each `elif`, and the suite of the `else`, which is empty where there
     /// is none.
@@ -26,7 +27,7 @@ pub enum Stmt {
     /// The test, the suite, and that of the `else`, which is empty where there is none.
     While(Expr, Vec<Stmt>, Vec<Stmt>),
     /// The target, what is gone over, the suite, and that of the `else`, which is empty where there is none.
-    For(String, Expr, Vec<Stmt>, Vec<Stmt>),
+    For(Target, Expr, Vec<Stmt>, Vec<Stmt>),
     Break(Line),
     Continue(Line),
     /// `def`: the name, the parameters, of which there are 255 at most, and the suite.

@@ -4,7 +4,7 @@ use Rattle.std.specs.List.{AllByRecursion}
 use Rattle.std.proofs.lemmas.Result.{on_ok_weaker}
 use Rattle.si_semantics.specs.Grammar.{clauses_of, elifs_of}
 use Rattle.si_semantics.specs.Tree as tree
-use Rattle.si_syntax.specs.Trees.{body_of, expr_of, clause_of, elif_of, stmt_of}
+use Rattle.si_syntax.specs.Trees.{body_of, expr_of, clause_of, elif_of, stmt_of, target_of}
 use Rattle.si_compile.specs.Code.{stmts_code, expr_code, named_code}
 use Rattle.si_compile.specs.Jumps.{only_if, only_while, only_for, tried, clauses_in}
 use Rattle.si_compile.proofs.Branches.{MakesAll-step, all_aimed, branch_gains, branch_at, branch_behind}
@@ -72,15 +72,15 @@ loops::emit_turn-returns-clause-extends t c =
 pub loops::emit_round-returns-clause-ok : goal.loops::emit_round-returns-clause-ok
 loops::emit_round-returns-clause-ok t c =
     round_gains _ (stmts_code c.args.locals.now c.args.next.now (body_of c.args.body.now)) c.len-skip.result c.len-skip.ensures
-    c.in_ok-put.ensures.ok c.in_ok-emit_store.ensures.ok c.in_ok-put-2.ensures.ok c.in_ok-emit_suite.ensures.ok c.in_ok-put-3.ensures.ok c.in_ok-aim.ensures.ok
+    c.in_ok-put.ensures.ok c.in_ok-emit_bind.ensures.ok c.in_ok-put_enter.ensures.ok c.in_ok-emit_suite.ensures.ok c.in_ok-put-2.ensures.ok c.in_ok-aim.ensures.ok
 
 pub loops::emit_round-returns-clause-at : goal.loops::emit_round-returns-clause-at
-loops::emit_round-returns-clause-at t c = round_at _ c.len-enter.result c.len-enter.ensures c.in_ok-put.ensures.ok c.in_ok-emit_store.ensures.ok
+loops::emit_round-returns-clause-at t c = round_at _ c.len-enter.result c.len-enter.ensures c.in_ok-put.ensures.ok c.in_ok-emit_bind.ensures.ok
 
 pub loops::emit_round-returns-clause-extends : goal.loops::emit_round-returns-clause-extends
 loops::emit_round-returns-clause-extends t c =
     front_stays c.in_ok-aim.ensures.extends _ c.len-skip.ensures (Extends-same c.args.table.now)
-    (Extends-trans _ _ _ c.in_ok-put.ensures.extends (Extends-trans _ _ _ c.in_ok-emit_store.ensures.extends (Extends-trans _ _ _ c.in_ok-put-2.ensures.extends (Extends-trans _ _ _ c.in_ok-emit_suite.ensures.extends c.in_ok-put-3.ensures.extends))))
+    (Extends-trans _ _ _ c.in_ok-put.ensures.extends (Extends-trans _ _ _ c.in_ok-emit_bind.ensures.extends (Extends-trans _ _ _ c.in_ok-put_enter.ensures.extends (Extends-trans _ _ _ c.in_ok-emit_suite.ensures.extends c.in_ok-put-2.ensures.extends))))
 
 pub emit::emit_if-loop-test-preserved : goal.emit::emit_if-loop-test-preserved
 emit::emit_if-loop-test-preserved t c =
@@ -146,23 +146,23 @@ loops::emit_while-returns-clause-next t c =
 
 pub loops::emit_for-returns-clause-ok : goal.loops::emit_for-returns-clause-ok
 loops::emit_for-returns-clause-ok t c =
-    let seen = ap only_for (for_seen c.in-For.name c.in-For.items c.in-For.body c.in-For.last c.as_str.result.now c.deref.result.now c.deref-2.result.now c.args.stmt.now c.in-For.is c.as_str.ensures.value c.deref.ensures.value c.deref-2.ensures.value) in
+    let seen = ap only_for (for_seen c.in-For.target c.in-For.items c.in-For.body c.in-For.last c.deref.result.now c.deref-2.result.now c.args.stmt.now c.in-For.is c.deref.ensures.value c.deref-2.ensures.value) in
     on_ok_weaker c.emit_last_round.result
-    (for_stmt c.args.locals.now _ _ c.as_str.result.now c.in-For.items c.deref.result.now c.deref-2.result.now _ c.in_ok-enter.enter seen
+    (for_stmt c.args.locals.now _ _ (target_of c.in-For.target) c.in-For.items c.deref.result.now c.deref-2.result.now _ c.in_ok-enter.enter seen
     c.in_ok-enter.ensures.next c.in_ok-enter.ensures.at c.in_ok-emit_items.ensures.ok c.in_ok-enter.ensures.ok c.in_ok-emit_suite.ensures.ok)
     c.emit_last_round.ensures.ok
 
 pub loops::emit_for-returns-clause-next : goal.loops::emit_for-returns-clause-next
 loops::emit_for-returns-clause-next t c =
-    let seen = ap only_for (for_seen c.in-For.name c.in-For.items c.in-For.body c.in-For.last c.as_str.result.now c.deref.result.now c.deref-2.result.now c.args.stmt.now c.in-For.is c.as_str.ensures.value c.deref.ensures.value c.deref-2.ensures.value) in
+    let seen = ap only_for (for_seen c.in-For.target c.in-For.items c.in-For.body c.in-For.last c.deref.result.now c.deref-2.result.now c.args.stmt.now c.in-For.is c.deref.ensures.value c.deref-2.ensures.value) in
     on_ok_weaker c.emit_last_round.result
-    (λ ends. for_number _ _ _ c.as_str.result.now c.in-For.items c.deref.result.now c.deref-2.result.now _ seen c.in_ok-enter.ensures.next c.in_ok-emit_suite.ensures.next)
+    (λ ends. for_number _ _ _ (target_of c.in-For.target) c.in-For.items c.deref.result.now c.deref-2.result.now _ seen c.in_ok-enter.ensures.next c.in_ok-emit_suite.ensures.next)
     c.emit_last_round.ensures.ok
 
 pub loops::emit_for-returns-clause-extends : goal.loops::emit_for-returns-clause-extends
 loops::emit_for-returns-clause-extends t c =
     let over = c.in_ok-emit_items.ensures.extends in
-    kept_from 2 c.emit_last_round.ensures.extends c.in_ok-enter.ensures.at over (Extends-trans _ _ _ over (Extends-trans _ _ _ c.in_ok-enter.ensures.extends c.in_ok-emit_suite.ensures.extends))
+    kept_from _ c.emit_last_round.ensures.extends c.in_ok-enter.ensures.at over (Extends-trans _ _ _ over (Extends-trans _ _ _ c.in_ok-enter.ensures.extends c.in_ok-emit_suite.ensures.extends))
 
 pub handlers::emit_finally-returns-clause-ok : goal.handlers::emit_finally-returns-clause-ok
 handlers::emit_finally-returns-clause-ok t c =

@@ -1,7 +1,7 @@
 -- Worked cases of `raise` and `try`: what scripts print and how they end, computed from the definitions.
 use Rattle.std.specs.Prelude.{◌≡◌, codes, ℕ, List, [], ◌∷◌, Some, Err}
 use Rattle.si_plain.specs.declared.kind.Kind.TheVariants.{RuntimeError, RecursionError, OverflowError, TypeError, ValueError}
-use Rattle.si_semantics.specs.Tree.{FloorDivide, Equal, Name, Binary, Stmt, Evaluate, Assign, Pass, Break, Return, Global, NoClauses}
+use Rattle.si_semantics.specs.Tree.{FloorDivide, Equal, Name, Binary, Stmt, Named, Evaluate, Assign, Pass, Break, Return, Global, NoClauses}
 use Rattle.si_semantics.specs.Text.{message_of}
 use Rattle.si_semantics.specs.World.{Answer, Taken, Done, Run}
 use Rattle.si_semantics.specs.Life.{Returned, Raised, End, life_of}
@@ -15,11 +15,11 @@ use Rattle.si_semantics.specs.Worked.Scripts.{a, b, e, i, k, t, recursion_error,
 -- `e = ValueError()`, `for i in range(count): e = ValueError(e)`, and then this
 abbrev pub nested : ℕ → Stmt → List Stmt
 nested count last =
-    Assign e (new value_error []) ∷ each i (a_range (int count ∷ [])) (Assign e (new value_error (Name e ∷ [])) ∷ []) ∷ last ∷ []
+    Assign (Named e) (new value_error []) ∷ each i (a_range (int count ∷ [])) (Assign (Named e) (new value_error (Name e ∷ [])) ∷ []) ∷ last ∷ []
 
 -- `1 // 0` in a `try` whose clause binds it to `a`; it leaves the run by `KeyError`
 abbrev pub first_text : List Stmt
-first_text = try_except (divides_by_zero ∷ []) (except_as zero_division_error e (Assign a (Name e) ∷ raises key_error ∷ []) NoClauses) ∷ []
+first_text = try_except (divides_by_zero ∷ []) (except_as zero_division_error e (Assign (Named a) (Name e) ∷ raises key_error ∷ []) NoClauses) ∷ []
 
 -- that is run, and then `print(a)`, `raise`
 abbrev pub two_texts : List Answer
@@ -199,7 +199,7 @@ pub record ExceptionCases : Type 0 where
   --         print(repr(e))
   pub kind_by_another_name :
       ends
-      (Assign k lookup_error
+      (Assign (Named k) lookup_error
       ∷ try_except (raises (new index_error (str (codes "x") ∷ [])) ∷ []) (except_as (Name k) e (prints (a_repr (Name e) ∷ []) ∷ []) NoClauses)
       ∷ [])
       ≡ codes "IndexError('x')\n"
@@ -217,7 +217,7 @@ pub record ExceptionCases : Type 0 where
   --         print(e)
   pub caught_unbound_local :
       ends
-      (define f [] (prints (Name x ∷ []) ∷ Assign x (int 1) ∷ [])
+      (define f [] (prints (Name x ∷ []) ∷ Assign (Named x) (int 1) ∷ [])
       ∷ try_except (Evaluate (called f []) ∷ []) (except_as name_error e (prints (Name e ∷ []) ∷ []) NoClauses)
       ∷ [])
       ≡ codes "local x is not bound\n"
@@ -284,7 +284,7 @@ pub record ExceptionCases : Type 0 where
   --     print(e)
   pub unbound_behind_a_clause :
       ends
-      (Assign e (int 1)
+      (Assign (Named e) (int 1)
       ∷ try_except (divides_by_zero ∷ []) (except_as zero_division_error e (prints (Name e ∷ []) ∷ []) NoClauses)
       ∷ prints (Name e ∷ [])
       ∷ [])
@@ -324,7 +324,7 @@ pub record ExceptionCases : Type 0 where
   --     print(e)
   pub bound_in_the_clause :
       ends
-      (try_except (divides_by_zero ∷ []) (except_as zero_division_error e (Assign e (int 2) ∷ prints (Name e ∷ []) ∷ []) NoClauses)
+      (try_except (divides_by_zero ∷ []) (except_as zero_division_error e (Assign (Named e) (int 2) ∷ prints (Name e ∷ []) ∷ []) NoClauses)
       ∷ prints (Name e ∷ [])
       ∷ [])
       ≡ codes "2\nraised NameError: name e is not defined\n"
@@ -356,7 +356,7 @@ pub record ExceptionCases : Type 0 where
   pub global_name_unbound :
       ends
       (define f [] (Global (e ∷ []) ∷ try_except (divides_by_zero ∷ []) (except_as zero_division_error e (prints (Name e ∷ []) ∷ []) NoClauses) ∷ [])
-      ∷ Assign e (int 1)
+      ∷ Assign (Named e) (int 1)
       ∷ Evaluate (called f [])
       ∷ prints (Name e ∷ [])
       ∷ [])
@@ -372,7 +372,7 @@ pub record ExceptionCases : Type 0 where
   --         print(e)
   pub not_caught_not_bound :
       ends
-      (Assign e (int 1)
+      (Assign (Named e) (int 1)
       ∷ try_except
       (try_except (divides_by_zero ∷ []) (except_as key_error e (Pass ∷ []) NoClauses) ∷ [])
       (except_of zero_division_error (prints (Name e ∷ []) ∷ []) NoClauses)
@@ -393,7 +393,7 @@ pub record ExceptionCases : Type 0 where
       (try_except
       (try_except
       (raises (new value_error (str (codes "x") ∷ [])) ∷ [])
-      (except_as value_error e (Assign a (Name e) ∷ raises_again ∷ []) NoClauses)
+      (except_as value_error e (Assign (Named a) (Name e) ∷ raises_again ∷ []) NoClauses)
       ∷ [])
       (except_as value_error b (prints (Name b ∷ compared Equal (Name a) (Name b) ∷ []) ∷ []) NoClauses)
       ∷ [])

@@ -1,7 +1,7 @@
 -- Worked cases of finally suites: what scripts print and how they end, computed from the definitions.
 use Rattle.std.specs.Prelude.{◌≡◌, codes, List, [], ◌∷◌, true, Some, None}
 use Rattle.si_semantics.specs.Value.{Text, Truth, Function}
-use Rattle.si_semantics.specs.Tree.{Equal, Constant, Name, Stmt, Assign, Pass, If, While, Break, Continue, Return, NoStmts, NoClauses}
+use Rattle.si_semantics.specs.Tree.{Equal, Constant, Name, Stmt, Named, Assign, Pass, If, While, Break, Continue, Return, NoStmts, NoClauses}
 use Rattle.si_semantics.specs.Life.{Returned, End}
 use Rattle.si_semantics.specs.Shows.{end_of, texts_of}
 use Rattle.si_semantics.specs.Worked.Straight.{int, str, suite, compared, run_within, run_of}
@@ -86,7 +86,7 @@ pub record FinallyCases : Type 0 where
   --     print(f())
   pub finally_behind_a_return :
       ends
-      (define f [] (Assign x (int 1) ∷ ensured (Return (Some (Name x)) ∷ []) (Assign x (int 2) ∷ says (codes "a") ∷ []) ∷ [])
+      (define f [] (Assign (Named x) (int 1) ∷ ensured (Return (Some (Name x)) ∷ []) (Assign (Named x) (int 2) ∷ says (codes "a") ∷ []) ∷ [])
       ∷ prints (called f [] ∷ [])
       ∷ [])
       ≡ codes "a\n1\n"

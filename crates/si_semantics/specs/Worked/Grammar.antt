@@ -1,6 +1,6 @@
 -- Worked cases of reading: which words of a text are the longest, and which tokens and which tree texts have.
 use Rattle.std.specs.Prelude.{codes, ℕ, List, [], ◌∷◌, map}
-use Rattle.si_semantics.specs.Tree.{Subtract, Multiply, Power, Minus, Not, Less, LessEqual, Or, Expr, Name, Unary, Binary, Call, Boolean, Compare, MoreComparisons, NoComparisons, Stmt, Evaluate, Assign, Pass, If, While, Break, NoStmts}
+use Rattle.si_semantics.specs.Tree.{Subtract, Multiply, Power, Minus, Not, Less, LessEqual, Or, Expr, Name, Unary, Binary, Call, Boolean, Compare, MoreComparisons, NoComparisons, Stmt, Named, Evaluate, Assign, Pass, If, While, Break, NoStmts}
 use Rattle.si_semantics.specs.Tokens as tokens
 use Rattle.si_semantics.specs.Tokens.{Token}
 use Rattle.si_semantics.specs.Words.{IsLongest}
@@ -91,8 +91,8 @@ pub record GrammarCases : Type 0 where
   -- the last line closes two blocks
   pub two_blocks : IsReadAs (codes "while x:\n  if f:\n    break\nf(x)\n") (a_while ∷ f_of_x ∷ [])
   -- operators by their levels, and at one level from the left
-  pub levels : IsReadAs (codes "x = 1 - 2 - -3 ** 4 * 5\n") (Assign x difference ∷ [])
-  pub brackets : IsReadAs (codes "x = 1 - (2 - 3)\n") (Assign x bracketed ∷ [])
+  pub levels : IsReadAs (codes "x = 1 - 2 - -3 ** 4 * 5\n") (Assign (Named x) difference ∷ [])
+  pub brackets : IsReadAs (codes "x = 1 - (2 - 3)\n") (Assign (Named x) bracketed ∷ [])
   -- `or` behind `not`, and `not` before comparisons
   pub words_between_operands :
       IsReadAs (codes "not 1 < 2 <= 3 or x\n") (Evaluate (Boolean Or negated_chain (arguments (Name x ∷ []))) ∷ [])

@@ -1,7 +1,7 @@
 -- Worked cases of `for`, ranges, kinds and `repr`: what scripts print and how they end, computed from the definitions.
 use Rattle.std.specs.Prelude.{◌≡◌, codes, List, [], ◌∷◌, true, Some, None}
 use Rattle.si_semantics.specs.Value.{Nothing, Truth}
-use Rattle.si_semantics.specs.Tree.{Add, Subtract, Not, Less, Equal, NotEqual, Constant, Name, Unary, Binary, Stmt, Evaluate, Assign, Augment, Pass, If, While, Break, Continue, Return, Global, NoStmts, NoClauses}
+use Rattle.si_semantics.specs.Tree.{Add, Subtract, Not, Less, Equal, NotEqual, Constant, Name, Unary, Binary, Stmt, Named, Evaluate, Assign, Augment, Pass, If, While, Break, Continue, Return, Global, NoStmts, NoClauses}
 use Rattle.si_semantics.specs.Life.{Returned, End}
 use Rattle.si_semantics.specs.Shows.{end_of, texts_of}
 use Rattle.si_semantics.specs.Worked.Straight.{int, str, minus, suite, compared, run_within}
@@ -77,7 +77,7 @@ pub record ItemCases : Type 0 where
   --     print(f(), i)
   pub local_target :
       ends_within 3
-      (Assign i (str (codes "a"))
+      (Assign (Named i) (str (codes "a"))
       ∷ define f [] (each i (a_range (int 2 ∷ [])) (Pass ∷ []) ∷ Return (Some (Name i)) ∷ [])
       ∷ prints (called f [] ∷ Name i ∷ [])
       ∷ [])
@@ -97,13 +97,13 @@ pub record ItemCases : Type 0 where
   --         print(i)
   --     print(i)
   pub bound_in_the_body :
-      ends_within 3 (each i (a_range (int 2 ∷ [])) (Assign i (int 7) ∷ prints (Name i ∷ []) ∷ []) ∷ prints (Name i ∷ []) ∷ []) ≡ codes "7\n7\n7\n"
+      ends_within 3 (each i (a_range (int 2 ∷ [])) (Assign (Named i) (int 7) ∷ prints (Name i ∷ []) ∷ []) ∷ prints (Name i ∷ []) ∷ []) ≡ codes "7\n7\n7\n"
   --     a = 'ab'
   --     for c in a:
   --         a = a + c
   --     print(a)
   pub evaluated_once :
-      ends_within 3 (Assign a (str (codes "ab")) ∷ each c (Name a) (Assign a (Binary Add (Name a) (Name c)) ∷ []) ∷ prints (Name a ∷ []) ∷ [])
+      ends_within 3 (Assign (Named a) (str (codes "ab")) ∷ each c (Name a) (Assign (Named a) (Binary Add (Name a) (Name c)) ∷ []) ∷ prints (Name a ∷ []) ∷ [])
       ≡ codes "abab\n"
   --     for i in 3:
   --         print(i)
@@ -155,8 +155,8 @@ pub record ItemCases : Type 0 where
   --         print(i)
   pub else_of_a_while :
       ends_within 3
-      (Assign i (int 0)
-      ∷ While (compared Less (Name i) (int 2)) (suite (Augment i Add (int 1) ∷ Continue ∷ [])) (suite (prints (Name i ∷ []) ∷ []))
+      (Assign (Named i) (int 0)
+      ∷ While (compared Less (Name i) (int 2)) (suite (Augment (Named i) Add (int 1) ∷ Continue ∷ [])) (suite (prints (Name i ∷ []) ∷ []))
       ∷ [])
       ≡ codes "2\n"
   --     while True:
@@ -294,7 +294,7 @@ pub record ItemCases : Type 0 where
   --     print(e == e, e == ValueError('x'), e != e, e == 'x', e == ValueError)
   pub exceptions_compared :
       ends
-      (Assign e (new value_error (str (codes "x") ∷ []))
+      (Assign (Named e) (new value_error (str (codes "x") ∷ []))
       ∷ prints
       (compared Equal (Name e) (Name e)
       ∷ compared Equal (Name e) (new value_error (str (codes "x") ∷ []))
@@ -310,7 +310,7 @@ pub record ItemCases : Type 0 where
   --     print(repr(e), e, repr(IndexError(e)), KeyError(ValueError('b')))
   pub exceptions_of_exceptions :
       ends
-      (Assign e (new value_error (new key_error (str (codes "a") ∷ []) ∷ []))
+      (Assign (Named e) (new value_error (new key_error (str (codes "a") ∷ []) ∷ []))
       ∷ prints (a_repr (Name e) ∷ Name e ∷ a_repr (new index_error (Name e ∷ [])) ∷ new key_error (new value_error (str (codes "b") ∷ []) ∷ []) ∷ [])
       ∷ [])
       ≡ codes "ValueError(KeyError('a')) 'a' IndexError(ValueError(KeyError('a'))) ValueError('b')\n"
@@ -329,7 +329,7 @@ pub record ItemCases : Type 0 where
   --         print(e)
   pub another_value :
       ends
-      (Assign (codes "KeyError") value_error
+      (Assign (Named (codes "KeyError")) value_error
       ∷ try_except (raises (new value_error (str (codes "x") ∷ [])) ∷ []) (except_as key_error e (prints (Name e ∷ []) ∷ []) NoClauses)
       ∷ [])
       ≡ codes "x\n"
@@ -358,7 +358,7 @@ pub record ItemCases : Type 0 where
   --     print(f(7) + 'a', f == str, f == repr)
   pub called_by_another_name :
       ends
-      (Assign f (Name (codes "str"))
+      (Assign (Named f) (Name (codes "str"))
       ∷ prints
       (Binary Add (called f (int 7 ∷ [])) (str (codes "a"))
       ∷ compared Equal (Name f) (Name (codes "str"))

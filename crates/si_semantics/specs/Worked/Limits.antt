@@ -1,6 +1,6 @@
 -- Worked cases of limits: how deep, how long and how many, computed from the definitions.
 use Rattle.std.specs.Prelude.{◌≡◌, codes, ℕ, zero, suc, List, [], ◌∷◌, Some, None}
-use Rattle.si_semantics.specs.Tree.{Add, Less, And, Binary, Boolean, Conditional, Stmt, Assign, Pass, If, While, For, Return, Raise, Try, Finally, Stmts, NoStmts, NoClauses, MoreClauses}
+use Rattle.si_semantics.specs.Tree.{Add, Less, And, Binary, Boolean, Conditional, Stmt, Named, Assign, Pass, If, While, For, Return, Raise, Try, Finally, Stmts, NoStmts, NoClauses, MoreClauses}
 use Rattle.si_semantics.specs.Limits.{depth_of, longest_str, greatest_in, most_parameters_in, nesting_in}
 use Rattle.si_semantics.specs.Worked.Straight.{int, str, minus, arguments, suite, compared, i_name, a_text}
 use Rattle.si_semantics.specs.Worked.Functions.{f, n, x, define, prints}
@@ -23,7 +23,7 @@ chained (suc k) = suite (If i_name nothing (chained k) ∷ [])
 
 -- `x = 'abc'`
 abbrev pub set_text : Stmt
-set_text = Assign x (str (codes "abc"))
+set_text = Assign (Named x) (str (codes "abc"))
 
 -- `def f(n, x):` with these statements for its suite
 abbrev pub of_two : List Stmt → Stmt
@@ -44,7 +44,7 @@ pub record LimitCases : Type 0 where
   pub longest_in_a_finally_suite :
       greatest_in longest_str (suite (Finally nothing (MoreClauses (Some a_text) None nothing NoClauses) NoStmts (suite (set_text ∷ [])) ∷ [])) ≡ 3
   -- `for x in i:` with `def f(n, x): pass` for its else suite
-  pub parameters : most_parameters_in (suite (For x i_name nothing (suite (of_two (Pass ∷ []) ∷ [])) ∷ [])) ≡ 2
+  pub parameters : most_parameters_in (suite (For (Named x) i_name nothing (suite (of_two (Pass ∷ []) ∷ [])) ∷ [])) ≡ 2
   -- simple statements; 21 of `if` in each other; one with 30 of `elif`
   pub simple_statements : nesting_in (suite (set_text ∷ Pass ∷ [])) ≡ 0
   pub ifs_in_each_other : nesting_in (nested 21) ≡ 21

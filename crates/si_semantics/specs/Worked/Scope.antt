@@ -1,7 +1,7 @@
 -- Worked cases of scopes: which texts are well scoped, and which names are local, computed from the definitions.
 use Rattle.std.specs.Prelude.{◌≡◌, codes, List, [], ◌∷◌, Bool, true, false, Option, Some, None}
 use Rattle.si_semantics.specs.Value.{Text}
-use Rattle.si_semantics.specs.Tree.{Add, Name, Stmt, Assign, Augment, Pass, If, While, For, Break, Continue, Return, Global, Raise, Try, Finally, Stmts, NoStmts, Clauses, NoClauses, MoreClauses}
+use Rattle.si_semantics.specs.Tree.{Add, Name, Stmt, Named, Assign, Augment, Pass, If, While, For, Break, Continue, Return, Global, Raise, Try, Finally, Stmts, NoStmts, Clauses, NoClauses, MoreClauses}
 use Rattle.si_semantics.specs.Scope.{is_scoped, locals_of}
 use Rattle.si_semantics.specs.Worked.Straight.{int, i_name, suite, left_by_break}
 use Rattle.si_semantics.specs.Worked.Functions.{f, g, n, x, define, prints}
@@ -22,7 +22,7 @@ global_x = Global (x ∷ [])
 
 -- `x = 1`
 abbrev pub set_x : Stmt
-set_x = Assign x (int 1)
+set_x = Assign (Named x) (int 1)
 
 -- `pass` for a suite
 abbrev pub nothing : Stmts
@@ -34,7 +34,7 @@ looped body = While (Name n) (suite body) NoStmts
 
 -- `for x in n:` with these statements for its body, and these for its else suite
 abbrev pub each_x : (body last : List Stmt) → Stmt
-each_x body last = For x (Name n) (suite body) (suite last)
+each_x body last = For (Named x) (Name n) (suite body) (suite last)
 
 -- `except NAME:`, or `except:`, with these statements for its suite, and the clauses behind it
 abbrev pub except : Option Text → List Stmt → Clauses → Clauses
@@ -96,7 +96,7 @@ pub record ScopeCases : Type 0 where
   -- `def f(n):` `global x`, `x = 1`, `i = x`, `if i:` `n = 1`, `i += 1`: the parameter first, then what is bound and
   -- not global, once
   pub locals :
-      locals_in_f (global_x ∷ set_x ∷ Assign (codes "i") (Name x) ∷ If i_name (suite (Assign n (int 1) ∷ Augment (codes "i") Add (int 1) ∷ [])) NoStmts ∷ [])
+      locals_in_f (global_x ∷ set_x ∷ Assign (Named (codes "i")) (Name x) ∷ If i_name (suite (Assign (Named n) (int 1) ∷ Augment (Named (codes "i")) Add (int 1) ∷ [])) NoStmts ∷ [])
       ≡ n ∷ codes "i" ∷ []
   -- `while n: pass`, `else: x = 1`; `while n: global x`, `else: x = 1`; `while n: x = 1`, `else: global x`
   pub binding_in_an_else_suite : locals_in_f (While (Name n) nothing (suite (set_x ∷ [])) ∷ []) ≡ n ∷ x ∷ []
@@ -109,18 +109,18 @@ pub record ScopeCases : Type 0 where
   pub continue_in_a_for_of_a_text : scoped (each_x (Continue ∷ []) [] ∷ []) ≡ true
   pub break_in_the_else_suite_of_a_for : scoped_in_f (each_x (Pass ∷ []) (Break ∷ []) ∷ []) ≡ false
   -- `for x in n: i = 1`, `else: x += 1`: the target is local, and what the suites bind
-  pub target_is_local : locals_in_f (each_x (Assign (codes "i") (int 1) ∷ []) (Augment x Add (int 1) ∷ []) ∷ []) ≡ n ∷ x ∷ codes "i" ∷ []
+  pub target_is_local : locals_in_f (each_x (Assign (Named (codes "i")) (int 1) ∷ []) (Augment (Named x) Add (int 1) ∷ []) ∷ []) ≡ n ∷ x ∷ codes "i" ∷ []
   -- `global x`, then `for x in n: pass`; `for x in n: global x`
   pub global_target : locals_in_f (global_x ∷ each_x (Pass ∷ []) [] ∷ []) ≡ n ∷ []
   pub global_of_a_target : scoped_in_f (each_x (global_x ∷ []) [] ∷ []) ≡ false
   -- `for i in x: global x`
-  pub global_of_what_is_gone_over : scoped_in_f (For (codes "i") (Name x) (suite (global_x ∷ [])) NoStmts ∷ []) ≡ false
+  pub global_of_what_is_gone_over : scoped_in_f (For (Named (codes "i")) (Name x) (suite (global_x ∷ [])) NoStmts ∷ []) ≡ false
   -- `try: pass`, `except n as x: i = 1`, `else: g = 1`; the same with `finally: g = 1` behind an empty else suite: `as`
   -- binds, and so do the suites
   pub name_behind_as_is_local :
-      locals_in_f (Try nothing (as_x (Assign (codes "i") (int 1) ∷ [])) (suite (Assign g (int 1) ∷ [])) ∷ []) ≡ n ∷ x ∷ codes "i" ∷ g ∷ []
+      locals_in_f (Try nothing (as_x (Assign (Named (codes "i")) (int 1) ∷ [])) (suite (Assign (Named g) (int 1) ∷ [])) ∷ []) ≡ n ∷ x ∷ codes "i" ∷ g ∷ []
   pub name_bound_in_a_finally_suite :
-      locals_in_f (Finally nothing (as_x (Assign (codes "i") (int 1) ∷ [])) NoStmts (suite (Assign g (int 1) ∷ [])) ∷ []) ≡ n ∷ x ∷ codes "i" ∷ g ∷ []
+      locals_in_f (Finally nothing (as_x (Assign (Named (codes "i")) (int 1) ∷ [])) NoStmts (suite (Assign (Named g) (int 1) ∷ [])) ∷ []) ≡ n ∷ x ∷ codes "i" ∷ g ∷ []
   -- `global x`, then `try: pass`, `except n as x: pass`; `try: pass`, `except n as x: global x`
   pub global_name_behind_as : locals_in_f (global_x ∷ Try nothing (as_x (Pass ∷ [])) NoStmts ∷ []) ≡ n ∷ []
   pub global_of_a_name_behind_as : scoped_in_f (Try nothing (as_x (global_x ∷ [])) NoStmts ∷ []) ≡ false

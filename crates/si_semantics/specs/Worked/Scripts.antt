@@ -1,7 +1,7 @@
 -- Short forms of scripts, for worked cases.
 use Rattle.std.specs.Prelude.{codes, ℕ, List, [], ◌∷◌, ◌++◌, Some, None}
 use Rattle.si_semantics.specs.Value.{Text}
-use Rattle.si_semantics.specs.Tree.{FloorDivide, Expr, Name, Binary, Call, Stmt, Evaluate, For, Raise, Try, Finally, NoStmts, Clauses, NoClauses, MoreClauses}
+use Rattle.si_semantics.specs.Tree.{FloorDivide, Expr, Name, Binary, Call, Stmt, Named, Evaluate, For, Raise, Try, Finally, NoStmts, Clauses, NoClauses, MoreClauses}
 use Rattle.si_semantics.specs.Life.{Told}
 use Rattle.si_semantics.specs.Shows.{joined, texts_of}
 use Rattle.si_semantics.specs.Report.{outcome_line}
@@ -129,10 +129,10 @@ ensured body last = Finally (suite body) NoClauses NoStmts (suite last)
 
 -- `for NAME in EXPRESSION:`, and the same with an else suite
 abbrev pub each : Text → Expr → List Stmt → Stmt
-each y over body = For y over (suite body) NoStmts
+each y over body = For (Named y) over (suite body) NoStmts
 
 abbrev pub each_else : Text → Expr → (body other : List Stmt) → Stmt
-each_else y over body other = For y over (suite body) (suite other)
+each_else y over body other = For (Named y) over (suite body) (suite other)
 
 -- ---- what becomes of them
 

@@ -1,7 +1,7 @@
 -- Worked cases: what scripts print and how they end, computed from the definitions.
 use Rattle.std.specs.Prelude.{◌≡◌, codes, ℕ, pos, List, [], ◌∷◌, ◌++◌, true, false, Some, None}
 use Rattle.si_semantics.specs.Value.{Text, Nothing, Truth, Int, Str}
-use Rattle.si_semantics.specs.Tree.{Add, Subtract, Multiply, FloorDivide, Modulo, Power, BitOr, BitXor, BitAnd, ShiftLeft, ShiftRight, Minus, Invert, Not, ComparisonOperator, Less, Greater, LessEqual, Equal, NotEqual, Is, And, Or, Expr, Constant, Name, Unary, Binary, Call, Boolean, Compare, Conditional, Exprs, NoExprs, MoreExprs, NoComparisons, MoreComparisons, Stmt, Evaluate, Assign, Augment, Pass, If, While, Break, Continue, Stmts, NoStmts, MoreStmts}
+use Rattle.si_semantics.specs.Tree.{Add, Subtract, Multiply, FloorDivide, Modulo, Power, BitOr, BitXor, BitAnd, ShiftLeft, ShiftRight, Minus, Invert, Not, ComparisonOperator, Less, Greater, LessEqual, Equal, NotEqual, Is, And, Or, Expr, Constant, Name, Unary, Binary, Call, Boolean, Compare, Conditional, Exprs, NoExprs, MoreExprs, NoComparisons, MoreComparisons, Stmt, Named, Evaluate, Assign, Augment, Pass, If, While, Break, Continue, Stmts, NoStmts, MoreStmts}
 use Rattle.si_semantics.specs.Text.{repr_text}
 use Rattle.si_semantics.specs.World.{Answer, Taken, Done, Bind, Run, Closing}
 use Rattle.si_semantics.specs.Life.{Outcome, Returned, End, Told, Stops, life_of}
@@ -52,27 +52,27 @@ three_values =
 
 -- `a = 7; b = 'x'`, then `print(a * 3 - 1, b + 'y', b * 3)`
 abbrev pub three_lines : List Stmt
-three_lines = Assign (codes "a") (int 7) ∷ Assign (codes "b") (str (codes "x")) ∷ Evaluate (print three_values) ∷ []
+three_lines = Assign (Named (codes "a")) (int 7) ∷ Assign (Named (codes "b")) (str (codes "x")) ∷ Evaluate (print three_values) ∷ []
 
 -- `i = 0`, `while i < 2: i += 1`, then `print(i)`
 abbrev pub counting : List Stmt
 counting =
-    Assign (codes "i") (int 0)
-    ∷ While (compared Less i_name (int 2)) (suite (Augment (codes "i") Add (int 1) ∷ [])) NoStmts
+    Assign (Named (codes "i")) (int 0)
+    ∷ While (compared Less i_name (int 2)) (suite (Augment (Named (codes "i")) Add (int 1) ∷ [])) NoStmts
     ∷ Evaluate (print (i_name ∷ []))
     ∷ []
 
 -- `i += 1`, `if i == 2: continue`, `elif i == 4: break`, `else: pass`, then `print(i)`
 abbrev pub turn : List Stmt
 turn =
-    Augment (codes "i") Add (int 1)
+    Augment (Named (codes "i")) Add (int 1)
     ∷ If (compared Equal i_name (int 2)) (suite (Continue ∷ [])) (suite (If (compared Equal i_name (int 4)) (suite (Break ∷ [])) (suite (Pass ∷ [])) ∷ []))
     ∷ Evaluate (print (i_name ∷ []))
     ∷ []
 
 -- `i = 0`, then `while True:` with that for its suite, then `print('a')`
 abbrev pub left_by_break : List Stmt
-left_by_break = Assign (codes "i") (int 0) ∷ While (Constant (Truth true)) (suite turn) NoStmts ∷ Evaluate (print (a_text ∷ [])) ∷ []
+left_by_break = Assign (Named (codes "i")) (int 0) ∷ While (Constant (Truth true)) (suite turn) NoStmts ∷ Evaluate (print (a_text ∷ [])) ∷ []
 
 -- `while True: print('a')`
 abbrev pub endless : List Stmt
@@ -130,7 +130,7 @@ pub record Cases : Type 0 where
   -- `a = 7; b = 'x'`, then `print(a * 3 - 1, b + 'y', b * 3)`
   pub names_and_texts : report_of three_lines ≡ codes "== interpreter 0 ==\n20 xy xxx\nend: finished\n"
   -- `x = print('a')`, then `print(x, print)`
-  pub print_gives_none : report_of (Assign (codes "x") (print (a_text ∷ [])) ∷ Evaluate (print (Name (codes "x") ∷ Name (codes "print") ∷ [])) ∷ []) ≡ codes "== interpreter 0 ==\na\nNone <built-in print>\nend: finished\n"
+  pub print_gives_none : report_of (Assign (Named (codes "x")) (print (a_text ∷ [])) ∷ Evaluate (print (Name (codes "x") ∷ Name (codes "print") ∷ [])) ∷ []) ≡ codes "== interpreter 0 ==\na\nNone <built-in print>\nend: finished\n"
   -- `print('ok'); print(1 // 0)`
   pub printed_before_an_exception : report_of (Evaluate (print (str (codes "ok") ∷ [])) ∷ Evaluate (print (Binary FloorDivide (int 1) (int 0) ∷ [])) ∷ []) ≡ codes "== interpreter 0 ==\nok\nraised ZeroDivisionError: division by zero\nend: finished\n"
   -- the empty text
@@ -144,11 +144,11 @@ pub record Cases : Type 0 where
   -- `print('a') + print(2)`: the left operand comes first
   pub left_operand_first : report_of (Evaluate (Binary Add (print (a_text ∷ [])) (print (int 2 ∷ []))) ∷ []) ≡ codes "== interpreter 0 ==\na\n2\nraised TypeError: wrong type\nend: finished\n"
   -- `x = x`: the name is looked up before it is bound
-  pub right_side_first : report_of (Assign (codes "x") (Name (codes "x")) ∷ []) ≡ codes "== interpreter 0 ==\nraised NameError: name x is not defined\nend: finished\n"
+  pub right_side_first : report_of (Assign (Named (codes "x")) (Name (codes "x")) ∷ []) ≡ codes "== interpreter 0 ==\nraised NameError: name x is not defined\nend: finished\n"
   -- `print(__name__)`
   pub name_of_the_module : report_of (Evaluate (print (Name (codes "__name__") ∷ [])) ∷ []) ≡ codes "== interpreter 0 ==\n__main__\nend: finished\n"
   -- `print = 1`, then `print('a')`
-  pub global_before_built_in : report_of (Assign (codes "print") (int 1) ∷ Evaluate (print (a_text ∷ [])) ∷ []) ≡ codes "== interpreter 0 ==\nraised TypeError: not callable\nend: finished\n"
+  pub global_before_built_in : report_of (Assign (Named (codes "print")) (int 1) ∷ Evaluate (print (a_text ∷ [])) ∷ []) ≡ codes "== interpreter 0 ==\nraised TypeError: not callable\nend: finished\n"
   -- `'a' - 1`
   pub wrong_operands : report_of (Evaluate (Binary Subtract a_text (int 1)) ∷ []) ≡ codes "== interpreter 0 ==\nraised TypeError: wrong type\nend: finished\n"
   -- `print('a' * -1)`
@@ -188,7 +188,7 @@ pub record Cases : Type 0 where
   -- `print('a' if 1 else f, f if None else 2)` where f is not bound
   pub one_of_two : shown (Conditional (int 1) a_text (Name (codes "f")) ∷ Conditional (Constant Nothing) (Name (codes "f")) (int 2) ∷ []) ≡ codes "== interpreter 0 ==\na 2\nend: finished\n"
   -- `a += print('a')` where a is not bound: it is read before the right side is evaluated
-  pub read_before_the_right_side : report_of (Augment (codes "a") Add (print (a_text ∷ [])) ∷ []) ≡ codes "== interpreter 0 ==\nraised NameError: name a is not defined\nend: finished\n"
+  pub read_before_the_right_side : report_of (Augment (Named (codes "a")) Add (print (a_text ∷ [])) ∷ []) ≡ codes "== interpreter 0 ==\nraised NameError: name a is not defined\nend: finished\n"
   -- 2 ends its turn, 4 the loop
   pub broken_and_continued : report_within 4 left_by_break ≡ codes "== interpreter 0 ==\n1\n3\na\nend: finished\n"
   -- with three turns it is cut behind the third

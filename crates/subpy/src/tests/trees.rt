@@ -88,11 +88,11 @@ fn calls_take_a_trailing_comma(rt: HostRuntime) -> Result<(), Fail> {
     );
     assert_eq!(rt;
         shown(alloc, "f()(1, 2); x = 3;\n")?.as_str(),
-        "[Evaluate(Call(Call(Name(\"f\"), [], []), [Int(1), Int(2)], [])), Assign(\"x\", Int(3))]"
+        "[Evaluate(Call(Call(Name(\"f\"), [], []), [Int(1), Int(2)], [])), Assign(Named(\"x\"), Int(3))]"
     );
     assert_eq!(rt;
         shown(alloc, "(x) = 1")?.as_str(),
-        "[Assign(\"x\", Int(1))]"
+        "[Assign(Named(\"x\"), Int(1))]"
     );
     Ok(())
 }
@@ -113,7 +113,7 @@ fn a_line_ends_in_lf_cr_or_cr_lf_and_the_last_one_may_lack_it(rt: HostRuntime) -
     ] {
         assert_eq!(rt;
             shown(alloc, text)?.as_str(),
-            "[Assign(\"x\", Int(1)), Evaluate(Call(Name(\"f\"), [Name(\"x\")], []))]",
+            "[Assign(Named(\"x\"), Int(1)), Evaluate(Call(Name(\"f\"), [Name(\"x\")], []))]",
             "{text:?}"
         );
     }
@@ -325,7 +325,7 @@ fn statements_of_branches_and_loops(rt: HostRuntime) -> Result<(), Fail> {
     for (text, trees) in [
         (
             "x += 1; (y) **= 2; pass",
-            "Augment(\"x\", Add, Int(1)), Augment(\"y\", Power, Int(2)), Pass",
+            "Augment(Named(\"x\"), Add, Int(1)), Augment(Named(\"y\"), Power, Int(2)), Pass",
         ),
         (
             "if a: b",
@@ -393,19 +393,19 @@ fn loops_may_have_an_else(rt: HostRuntime) -> Result<(), Fail> {
         ),
         (
             "for x in y: z",
-            "For(\"x\", Name(\"y\"), [Evaluate(Name(\"z\"))], [])",
+            "For(Named(\"x\"), Name(\"y\"), [Evaluate(Name(\"z\"))], [])",
         ),
         (
             "for ((x)) in f(1) + 2:\n break\nelse:\n pass\n",
-            "For(\"x\", Binary(Add, Call(Name(\"f\"), [Int(1)], []), Int(2)), [Break(2)], [Pass])",
+            "For(Named(\"x\"), Binary(Add, Call(Name(\"f\"), [Int(1)], []), Int(2)), [Break(2)], [Pass])",
         ),
         (
             "for(x)in a if b else c: pass",
-            "For(\"x\", Conditional(Name(\"b\"), Name(\"a\"), Name(\"c\")), [Pass], [])",
+            "For(Named(\"x\"), Conditional(Name(\"b\"), Name(\"a\"), Name(\"c\")), [Pass], [])",
         ),
         (
             "if a:\n while b:\n  for c in d: e\n else: f\nelse: g",
-            "If(Name(\"a\"), [While(Name(\"b\"), [For(\"c\", Name(\"d\"), [Evaluate(Name(\"e\"))], [])], [Evaluate(Name(\"f\"))])], [], [Evaluate(Name(\"g\"))])",
+            "If(Name(\"a\"), [While(Name(\"b\"), [For(Named(\"c\"), Name(\"d\"), [Evaluate(Name(\"e\"))], [])], [Evaluate(Name(\"f\"))])], [], [Evaluate(Name(\"g\"))])",
         ),
     ] {
         let wanted = format!(in alloc; "[{trees}]")?;

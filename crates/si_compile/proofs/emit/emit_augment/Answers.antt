@@ -4,6 +4,6 @@ use Rattle.si_compile.proofs.emit.emit_augment.Goals as goal
 
 pub returns-clause-ok : goal.returns-clause-ok
 returns-clause-ok c =
-    on_ok_weaker c.emit_store.result
-    (λ h. Gains-append _ _ _ _ _ c.in_ok-emit_load.ensures.ok (Gains-append _ _ _ _ _ c.in_ok-emit_expr.ensures.ok (Gains-append _ _ _ _ _ c.in_ok-put.ensures.ok h)))
-    c.emit_store.ensures.ok
+    on_ok_weaker c.emit_bind.result
+    (λ h. Gains-append _ _ _ _ _ c.in_ok-emit_target.ensures.ok (Gains-append _ _ _ _ _ c.in_ok-emit_expr.ensures.ok (Gains-append _ _ _ _ _ c.in_ok-put.ensures.ok h)))
+    c.emit_bind.ensures.ok
