@@ -193,12 +193,13 @@ impl Hub {
     /// # Errors
     ///
     /// `NotNow` exactly where the action is not enabled, `NoMemory` where memory was refused. The action comes back, and
-    /// nothing has changed.
+    /// nothing has changed, but that the journal may have more room.
     pub fn act(&mut self, by: u32, action: Action) -> Result<Answer, NotActed>
         ensures ok { IfOk result (λ r. Acts self.old.past by (action_of action) (answer_of r) self.new.past) }
         ensures err { IfErr result (λ e. (e.action ≡ action) × (self.new.past ≡ self.old.past)) }
         ensures not_now { IsErrAnd result (λ e. e.why ≡ Why.NotNow) ↔ (can_act self.old.past by (action_of action) ≡ false) }
         ensures room { self.old.spare ≤ self.new.spare + 1 }
+        ensures kept { OnErr result (self.old.spare ≤ self.new.spare) }
         ensures no_memory { takes_none (action_of action) ≡ true → 0 < self.old.spare → can_act self.old.past by (action_of action) ≡ true → IsOk result }
     {
         if !self.enabled(by, &action) {

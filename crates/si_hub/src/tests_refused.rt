@@ -55,7 +55,7 @@ enum Rows {
 
 fn asked_once(alloc: Global, rows: Rows, at: u32) -> Result<(u32, Action), NoMemory> {
     match rows {
-        Rows::OfQueues => Ok((0, queue_asked(at))),
+        Rows::OfQueues => queue_asked(alloc, at),
         Rows::OfClosing => closing_asked(alloc, at),
         Rows::OfRuns => run_asked(alloc, at),
     }
@@ -63,7 +63,7 @@ fn asked_once(alloc: Global, rows: Rows, at: u32) -> Result<(u32, Action), NoMem
 
 fn answered_once(alloc: Global, rows: Rows, at: u32) -> Result<Option<Answer>, NoMemory> {
     match rows {
-        Rows::OfQueues => Ok(queue_answered(at)),
+        Rows::OfQueues => queue_answered(alloc, at),
         Rows::OfClosing => closing_answered(alloc, at),
         Rows::OfRuns => run_answered(alloc, at),
     }

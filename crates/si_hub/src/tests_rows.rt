@@ -14,26 +14,32 @@ fn running(alloc: Global, interpreters: u32) -> Result<Hub, Fail> {
     Ok(hub)
 }
 
-// What interpreter 0 asks of a queue of one item.
-pub(crate) fn queue_asked(at: u32) -> Action {
-    match at {
-        0 => Action::Size(0),
-        1 => Action::CreateQueue(1),
-        2 => Action::Get(0),
-        3 => Action::GetNow(0),
-        4 => Action::Put(0, Parcel::int(7)),
-        5 => Action::Put(0, Parcel::none()),
-        6 => Action::PutNow(0, Parcel::none()),
-        7 => Action::Size(0),
-        8 => Action::Get(0),
-        9 => Action::PutNow(0, Parcel::truth(true)),
-        10 => Action::GetNow(0),
-        _ => Action::Put(1, Parcel::int(7)),
-    }
+// The str `seven`.
+fn seven(alloc: Global) -> Result<Parcel, NoMemory> {
+    let seven = Parcel::str(text(alloc, "seven")?);
+    Ok(seven.unwrap_or(Parcel::none()))
 }
 
-pub(crate) fn queue_answered(at: u32) -> Option<Answer> {
-    match at {
+// What interpreter 0 asks of a queue of one item.
+pub(crate) fn queue_asked(alloc: Global, at: u32) -> Result<(u32, Action), NoMemory> {
+    Ok(match at {
+        0 => (0, Action::Size(0)),
+        1 => (0, Action::CreateQueue(1)),
+        2 => (0, Action::Get(0)),
+        3 => (0, Action::GetNow(0)),
+        4 => (0, Action::Put(0, seven(alloc)?)),
+        5 => (0, Action::Put(0, Parcel::none())),
+        6 => (0, Action::PutNow(0, seven(alloc)?)),
+        7 => (0, Action::Size(0)),
+        8 => (0, Action::Get(0)),
+        9 => (0, Action::PutNow(0, seven(alloc)?)),
+        10 => (0, Action::GetNow(0)),
+        _ => (0, Action::Put(1, Parcel::int(7))),
+    })
+}
+
+pub(crate) fn queue_answered(alloc: Global, at: u32) -> Result<Option<Answer>, NoMemory> {
+    Ok(match at {
         0 => None,
         1 => Some(Answer::QueueMade(0)),
         2 => None,
@@ -42,19 +48,20 @@ pub(crate) fn queue_answered(at: u32) -> Option<Answer> {
         5 => None,
         6 => Some(Answer::Full),
         7 => Some(Answer::Count(1)),
-        8 => Some(Answer::Item(Parcel::int(7))),
+        8 | 10 => Some(Answer::Item(seven(alloc)?)),
         9 => Some(Answer::Done),
-        10 => Some(Answer::Item(Parcel::truth(true))),
         _ => None,
-    }
+    })
 }
 
 #[test]
 fn queues(rt: HostRuntime) -> Result<(), Fail> {
-    let mut hub = running(rt.alloc(), 1)?;
+    let alloc = rt.alloc();
+    let mut hub = running(alloc, 1)?;
     for at in 0..12 {
-        let told = act(&mut hub, 0, queue_asked(at))?;
-        assert!(rt; same(&told, &queue_answered(at)), "at {at}");
+        let (by, action) = queue_asked(alloc, at)?;
+        let told = act(&mut hub, by, action)?;
+        assert!(rt; same(&told, &queue_answered(alloc, at)?), "at {at}");
     }
     Ok(())
 }

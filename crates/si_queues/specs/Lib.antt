@@ -1,1 +1,2 @@
 pub mod QueueCode
+pub mod Lengths

@@ -4,6 +4,7 @@ ghost use Rattle.std.specs.Prelude.{◌≡◌, ◌↔◌, ◌<◌, ◌≤◌, �
 ghost use Rattle.si_semantics.specs.Parcels.{Tree};
 ghost use Rattle.si_queues.specs.declared.refused.Refusal.{Refusal};
 ghost use Rattle.si_semantics.specs.Shared.{Queue, is_full, empty_queue, holding};
+ghost use Rattle.si_queues.specs.Lengths.{len_of};
 
 use crate::queue::Queue;
 use crate::refused::NotPut;
@@ -66,7 +67,7 @@ impl Queues {
 
     /// How many items the queue of this number holds, if it was made.
     pub fn len(&self, id: u32) -> Option<usize>
-        ensures { MatchOption result (slice_get self.now id ≡ None) (λ n. (q : Queue) → slice_get self.now id ≡ Some q → n ≡ length q.items) }
+        ensures { result ≡ len_of (slice_get self.now id) }
     {
         match self.queues.get(id as usize) {
             None => None,

@@ -53,7 +53,9 @@ held_by q s = items_of (slice_get s.queues q)
 -- first in, first out (PEP 734, "Queue Objects"): what was put into a queue is what was taken from it, and then what it holds,
 -- all in the order in which it was put
 abbrev pub FirstInFirstOut : Type 0
-FirstInFirstOut = (w : ℕ) (script : Text) (calls : List Call) (q : ℕ) → IsJournal w script calls → put_into q calls ≡ taken_from q calls ++ held_by q (state_by w script calls)
+FirstInFirstOut =
+    (w : ℕ) (script : Text) (calls : List Call) (q : ℕ)
+    → IsJournal w script calls → put_into q calls ≡ taken_from q calls ++ held_by q (state_by w script calls)
 
 -- ---- numbers
 
@@ -75,8 +77,12 @@ pub record GivenOnce : Type 0 where
   pub never_twice :
       (w : ℕ) (script : Text) (before between after : List Call) (c d : Call) (x : Number)
       → IsJournal w script (before ++ c ∷ (between ++ d ∷ after)) → given c.answer ≡ Some x → given d.answer ≢ Some x
-  pub no_first_interpreter : (w : ℕ) (script : Text) (before after : List Call) (c : Call) → IsJournal w script (before ++ c ∷ after) → given c.answer ≢ Some (OfInterpreter 0)
-  pub no_first_run : (w : ℕ) (script : Text) (before after : List Call) (c : Call) → IsJournal w script (before ++ c ∷ after) → given c.answer ≢ Some (OfRun 0)
+  pub no_first_interpreter :
+      (w : ℕ) (script : Text) (before after : List Call) (c : Call)
+      → IsJournal w script (before ++ c ∷ after) → given c.answer ≢ Some (OfInterpreter 0)
+  pub no_first_run :
+      (w : ℕ) (script : Text) (before after : List Call) (c : Call)
+      → IsJournal w script (before ++ c ∷ after) → given c.answer ≢ Some (OfRun 0)
 
 -- there are never more interpreters than the limit, closed ones counted, nor more than 1,024 queues
 pub record WithinLimits : Type 0 where
@@ -114,9 +120,12 @@ asked_in (c ∷ calls) = (c.by, c.action) ∷ asked_in calls
 pub record OneAnswer : Type 0 where
   pub answered :
       (w : ℕ) (script : Text) (calls : List Call) (i : ℕ) (a : Action)
-      → IsJournal w script calls → is_enabled (reply w (state_by w script calls) i a) ≡ true → (r : Answer) × IsJournal w script (calls ++ call i a r ∷ [])
+      → IsJournal w script calls → is_enabled (reply w (state_by w script calls) i a) ≡ true
+      → (r : Answer) × IsJournal w script (calls ++ call i a r ∷ [])
   pub only_enabled :
       (w : ℕ) (script : Text) (calls : List Call) (i : ℕ) (a : Action) (r : Answer)
       → IsJournal w script (calls ++ call i a r ∷ []) → is_enabled (reply w (state_by w script calls) i a) ≡ true
-  pub no_other : (w : ℕ) (script : Text) (calls others : List Call) → IsJournal w script calls → IsJournal w script others → asked_in calls ≡ asked_in others → calls ≡ others
+  pub no_other :
+      (w : ℕ) (script : Text) (calls others : List Call)
+      → IsJournal w script calls → IsJournal w script others → asked_in calls ≡ asked_in others → calls ≡ others
   pub fits : (w : ℕ) (script : Text) (before after : List Call) (c : Call) → IsJournal w script (before ++ c ∷ after) → fits c.answer c.action ≡ true
