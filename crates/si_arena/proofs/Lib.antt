@@ -1,0 +1,4 @@
+pub mod Rows
+pub mod Repeats
+pub mod Lying
+pub mod Growing

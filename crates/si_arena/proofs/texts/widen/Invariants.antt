@@ -1,0 +1,6 @@
+-- the characters so far stand behind those that were there
+use Rattle.std.proofs.Common.{◌≡◌, ◌++◌, take}
+use Rattle.si_arena.proofs.texts.widen.Given as goal
+
+abbrev pub invariant-loop-c : goal.invariant-loop-c
+invariant-loop-c l = l.wide.items ≡ l.initial.wide.items ++ take l.c-index l.characters

@@ -1,0 +1,6 @@
+pub mod Short
+pub mod Texts
+pub mod Causes
+pub mod Memory
+pub mod Views
+pub mod Objects

@@ -1,0 +1,246 @@
+// The arena of one interpreter.
+
+ghost use Rattle.std.specs.Prelude.{◌≡◌, ◌<◌, ◌∷◌, [], length, slice_get, slice_index, Some, IfOk, OnErr, ◌++◌};
+ghost use Rattle.si_plain.specs.Characters.{characters_of};
+ghost use Rattle.si_semantics.specs.Value as pure;
+ghost use Rattle.si_arena.specs.Texts.{text_of, repeated_text};
+ghost use Rattle.si_arena.specs.Causes.{name_at};
+ghost use Rattle.si_arena.specs.Memory.{value_of, range_of, object_of, ObjectLies, Lies, Placed, PlacesText, IsNamed, IsMade};
+ghost use Rattle.si_arena.specs.Views.{value_in};
+
+use crate::cause::{Cause, Fault};
+use crate::object::{Object, Steps};
+use crate::texts::Texts;
+use crate::value::Ref;
+use crate::view::View;
+use si_plain::{NoMemory, Text};
+use std::alloc::Global;
+use std::marker::Model;
+
+/// What the scripts of one interpreter hold: texts, names, ranges and objects.
+#[derive(Drop)]
+pub struct Arena {
+    alloc: Global,
+    texts: Texts,
+    names: Vec<Text>,
+    ranges: Vec<Steps>,
+    objects: Vec<Object>,
+}
+
+impl Model for Arena {
+    ghost use Rattle.si_arena.specs.Memory.{Memory, memory_of, grounds_of, ObjectsLie};
+
+    ghost Value = { Memory };
+
+    ghost view = { λ a. memory_of a.texts a.names.items a.ranges.items a.objects.items };
+
+    ghost invariant = { λ a. ObjectsLie (memory_of a.texts a.names.items a.ranges.items a.objects.items) a.objects.items };
+}
+
+impl Arena {
+    /// An arena that holds nothing.
+    pub fn new(alloc: Global) -> Arena
+        ensures { result ≡ record { texts = record { narrow = []; wide = [] }; names = []; ranges = []; store = [] } }
+    {
+        Arena {
+            alloc,
+            texts: Texts::new(alloc),
+            names: Vec::new(alloc),
+            ranges: Vec::new(alloc),
+            objects: Vec::new(alloc),
+        }
+    }
+
+    /// The str of these characters. `TooLong` where they are more than those of a str may be; unchanged where it is
+    /// refused. At most 14 characters below 256 take no memory.
+    pub fn place_text(&mut self, text: &str) -> Result<Ref, Fault>
+        ensures { PlacesText (characters_of text.now) self.old self.new result }
+    {
+        self.texts.place(text)
+    }
+
+    /// The characters of one str and then those of another (Python Language Reference 3.14, 6.7). Where the first ends
+    /// its row, and the second has room there, only the second is copied. `TooLong` where they are more than those of a
+    /// str may be; unchanged where it is refused.
+    pub fn join(&mut self, left: Ref, right: Ref) -> Result<Ref, Fault>
+        requires left { Lies self.old left }
+        requires right { Lies self.old right }
+        ensures { PlacesText (text_of self.old.texts left ++ text_of self.old.texts right) self.old self.new result }
+    {
+        self.texts.join(left, right)
+    }
+
+    /// A str so many times (Python Standard Library 3.14, "Built-in Types": common sequence operations); a count below 0
+    /// is as good as 0. `TooLong` where it is longer than a str may be; unchanged where it is refused.
+    pub fn repeat(&mut self, text: Ref, count: i64) -> Result<Ref, Fault>
+        requires { Lies self.old text }
+        ensures { PlacesText (repeated_text (text_of self.old.texts text) count) self.old self.new result }
+    {
+        self.texts.repeat(text, count)
+    }
+
+    /// The character of a str at an index, as a str. Takes no memory.
+    pub fn character(&self, text: Ref, index: usize) -> Ref
+        requires lies { Lies self.now text }
+        requires index { index < length (text_of self.now.texts text) }
+        ensures { Placed self.now (pure.Str (slice_index (text_of self.now.texts text) index ∷ [])) result self.now }
+    {
+        self.texts.character(text, index)
+    }
+
+    /// A range; unchanged where memory is refused.
+    pub fn place_range(&mut self, steps: Steps) -> Result<Ref, NoMemory>
+        ensures ok { IfOk result (λ r. Placed self.old (range_of steps) r self.new) }
+        ensures err { OnErr result (self.new ≡ self.old) }
+    {
+        let place = self.ranges.len();
+        self.ranges.push(steps)?;
+        Ok(Ref::Range(place))
+    }
+
+    /// A name, by which functions and causes are named, and its number; unchanged where memory is refused.
+    pub fn add_name(&mut self, name: &str) -> Result<usize, NoMemory>
+        ensures ok { IfOk result (λ number. IsNamed (characters_of name.now) self.old self.new number) }
+        ensures err { OnErr result (self.new ≡ self.old) }
+    {
+        let number = self.names.len();
+        let name = Text::from_str(self.alloc, name)?;
+        self.names.push(name)?;
+        Ok(number)
+    }
+
+    /// An exception, at the next address; unchanged where memory is refused.
+    pub fn make(&mut self, object: Object) -> Result<Ref, NoMemory>
+        requires { ObjectLies self.old object }
+        ensures ok { IfOk result (λ r. IsMade (object_of self.old object) self.old self.new r) }
+        ensures err { OnErr result (self.new ≡ self.old) }
+    {
+        let address = self.objects.len();
+        self.objects.push(object)?;
+        Ok(Ref::Object(address))
+    }
+}
+
+impl Arena {
+    ghost use Rattle.std.specs.Prelude.{◌≡◌, ◌<◌, length, slice_get, Some, IfOk};
+    ghost use Rattle.si_arena.specs.Causes.{name_at, message_of, CauseLies};
+    ghost use Rattle.si_arena.specs.Memory.{value_of, object_of, ObjectLies, Lies};
+    ghost use Rattle.si_arena.specs.Views.{value_in};
+
+    /// What a value is.
+    pub fn view<'a>(&'a self, value: &'a Ref) -> View<'a>
+        requires { Lies self.now value.now }
+        ensures { value_in result ≡ value_of self.now value.now }
+    {
+        match value {
+            Ref::Unbound => unreachable!(),
+            Ref::None => View::None,
+            Ref::Truth(truth) => View::Truth(*truth),
+            Ref::Int(n) => View::Int(*n),
+            Ref::Short(_) => View::Str(self.texts.characters(value)),
+            Ref::Narrow { .. } => View::Str(self.texts.characters(value)),
+            Ref::Wide { .. } => View::Str(self.texts.characters(value)),
+            Ref::BuiltIn(built_in) => View::BuiltIn(*built_in),
+            Ref::Function { number, name } => View::Function(*number, &self.names[*name]),
+            Ref::Range(place) => View::Range(&self.ranges[*place]),
+            Ref::Kind(kind) => View::Kind(*kind),
+            Ref::Object(address) => View::Object(*address),
+        }
+    }
+
+    /// The object at an address.
+    pub fn object(&self, address: usize) -> Object
+        requires { address < length self.now.store }
+        ensures object { slice_get self.now.store address ≡ Some (object_of self.now result) }
+        ensures lies { ObjectLies self.now result }
+    {
+        self.objects[address]
+    }
+
+    /// The name of a number.
+    pub fn name(&self, number: usize) -> &Text
+        requires { number < length self.now.names }
+        ensures { result.now ≡ name_at self.now.names number }
+    {
+        &self.names[number]
+    }
+
+    /// The message of an exception that was raised so. `AllocError` where memory is refused.
+    pub fn message(&self, cause: Cause) -> Result<Text, NoMemory>
+        requires { CauseLies self.now.names cause }
+        ensures { IfOk result (λ t. t ≡ message_of self.now.names cause) }
+    {
+        cause.message(self.alloc, self.names.as_slice())
+    }
+}
+
+#[cfg(test)]
+mod tests {
+    use super::*;
+    use crate::characters::Characters;
+    use crate::value::Ref;
+    use std::test::Fail;
+
+    #[test]
+    fn narrow_texts_are_joined(rt: HostRuntime) -> Result<(), Fail> {
+        let mut arena = Arena::new(rt.alloc());
+        let Ok(left) = arena.place_text("caf\u{e9} noir") else {
+            return Ok(());
+        };
+        let Ok(whole) = arena.join(left, left) else {
+            return Ok(());
+        };
+        let shown = match arena.view(&whole) {
+            View::Str(Characters::Narrow(shown)) => {
+                shown == b"caf\xe9 noircaf\xe9 noir".as_slice()
+            },
+            _ => false,
+        };
+        assert!(rt; shown);
+        Ok(())
+    }
+
+    #[test]
+    fn wide_texts_are_repeated(rt: HostRuntime) -> Result<(), Fail> {
+        let mut arena = Arena::new(rt.alloc());
+        let Ok(price) = arena.place_text("5\u{20ac}") else {
+            return Ok(());
+        };
+        let Ok(prices) = arena.repeat(price, 2) else {
+            return Ok(());
+        };
+        let shown = match arena.view(&prices) {
+            View::Str(Characters::Wide(shown)) => {
+                shown == ['5', '\u{20ac}', '5', '\u{20ac}'].as_slice()
+            }
+            _ => false,
+        };
+        assert!(rt; shown);
+        Ok(())
+    }
+
+    #[test]
+    fn a_text_has_an_end(rt: HostRuntime) -> Result<(), Fail> {
+        let mut arena = Arena::new(rt.alloc());
+        let Ok(text) = arena.place_text("ab") else {
+            return Ok(());
+        };
+        let refused = match arena.repeat(text, 524_289) {
+            Err(Fault::Raises(cause)) => cause == Cause::TooLong,
+            _ => false,
+        };
+        assert!(rt; refused);
+        Ok(())
+    }
+
+    #[test]
+    fn an_exception_says_why(rt: HostRuntime) -> Result<(), Fail> {
+        let mut arena = Arena::new(rt.alloc());
+        let number = arena.add_name("total")?;
+        let text = arena.message(Cause::NotDefined(number))?;
+        assert_eq!(rt; text.as_str(), "name total is not defined");
+        let _value = arena.make(Object::Caused(Cause::NotBound(number)))?;
+        assert_eq!(rt; arena.object(0).kind().name(), "UnboundLocalError");
+        Ok(())
+    }
+}

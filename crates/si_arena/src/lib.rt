@@ -1,0 +1,29 @@
+// The arena of one interpreter: what its scripts' values are, and what lies behind them.
+//
+// A value is a `Ref`, which is copied. None, truths, integers, kinds, built-ins, functions and short texts are in the
+// `Ref` itself; a longer text is a slice of a row of characters, and a range lies at a place: both stay as they are for
+// good. An exception is an object, at an address. `specs/Memory.antt` says what an arena stands for and what a `Ref`
+// that lies in it denotes; each call says what is denoted after it: what lay in the arena lies in it and denotes the
+// same after anything is placed or made (`proofs/Lying.antt` has these laws for the crates above), and a call that is
+// refused changes nothing.
+//
+// In reading order: `short` (a text in a `Ref`), `value` (`Ref`), `cause` (why an exception was raised), `texts` (the
+// two rows of characters), `view` (what a `Ref` shows) and `arena`.
+#![tactic(auto)]
+
+mod arena;
+mod cause;
+mod characters;
+mod object;
+mod short;
+mod texts;
+mod value;
+mod view;
+
+pub use arena::Arena;
+pub use cause::{Cause, Fault};
+pub use characters::Characters;
+pub use object::{Object, Steps};
+pub use short::Short;
+pub use value::{BuiltIn, Ref};
+pub use view::View;

@@ -1,0 +1,81 @@
+// Values.
+
+use crate::short::Short;
+use si_plain::Kind;
+
+/// A function that is there without a definition, or a type that is called like a function (Python Standard Library
+/// 3.14, "Built-in Functions").
+#[derive(Clone, Copy, Debug, PartialEq, Eq)]
+pub enum BuiltIn {
+    Print,
+    Range,
+    Str,
+    Repr,
+}
+
+/// Which row of the arena has room for a text: the narrow one for characters below 256 alone.
+#[derive(Clone, Copy, Debug, PartialEq, Eq)]
+pub(crate) enum Width {
+    Narrow,
+    Wide,
+}
+
+/// A value of a script (Python Language Reference 3.14, 3.2), or that there is none. Where two differ, they may yet
+/// denote one value.
+#[derive(Clone, Copy, Debug)]
+pub enum Ref {
+    /// No value: what is at a name that is not bound.
+    Unbound,
+    None,
+    /// True or False.
+    Truth(bool),
+    Int(i64),
+    /// A str of few characters, which are here.
+    Short(Short),
+    /// A str: so many characters from one on of the arena's narrow row.
+    Narrow { length: u32, start: usize },
+    /// A str: so many characters from one on of the arena's wide row.
+    Wide { length: u32, start: usize },
+    BuiltIn(BuiltIn),
+    /// A function of a script, by its number among those that its interpreter has read, and the number of its name
+    /// among the arena's names.
+    Function { number: u32, name: usize },
+    /// A range, by its place among the arena's ranges.
+    Range(usize),
+    /// A kind of exception.
+    Kind(Kind),
+    /// An object, by its address.
+    Object(usize),
+}
+
+// Values are copied, and so they are small.
+const _: () = prove!(size_of::<Ref>() <= 16);
+
+impl Width {
+    ghost use Rattle.std.specs.Prelude.{◌≡◌};
+    ghost use Rattle.si_arena.specs.Texts.{FitsIn, IsNarrow, slice_in};
+    ghost use Rattle.si_arena.specs.declared.value.Width.TheVariants as width;
+
+    // The row in which two texts have room: the narrow one where it may be.
+    pub fn of_both(left: Ref, right: Ref) -> Width
+        ensures left { FitsIn result left }
+        ensures right { FitsIn result right }
+        ensures narrow { IsNarrow left → IsNarrow right → result ≡ width.Narrow }
+    {
+        match (left, right) {
+            (Ref::Wide { .. }, _) => Width::Wide,
+            (_, Ref::Wide { .. }) => Width::Wide,
+            _ => Width::Narrow,
+        }
+    }
+
+    // So many characters of its row, from a start on.
+    pub fn slice(self, length: u32, start: usize) -> Ref
+        ensures { result ≡ slice_in self length start }
+    {
+        match self {
+            Width::Narrow => Ref::Narrow { length, start },
+            Width::Wide => Ref::Wide { length, start },
+        }
+    }
+}
