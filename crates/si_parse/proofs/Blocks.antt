@@ -6,7 +6,7 @@ use Rattle.si_semantics.specs.Value.{Text}
 use Rattle.si_semantics.specs.Tree.{Expr, Constant, Name, Unary, Binary, Call, Boolean, Compare, Conditional, Stmt, Target, Named, Evaluate, Assign, Augment, Pass, If, While, For, Break, Continue, Define, Return, Global, Raise, Try, Finally, Stmts}
 use Rattle.si_semantics.specs.Tokens as token
 use Rattle.si_semantics.specs.Grammar.{Terminal, NAME, Sign, Word, NEWLINE, INDENT, DEDENT, Many, Behind, Spells, max_depth, IsExpression, Simple, stmts_of, Lines, Block, Suite, Branch, Tested, Otherwise, elifs_of, Compound, Nests, IsTarget}
-use Rattle.si_parse.specs.Reading.{then_read, rest_of, after_colon, after_newline, after_indent, after_elif, after_in, after_except, after_finally, after_open, name_at, parameters_by, defined_by, define_by, after_else, expression_at, LineParser, is_dedent, many_by, indented_by, suite_from, suite_by, branch_by, with_branch, elif_by, is_none, no_elif, elifs_by, otherwise_from, otherwise_by, joined_if, if_by, joined_while, while_by, target_from, target_by, joined_for, for_by, Header, if_header, while_header, for_header, try_header, def_header, header_at, compound_by, with_compound, block_from, block_at}
+use Rattle.si_parse.specs.Reading.{then_read, rest_of, name_at, parameters_by, defined_by, define_by, expression_at, LineParser, is_dedent, many_by, indented_by, suite_from, suite_by, branch_by, with_branch, elif_by, is_none, no_elif, elifs_by, otherwise_from, otherwise_by, joined_if, if_by, joined_while, while_by, target_from, target_by, joined_for, for_by, Header, if_header, while_header, for_header, try_header, def_header, header_at, compound_by, with_compound, block_from, block_at, after}
 use Rattle.si_parse.proofs.Laws.{then_read_some, some_inj, spells_looser, spells_deeper, name_tighter, after_newline_some, after_colon_some, after_indent_some, after_elif_some, after_in_some, header_word, header_at_some, after_open_some, name_at_some, after_else_some}
 use Rattle.si_parse.proofs.Levels.{high, at_condition}
 use Rattle.si_parse.proofs.Lists.{chosen, added, many_sound, many_complete}
@@ -41,13 +41,13 @@ dedent_only (_ ∷ ts) h = cc
 abbrev TargetRead : List Terminal → Target × List Terminal → Type 0
 TargetRead ts x = (f : List Terminal) × (ts ≡ f ++ Word token.InWord ∷ x.1) × IsTarget x.0 f
 
-target_behind : (f ts : List Terminal) (y : Text) (o : Option (List Terminal)) → after_in ts ≡ o → Spells max_depth 18 (Name y) f → (x : Target × List Terminal) → option_map {U = Target × List Terminal} (λ rest. (Named y, rest)) o ≡ Some x → TargetRead (f ++ ts) x
+target_behind : (f ts : List Terminal) (y : Text) (o : Option (List Terminal)) → after (Word token.InWord) ts ≡ o → Spells max_depth 18 (Name y) f → (x : Target × List Terminal) → option_map {U = Target × List Terminal} (λ rest. (Named y, rest)) o ≡ Some x → TargetRead (f ++ ts) x
 target_behind f ts y None is spelled x h = cc
 target_behind f ts y (Some rest) is spelled x h =
     let P : Target × List Terminal → Type 0 = TargetRead (f ++ ts) in subst P (some_inj (Named y, rest) x h) (f, ap (λ t. f ++ t) (after_in_some ts rest is), spelled)
 
-target_is : (f ts : List Terminal) (e : Expr) → Spells max_depth 16 e f → (x : Target × List Terminal) → target_from e (after_in ts) ≡ Some x → TargetRead (f ++ ts) x
-target_is f ts (Name y) spelled x h = target_behind f ts y (after_in ts) refl (name_tighter max_depth 16 18 y f spelled) x h
+target_is : (f ts : List Terminal) (e : Expr) → Spells max_depth 16 e f → (x : Target × List Terminal) → target_from e (after (Word token.InWord) ts) ≡ Some x → TargetRead (f ++ ts) x
+target_is f ts (Name y) spelled x h = target_behind f ts y (after (Word token.InWord) ts) refl (name_tighter max_depth 16 18 y f spelled) x h
 target_is f ts (Constant v) spelled x h = cc
 target_is f ts (Unary op e) spelled x h = cc
 target_is f ts (Binary op e g) spelled x h = cc
@@ -58,7 +58,7 @@ target_is f ts (Conditional e g i) spelled x h = cc
 
 target_reads : (ts : List Terminal) (x : Target × List Terminal) → target_by ts ≡ Some x → TargetRead ts x
 target_reads ts x h =
-    let s = then_read_some (expression_at max_depth 16 ts) (λ r. target_from r.0 (after_in r.2)) x h in
+    let s = then_read_some (expression_at max_depth 16 ts) (λ r. target_from r.0 (after (Word token.InWord) r.2)) x h in
     let a = expression_sound max_depth 16 (omega arith) (high 16 (omega arith)) ts s.0 s.1 in
     let P : List Terminal → Type 0 = λ t. TargetRead t x in
     subst P (sym a.0.split) (target_is a.0.front s.0.2 s.0.0 (spells_deeper s.0.1 max_depth a.1 16 s.0.0 a.0.front a.0.spelled) x s.2)
@@ -67,7 +67,7 @@ target_complete : (x : Text) (f more : List Terminal) → IsTarget (Named x) f �
 target_complete x f more h =
     let loose = spells_looser max_depth 16 18 (Name x) f (omega arith) h in
     let c = expression_complete max_depth max_depth 16 (Name x) f (Word token.InWord ∷ more) (omega arith) (omega arith) loose (omega arith) refl in
-    ap (λ o. then_read o (λ r. target_from r.0 (after_in r.2))) c.3
+    ap (λ o. then_read o (λ r. target_from r.0 (after (Word token.InWord) r.2))) c.3
 
 -- ---- what is read is in the grammar
 
@@ -102,11 +102,11 @@ module _ (L : Lines) (line : LineParser) (sound : LineSound L line) where
       ⊎_elim (λ y. let bad : None ≡ Some r = y.1 in cc) (λ n. indented_lines ts r n.0 n.1)
       (chosen (is_dedent ts) None (then_read (many_by line is_dedent (length ts) [] ts) (λ r. Some (r.0, rest_of r.1))) (Some r) h)
 
-  suite_from_reads : (ts : List Terminal) (o : Option (List Terminal)) → after_newline ts ≡ o → (r : List Stmt × List Terminal) → suite_from line ts o ≡ Some r → SuiteRead (Sign token.Colon ∷ ts) r
+  suite_from_reads : (ts : List Terminal) (o : Option (List Terminal)) → after NEWLINE ts ≡ o → (r : List Stmt × List Terminal) → suite_from line ts o ≡ Some r → SuiteRead (Sign token.Colon ∷ ts) r
   suite_from_reads ts None is r h =
       let l = line_reads [] ts r h in (Sign token.Colon ∷ l.1, ap (λ t. Sign token.Colon ∷ t) l.3, inl (l.0, l.1, refl, ap stmts_of l.2, l.4))
   suite_from_reads ts (Some rest) is r h =
-      let x = then_read_some (after_indent rest) (indented_by line) r h in
+      let x = then_read_some (after INDENT rest) (indented_by line) r h in
       let i = indented_reads x.0 r x.2 in (
         Sign token.Colon ∷ (NEWLINE ∷ (INDENT ∷ (i.0 ++ DEDENT ∷ []))),
         ap (λ t. Sign token.Colon ∷ t)
@@ -116,9 +116,9 @@ module _ (L : Lines) (line : LineParser) (sound : LineSound L line) where
 
   suite_reads : (ts : List Terminal) (r : List Stmt × List Terminal) → suite_by line ts ≡ Some r → SuiteRead ts r
   suite_reads ts r h =
-      let x = then_read_some (after_colon ts) (λ rest. suite_from line rest (after_newline rest)) r h in
+      let x = then_read_some (after (Sign token.Colon) ts) (λ rest. suite_from line rest (after NEWLINE rest)) r h in
       let P : List Terminal → Type 0 = λ t. SuiteRead t r in
-      subst P (sym (after_colon_some ts x.0 x.1)) (suite_from_reads x.0 (after_newline x.0) refl r x.2)
+      subst P (sym (after_colon_some ts x.0 x.1)) (suite_from_reads x.0 (after NEWLINE x.0) refl r x.2)
 
   abbrev BranchRead : List Terminal → Branch × List Terminal → Type 0
   BranchRead ts r = (f : List Terminal) × (ts ≡ f ++ r.1) × Tested L r.0 f
@@ -141,7 +141,7 @@ module _ (L : Lines) (line : LineParser) (sound : LineSound L line) where
 
   elif_reads : (bs : List Branch) (ts : List Terminal) (r : List Branch × List Terminal) → elif_by line bs ts ≡ Some r → (x : Branch) × (f : List Terminal) × (r.0 ≡ and_branch bs x) × (ts ≡ f ++ r.1) × Elif x f
   elif_reads bs ts r h =
-      let x = then_read_some (after_elif ts) (λ rest. then_read (branch_by line rest) (with_branch bs)) r h in
+      let x = then_read_some (after (Word token.ElifWord) ts) (λ rest. then_read (branch_by line rest) (with_branch bs)) r h in
       let y = then_read_some (branch_by line x.0) (with_branch bs) r x.2 in
       let t = branch_reads x.0 y.0 y.1 in
       let P : List Branch × List Terminal → Type 0 = λ r. (x : Branch) × (f : List Terminal) × (r.0 ≡ and_branch bs x) × (ts ≡ f ++ r.1) × Elif x f in
@@ -155,7 +155,7 @@ module _ (L : Lines) (line : LineParser) (sound : LineSound L line) where
   abbrev LastRead : List Terminal → List Stmt × List Terminal → Type 0
   LastRead ts r = (f : List Terminal) × (ts ≡ f ++ r.1) × Otherwise L (stmts_of r.0) f
 
-  otherwise_reads : (ts : List Terminal) (o : Option (List Terminal)) → after_else ts ≡ o → (r : List Stmt × List Terminal) → otherwise_from line ts o ≡ Some r → LastRead ts r
+  otherwise_reads : (ts : List Terminal) (o : Option (List Terminal)) → after (Word token.ElseWord) ts ≡ o → (r : List Stmt × List Terminal) → otherwise_from line ts o ≡ Some r → LastRead ts r
   otherwise_reads ts None is r h = let P : List Stmt × List Terminal → Type 0 = LastRead ts in subst P (some_inj ([], ts) r h) ([], refl, inl (refl, refl))
   otherwise_reads ts (Some rest) is r h =
       let s = suite_reads rest r h in (Word token.ElseWord ∷ s.0, after_else_some ts rest is ∙ ap (λ t. Word token.ElseWord ∷ t) s.1, inr (s.0, refl, s.2))
@@ -170,7 +170,7 @@ module _ (L : Lines) (line : LineParser) (sound : LineSound L line) where
       let o = then_read_some (otherwise_by line e.0.1) (joined_if b.0.0 e.0.0) r e.2 in
       let f = branch_reads ts b.0 b.1 in
       let g = elifs_reads b.0.1 e.0 e.1 in
-      let i = otherwise_reads e.0.1 (after_else e.0.1) refl o.0 o.1 in
+      let i = otherwise_reads e.0.1 (after (Word token.ElseWord) e.0.1) refl o.0 o.1 in
       let P : Stmt × List Terminal → Type 0 = CompoundRead (Word token.IfWord ∷ ts) in
       subst P (some_inj (If b.0.0.0 b.0.0.1 (elifs_of e.0.0 (stmts_of o.0.0)), o.0.1) r o.2) (
         Word token.IfWord ∷ (f.0 ++ (g.0 ++ i.0)),
@@ -183,7 +183,7 @@ module _ (L : Lines) (line : LineParser) (sound : LineSound L line) where
       let b = then_read_some (branch_by line ts) (λ b. then_read (otherwise_by line b.1) (joined_while b.0)) r h in
       let o = then_read_some (otherwise_by line b.0.1) (joined_while b.0.0) r b.2 in
       let f = branch_reads ts b.0 b.1 in
-      let g = otherwise_reads b.0.1 (after_else b.0.1) refl o.0 o.1 in
+      let g = otherwise_reads b.0.1 (after (Word token.ElseWord) b.0.1) refl o.0 o.1 in
       let P : Stmt × List Terminal → Type 0 = CompoundRead (Word token.WhileWord ∷ ts) in
       subst P (some_inj (While b.0.0.0 b.0.0.1 (stmts_of o.0.0), o.0.1) r o.2) (
         Word token.WhileWord ∷ (f.0 ++ g.0),
@@ -198,7 +198,7 @@ module _ (L : Lines) (line : LineParser) (sound : LineSound L line) where
       let o = then_read_some (otherwise_by line b.0.1) (joined_for x.0.0 b.0.0) r b.2 in
       let e = target_reads ts x.0 x.1 in
       let f = branch_reads x.0.1 b.0 b.1 in
-      let g = otherwise_reads b.0.1 (after_else b.0.1) refl o.0 o.1 in
+      let g = otherwise_reads b.0.1 (after (Word token.ElseWord) b.0.1) refl o.0 o.1 in
       let behind : x.0.1 ≡ (f.0 ++ g.0) ++ o.0.1 = f.1 ∙ ap (λ t. f.0 ++ t) g.1 ∙ sym (append_assoc f.0 g.0 o.0.1) in
       let P : Stmt × List Terminal → Type 0 = CompoundRead (Word token.ForWord ∷ ts) in
       subst P (some_inj (For x.0.0 b.0.0.0 b.0.0.1 (stmts_of o.0.0), o.0.1) r o.2) (
@@ -209,8 +209,8 @@ module _ (L : Lines) (line : LineParser) (sound : LineSound L line) where
 
   define_reads : (ts : List Terminal) (r : Stmt × List Terminal) → define_by line ts ≡ Some r → CompoundRead (Word token.DefWord ∷ ts) r
   define_reads ts r h =
-      let n = then_read_some (name_at ts) (λ n. then_read (after_open n.1) (λ rest. then_read (parameters_by rest) (defined_by line n.0))) r h in
-      let o = then_read_some (after_open n.0.1) (λ rest. then_read (parameters_by rest) (defined_by line n.0.0)) r n.2 in
+      let n = then_read_some (name_at ts) (λ n. then_read (after (Sign token.LeftParenthesis) n.1) (λ rest. then_read (parameters_by rest) (defined_by line n.0))) r h in
+      let o = then_read_some (after (Sign token.LeftParenthesis) n.0.1) (λ rest. then_read (parameters_by rest) (defined_by line n.0.0)) r n.2 in
       let p = then_read_some (parameters_by o.0) (defined_by line n.0.0) r o.2 in
       let b = then_read_some (suite_by line p.0.1) (λ b. Some (Define n.0.0 p.0.0 (stmts_of b.0), b.1)) r p.2 in
       let g = parameters_reads o.0 p.0 p.1 in
@@ -236,7 +236,7 @@ module _ (L : Lines) (line : LineParser) (sound : LineSound L line) where
   header_reads if_header ts r h = if_reads ts r h
   header_reads while_header ts r h = while_reads ts r h
   header_reads for_header ts r h = for_reads ts r h
-  header_reads try_header ts r h = try_reads L line suite_reads (λ ts r h. otherwise_reads ts (after_else ts) refl r h) ts r h
+  header_reads try_header ts r h = try_reads L line suite_reads (λ ts r h. otherwise_reads ts (after (Word token.ElseWord) ts) refl r h) ts r h
   header_reads def_header ts r h = define_reads ts r h
 
   block_reads : (body : List Stmt) (ts : List Terminal) (o : Option (Header × List Terminal)) → header_at ts ≡ o → (r : List Stmt × List Terminal) → block_from line body ts o ≡ Some r → LineRead body ts r
@@ -255,10 +255,10 @@ block_sound (suc n) body ts r h = block_reads (Nests n) (block_at n) (block_soun
 
 -- what may stand behind a line, and how one begins
 pub record Ends (ts : List Terminal) : Type 0 where
-  pub elifs : after_elif ts ≡ None
-  pub elses : after_else ts ≡ None
-  pub excepts : after_except ts ≡ None
-  pub finals : after_finally ts ≡ None
+  pub elifs : (after (Word token.ElifWord)) ts ≡ None
+  pub elses : (after (Word token.ElseWord)) ts ≡ None
+  pub excepts : (after (Word token.ExceptWord)) ts ≡ None
+  pub finals : (after (Word token.FinallyWord)) ts ≡ None
   pub some : 0 < length ts
 
 pub record Begun (f more : List Terminal) : Type 0 where

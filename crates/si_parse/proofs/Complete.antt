@@ -10,7 +10,7 @@ use Rattle.si_semantics.specs.Tokens.{Symbol, Keyword}
 use Rattle.si_semantics.specs.Tokens as token
 use Rattle.si_semantics.specs.Text.{max_length}
 use Rattle.si_semantics.specs.Grammar.{Terminal, NAME, NUMBER, STRING, Sign, Word, level_of, left_level, right_level, symbol_of, prefix_level, prefix_of, boolean_level, item_level, word_of, comparison_of, is_identity, Many, Behind, Separated, Argument, Positional, ByName, Passes, IsPassed, exprs_of, items_of, Link, links_of, chain_of, Compares, Strings, Spells}
-use Rattle.si_parse.specs.Reading.{short, Argued, after_equal, named_at, argument_from, argument_by, called, comparison, boolean, continuation_at, strength_of, strength_at, begins_str, then_read, after_close, after_comma, after_else, after_boolean, with_word, comparison_at, identity_from, after_not, Found, Parsed, Parser, with_argument, arguments_from, arguments_by, within, call_by, is_singleton, compared_to, compared_by, other_by, conditional_by, extended_by, continued_by, closed, strings_by, bracketed_by, operand_from, operand_by, expression_at}
+use Rattle.si_parse.specs.Reading.{short, Argued, named_at, argument_from, argument_by, called, comparison, boolean, continuation_at, strength_of, strength_at, begins_str, then_read, after_boolean, with_word, comparison_at, identity_from, Found, Parsed, Parser, with_argument, arguments_from, arguments_by, within, call_by, is_singleton, compared_to, compared_by, other_by, conditional_by, extended_by, continued_by, closed, strings_by, bracketed_by, operand_from, operand_by, expression_at, after}
 use Rattle.si_parse.proofs.Laws.{some_inj, named_at_some, exprs_of_items, chain_of_links}
 use Rattle.si_parse.proofs.Levels.{right_weaker, right_bound, level_under, role_of_symbol, prefix_gap, prefix_bound, prefix_begins, conditional_gap, boolean_strength, item_bound, role_of_word, after_word, role_of_comparison, boolean_none, comparison_none}
 use Rattle.si_parse.proofs.Lists.{le_to, added, Pairwise, separated_complete}
@@ -28,7 +28,7 @@ ge_to a b h = grind (arith, nat_tests)
 within_ok : (n : ℕ) (e : Expr) (d : ℕ) (ts : List Terminal) → d ≤ n → within n e d ts ≡ Some (e, d, ts)
 within_ok n e d ts h = ap (λ b. if b then Some (e, d, ts) else None) (le_to d n h)
 
-not_closed : (m l : ℕ) (e : Expr) (f : List Terminal) → Spells m l e f → (x : List Terminal) → after_close (f ++ x) ≡ None
+not_closed : (m l : ℕ) (e : Expr) (f : List Terminal) → Spells m l e f → (x : List Terminal) → after (Sign token.RightParenthesis) (f ++ x) ≡ None
 not_closed m l e f h x = close_not (f ++ x) (expression_begins m l e f h x)
 
 -- what is spelled has a depth, so a name is spelled at that depth
@@ -103,7 +103,7 @@ module _ (n : ℕ) (sub : Parser) (complete : IsComplete n sub) where
     Read a r = (a ≡ r.0) × (r.1 ≤ m)
 
     abbrev Follows : List Terminal → Type 0
-    Follows more = (strength_at more < 1) × (begins_str more ≡ false) × (after_equal more ≡ None)
+    Follows more = (strength_at more < 1) × (begins_str more ≡ false) × (after (Sign token.Equal) more ≡ None)
 
     -- no `=` stands behind the name with which an expression begins, as this would be read up to it
     not_named : (e : Expr) (f more : List Terminal) → Spells m 1 e f → Follows more → named_at (f ++ more) ≡ None
@@ -115,7 +115,7 @@ module _ (n : ℕ) (sub : Parser) (complete : IsComplete n sub) where
             let c = complete m 1 e f more le (omega arith) h ends.0 ends.1 in
             let d = complete m 1 (Name name.0) (NAME name.0 ∷ []) (Sign token.Equal ∷ name.1) le (omega arith) (spelled_name m 1 e f h name.0) (omega arith) refl in
             let same = some_inj (e, c.0, more) (Name name.0, d.0, Sign token.Equal ∷ name.1) (sym c.3 ∙ ap (sub 1) (named_at_some (f ++ more) name is) ∙ d.3) in
-            let bad : None ≡ Some name.1 = sym ends.2 ∙ ap (λ r. after_equal r.2) same in cc
+            let bad : None ≡ Some name.1 = sym ends.2 ∙ ap (λ r. after (Sign token.Equal) r.2) same in cc
 
     argument_read : (a : Argument) (f more : List Terminal) → Passes (Spells m) a f → Follows more → (r : Argued) × (argument_by sub (f ++ more) ≡ Some r) × (r.2 ≡ more) × Read a r
     argument_read (Positional e) f more h ends =
@@ -133,9 +133,9 @@ module _ (n : ℕ) (sub : Parser) (complete : IsComplete n sub) where
           (refl, c.1),
         )
 
-    argument_open : (a : Argument) (f more : List Terminal) → Passes (Spells m) a f → after_close (f ++ more) ≡ None
+    argument_open : (a : Argument) (f more : List Terminal) → Passes (Spells m) a f → after (Sign token.RightParenthesis) (f ++ more) ≡ None
     argument_open (Positional e) f more h = not_closed m 1 e f h more
-    argument_open (ByName x e) f more h = ap (λ t. after_close (t ++ more)) h.1
+    argument_open (ByName x e) f more h = ap (λ t. after (Sign token.RightParenthesis) (t ++ more)) h.1
 
     collected : (before xs : List Argument) (d : ℕ) (rs : List Argued) → d ≤ m → Pairwise Read xs rs → (top : ℕ) × (top ≤ m) × (added with_argument (before, d) rs ≡ (before ++ xs, top))
     collected before [] d [] low h = (d, low, ap (λ l. (l, d)) (sym (append-nil before)))
@@ -152,8 +152,8 @@ module _ (n : ℕ) (sub : Parser) (complete : IsComplete n sub) where
         let ts = g ++ Sign token.RightParenthesis ∷ rest in
         let long : length ts ≡ length g + length (Sign token.RightParenthesis ∷ rest) = length-append g (Sign token.RightParenthesis ∷ rest) in
         let split : ts ≡ h.0 ++ (h.1 ++ Sign token.RightParenthesis ∷ rest) = ap (λ t. t ++ Sign token.RightParenthesis ∷ rest) h.2 ∙ append_assoc h.0 h.1 (Sign token.RightParenthesis ∷ rest) in
-        let open_yet : after_close ts ≡ None = ap after_close split ∙ argument_open x h.0 (h.1 ++ Sign token.RightParenthesis ∷ rest) h.3 in
-        let s = separated_complete with_argument (λ r. r.2) (argument_by sub) after_comma after_close token.Comma (Sign token.RightParenthesis) (Passes (Spells m)) Read Follows argument_read
+        let open_yet : (after (Sign token.RightParenthesis)) ts ≡ None = ap (after (Sign token.RightParenthesis)) split ∙ argument_open x h.0 (h.1 ++ Sign token.RightParenthesis ∷ rest) h.3 in
+        let s = separated_complete with_argument (λ r. r.2) (argument_by sub) (after (Sign token.Comma)) (after (Sign token.RightParenthesis)) token.Comma (Sign token.RightParenthesis) (Passes (Spells m)) Read Follows argument_read
         argument_open (λ ts. refl) (λ ts. refl) (λ ts. refl) (λ ts. (omega arith, refl, refl)) (λ ts. (omega arith, refl, refl))
         (length ts) ([], 0) (x ∷ xs) g rest (omega arith) (omega arith) h in
         let c = collected [] (x ∷ xs) 0 s.0 (omega arith) s.1 in
@@ -217,7 +217,7 @@ module _ (n : ℕ) (sub : Parser) (complete : IsComplete n sub) where
   positive zero l e g h = absurd h
   positive (suc m) l e g h = omega arith
 
-  identical : (m : ℕ) → m ≤ n → (op : ComparisonOperator) (e : Expr) (g more : List Terminal) (w : Keyword) → g ≡ Word w ∷ [] → (after_not (g ++ more) ≡ None → comparison_at (comparison_of op ++ (g ++ more)) ≡ Some (op, g ++ more))
+  identical : (m : ℕ) → m ≤ n → (op : ComparisonOperator) (e : Expr) (g more : List Terminal) (w : Keyword) → g ≡ Word w ∷ [] → (after (Word token.NotWord) (g ++ more) ≡ None → comparison_at (comparison_of op ++ (g ++ more)) ≡ Some (op, g ++ more))
       → Spells m 10 e g → strength_at more < 10 → begins_str more ≡ false → Operand m op e g more
   identical m le op e g more w one is h weak plain =
       let s = singleton m e w (subst (Spells m 10 e) one h) in
@@ -226,7 +226,7 @@ module _ (n : ℕ) (sub : Parser) (complete : IsComplete n sub) where
       let c = complete 1 10 e g more (omega arith) (omega arith) spelled weak plain in
       let exact : 1 ≡ c.0 = omega (arith, c.1, c.2) in
       let known : is_singleton e c.0 ≡ true = ap (is_singleton e) (sym exact) ∙ s.is in
-      (c.0, omega (arith, c.1), is (ap (λ t. after_not (t ++ more)) one ∙ s.affirms more), ap (λ r. then_read r (compared_to op)) c.3 ∙ compared_singleton op (e, c.0, more) known)
+      (c.0, omega (arith, c.1), is (ap (λ t. after (Word token.NotWord) (t ++ more)) one ∙ s.affirms more), ap (λ r. then_read r (compared_to op)) c.3 ∙ compared_singleton op (e, c.0, more) known)
 
   operand_complete : (m : ℕ) → m ≤ n → (op : ComparisonOperator) (e : Expr) (g more : List Terminal) → Spells m 10 e g → (is_identity op ≡ true → (w : Keyword) × (g ≡ Word w ∷ [])) → strength_at more < 10 → begins_str more ≡ false → Operand m op e g more
   operand_complete m le tree.Less e g more h one weak plain = ordered m le tree.Less e g more refl refl h weak plain
@@ -345,7 +345,7 @@ module _ (n : ℕ) (sub : Parser) (complete : IsComplete n sub) where
         starts (suc m) e (Sign token.LeftParenthesis ∷ (f ++ Sign token.RightParenthesis ∷ [])) rest (inner.0 + 1) (omega arith) (omega (arith, inner.1))
         (
         ap (bracketed_by sub) same
-        ∙ ap (λ r. then_read r (λ r. closed r.0 r.1 (after_close r.2))) inner.3
+        ∙ ap (λ r. then_read r (λ r. closed r.0 r.1 (after (Sign token.RightParenthesis) r.2))) inner.3
         )
 
     compare_reached : (m : ℕ) → m ≤ n → Hypothesis m → (level : ℕ) (a : Expr) (cs : tree.Comparisons) (f g rest : List Terminal) → level ≤ 8 → Spells m 10 a f → 0 < length (links_of cs) → Many (Compares (Spells m)) (links_of cs) g
@@ -401,7 +401,7 @@ module _ (n : ℕ) (sub : Parser) (complete : IsComplete n sub) where
         extends m value (Conditional test value other) f tail rest d left (omega arith) (omega (arith, left.2, mid.1, right.1)) (omega arith)
         (
         ap (conditional_by sub (n + 1) value left.0) same
-        ∙ ap (λ t. then_read t (λ t. then_read (after_else t.2) (other_by sub (n + 1) value left.0 t))) mid.3
+        ∙ ap (λ t. then_read t (λ t. then_read (after (Word token.ElseWord) t.2) (other_by sub (n + 1) value left.0 t))) mid.3
         ∙ ap (λ o. then_read o (λ o. within (n + 1) (Conditional test value o.0) (max left.0 (max mid.0 o.1) + 1) o.2)) right.3
         ∙ within_ok (n + 1) (Conditional test value other) d rest shallow
         )

@@ -6,7 +6,7 @@ use Rattle.si_semantics.specs.Value.{Text}
 use Rattle.si_semantics.specs.Tree.{Expr, Stmt, Try, Finally, Stmts, Clauses, NoClauses, MoreClauses}
 use Rattle.si_semantics.specs.Tokens as token
 use Rattle.si_semantics.specs.Grammar.{Terminal, NAME, Sign, Word, Many, Behind, max_depth, IsExpression, stmts_of, Lines, Suite, Otherwise, Clause, clauses_of, clause_list, Excepts, bare_is_last, Handlers, Compound}
-use Rattle.si_parse.specs.Reading.{then_read, is_none, after_colon, after_else, after_except, after_finally, after_as, after_catch, no_catch, name_at, expression_at, LineParser, suite_by, otherwise_from, otherwise_by, Catch, caught_from, caught_by, clause_by, with_clause, catch_by, catches_by, bare_from, bare_by, clauses_by, Handled, handled_from, handlers_by, tried, finally_from, try_by}
+use Rattle.si_parse.specs.Reading.{then_read, is_none, after_catch, no_catch, name_at, expression_at, LineParser, suite_by, otherwise_from, otherwise_by, Catch, caught_from, caught_by, clause_by, with_clause, catch_by, catches_by, bare_from, bare_by, clauses_by, Handled, handled_from, handlers_by, tried, finally_from, try_by, after}
 use Rattle.si_parse.proofs.Laws.{then_read_some, some_inj, Items, spells_deeper, name_at_some, after_as_some, after_except_some, after_finally_some}
 use Rattle.si_parse.proofs.Levels.{at_condition}
 use Rattle.si_parse.proofs.Lists.{added, many_sound, many_complete}
@@ -115,9 +115,9 @@ module _ (L : Lines) where
 
 -- ---- what is read is in the grammar
 
-catch_some : (ts : List Terminal) (o : Option (List Terminal)) → after_except ts ≡ o → (rest : List Terminal) → then_read o (λ rest. if is_none (after_colon rest) then Some rest else None) ≡ Some rest → ts ≡ Word token.ExceptWord ∷ rest
+catch_some : (ts : List Terminal) (o : Option (List Terminal)) → after (Word token.ExceptWord) ts ≡ o → (rest : List Terminal) → then_read o (λ rest. if is_none (after (Sign token.Colon) rest) then Some rest else None) ≡ Some rest → ts ≡ Word token.ExceptWord ∷ rest
 catch_some ts None is rest h = cc
-catch_some ts (Some more) is rest h = after_except_some ts more is ∙ ap (λ t. Word token.ExceptWord ∷ t) (by (is_none (after_colon more)) h)
+catch_some ts (Some more) is rest h = after_except_some ts more is ∙ ap (λ t. Word token.ExceptWord ∷ t) (by (is_none (after (Sign token.Colon) more)) h)
   where
     by : (b : Bool) → (if b then Some more else None) ≡ Some rest → more ≡ rest
     by true h = some_inj more rest h
@@ -126,7 +126,7 @@ catch_some ts (Some more) is rest h = after_except_some ts more is ∙ ap (λ t.
 abbrev CaughtRead : List Terminal → Catch × List Terminal → Type 0
 CaughtRead ts r = (f : List Terminal) × (g : List Terminal) × (ts ≡ f ++ (g ++ r.1)) × IsExpression r.0.0 f × Binds r.0.1 g
 
-caught_from_reads : (e : Expr) (f ts : List Terminal) (o : Option (List Terminal)) → after_as ts ≡ o → IsExpression e f → (r : Catch × List Terminal) → caught_from e ts o ≡ Some r → CaughtRead (f ++ ts) r
+caught_from_reads : (e : Expr) (f ts : List Terminal) (o : Option (List Terminal)) → after (Word token.AsWord) ts ≡ o → IsExpression e f → (r : Catch × List Terminal) → caught_from e ts o ≡ Some r → CaughtRead (f ++ ts) r
 caught_from_reads e f ts None is spelled r h =
     let P : Catch × List Terminal → Type 0 = CaughtRead (f ++ ts) in subst P (some_inj ((e, None), ts) r h) (f, [], refl, spelled, refl)
 caught_from_reads e f ts (Some rest) is spelled r h =
@@ -142,10 +142,10 @@ caught_from_reads e f ts (Some rest) is spelled r h =
 
 caught_reads : (ts : List Terminal) (r : Catch × List Terminal) → caught_by ts ≡ Some r → CaughtRead ts r
 caught_reads ts r h =
-    let t = then_read_some (expression_at max_depth 1 ts) (λ t. caught_from t.0 t.2 (after_as t.2)) r h in
+    let t = then_read_some (expression_at max_depth 1 ts) (λ t. caught_from t.0 t.2 (after (Word token.AsWord) t.2)) r h in
     let a = expression_sound max_depth 1 (omega arith) at_condition ts t.0 t.1 in
     let P : List Terminal → Type 0 = λ t. CaughtRead t r in
-    subst P (sym a.0.split) (caught_from_reads t.0.0 a.0.front t.0.2 (after_as t.0.2) refl (spells_deeper t.0.1 max_depth a.1 1 t.0.0 a.0.front a.0.spelled) r t.2)
+    subst P (sym a.0.split) (caught_from_reads t.0.0 a.0.front t.0.2 (after (Word token.AsWord) t.0.2) refl (spells_deeper t.0.1 max_depth a.1 1 t.0.0 a.0.front a.0.spelled) r t.2)
 
 abbrev pub SuiteSound : Lines → LineParser → Type 0
 SuiteSound L line = (ts : List Terminal) (r : List Stmt × List Terminal) → suite_by line ts ≡ Some r → (f : List Terminal) × (ts ≡ f ++ r.1) × Suite L (stmts_of r.0) f
@@ -179,7 +179,7 @@ module _ (L : Lines) (line : LineParser) (suite_reads : SuiteSound L line) where
       let y = then_read_some (clause_by line x.0) (with_clause cs) r x.2 in
       let c = clause_reads x.0 y.0 y.1 in
       let P : List Clause × List Terminal → Type 0 = CatchRead cs ts in
-      subst P (some_inj (cs ++ y.0.0 ∷ [], y.0.1) r y.2) (y.0.0, c.0, refl, catch_some ts (after_except ts) refl x.0 x.1 ∙ c.1, c.2)
+      subst P (some_inj (cs ++ y.0.0 ∷ [], y.0.1) r y.2) (y.0.0, c.0, refl, catch_some ts (after (Word token.ExceptWord) ts) refl x.0 x.1 ∙ c.1, c.2)
 
   catches_read : (ts : List Terminal) (r : List Clause × List Terminal) → catches_by line ts ≡ Some r → (f : List Terminal) × (ts ≡ f ++ r.1) × Many (Catches L) r.0 f
   catches_read ts r h =
@@ -189,7 +189,7 @@ module _ (L : Lines) (line : LineParser) (suite_reads : SuiteSound L line) where
   abbrev ClausesRead : List Terminal → List Clause × List Terminal → Type 0
   ClausesRead ts r = (f : List Terminal) × (ts ≡ f ++ r.1) × Many (Excepts L) r.0 f × (bare_is_last r.0 ≡ true)
 
-  bare_reads : (cs : List Clause) (f ts : List Terminal) → Many (Catches L) cs f → (o : Option (List Terminal)) → after_except ts ≡ o → (r : List Clause × List Terminal) → bare_from line cs ts o ≡ Some r → ClausesRead (f ++ ts) r
+  bare_reads : (cs : List Clause) (f ts : List Terminal) → Many (Catches L) cs f → (o : Option (List Terminal)) → after (Word token.ExceptWord) ts ≡ o → (r : List Clause × List Terminal) → bare_from line cs ts o ≡ Some r → ClausesRead (f ++ ts) r
   bare_reads cs f ts m None is r h =
       let P : List Clause × List Terminal → Type 0 = ClausesRead (f ++ ts) in
       subst P (some_inj (cs, ts) r h) (f, refl, uncaught L cs f m, caught_last L cs f m)
@@ -210,7 +210,7 @@ module _ (L : Lines) (line : LineParser) (suite_reads : SuiteSound L line) where
       let c = then_read_some (catches_by line ts) (λ cs. bare_by line cs.0 cs.1) r h in
       let m = catches_read ts c.0 c.1 in
       let P : List Terminal → Type 0 = λ t. ClausesRead t r in
-      subst P (sym m.1) (bare_reads c.0.0 m.0 c.0.1 m.2 (after_except c.0.1) refl r c.2)
+      subst P (sym m.1) (bare_reads c.0.0 m.0 c.0.1 m.2 (after (Word token.ExceptWord) c.0.1) refl r c.2)
 
   abbrev HandlersRead : List Terminal → Handled × List Terminal → Type 0
   HandlersRead ts r = (f : List Terminal) × (ts ≡ f ++ r.1) × Handlers L r.0.0 (stmts_of r.0.1) f
@@ -244,7 +244,7 @@ module _ (L : Lines) (line : LineParser) (suite_reads : SuiteSound L line) where
         subst P (some_inj (Try body (clauses_of (c ∷ cs)) (stmts_of last), ts) r h)
         (Word token.TryWord ∷ (f ++ g), ap (λ t. Word token.TryWord ∷ t) (sym (append_assoc f g ts)), (f, g, refl, hb, q.0, q.1))
 
-    finally_reads : (body : Stmts) (f g : List Terminal) (c : Handled × List Terminal) → Suite L body f → Handlers L c.0.0 (stmts_of c.0.1) g → (o : Option (List Terminal)) → after_finally c.1 ≡ o
+    finally_reads : (body : Stmts) (f g : List Terminal) (c : Handled × List Terminal) → Suite L body f → Handlers L c.0.0 (stmts_of c.0.1) g → (o : Option (List Terminal)) → after (Word token.FinallyWord) c.1 ≡ o
         → (r : Stmt × List Terminal) → finally_from line body c o ≡ Some r → TryRead (f ++ (g ++ c.1)) r
     finally_reads body f g c hb hc None is r h = tried_reads body f g c.1 c.0.0 c.0.1 hb hc r h
     finally_reads body f g c hb hc (Some rest) is r h =
@@ -265,38 +265,38 @@ module _ (L : Lines) (line : LineParser) (suite_reads : SuiteSound L line) where
 
     pub try_reads : (ts : List Terminal) (r : Stmt × List Terminal) → try_by line ts ≡ Some r → TryRead ts r
     try_reads ts r h =
-        let b = then_read_some (suite_by line ts) (λ b. then_read (handlers_by line b.1) (λ h. finally_from line (stmts_of b.0) h (after_finally h.1))) r h in
-        let c = then_read_some (handlers_by line b.0.1) (λ h. finally_from line (stmts_of b.0.0) h (after_finally h.1)) r b.2 in
+        let b = then_read_some (suite_by line ts) (λ b. then_read (handlers_by line b.1) (λ h. finally_from line (stmts_of b.0) h (after (Word token.FinallyWord) h.1))) r h in
+        let c = then_read_some (handlers_by line b.0.1) (λ h. finally_from line (stmts_of b.0.0) h (after (Word token.FinallyWord) h.1)) r b.2 in
         let s = suite_reads ts b.0 b.1 in
         let m = handlers_read b.0.1 c.0 c.1 in
         let P : List Terminal → Type 0 = λ t. TryRead t r in
-        subst P (sym (s.1 ∙ ap (λ t. s.0 ++ t) m.1)) (finally_reads (stmts_of b.0.0) s.0 m.0 c.0 s.2 m.2 (after_finally c.0.1) refl r c.2)
+        subst P (sym (s.1 ∙ ap (λ t. s.0 ++ t) m.1)) (finally_reads (stmts_of b.0.0) s.0 m.0 c.0 s.2 m.2 (after (Word token.FinallyWord) c.0.1) refl r c.2)
 
 -- ---- what is in the grammar is read
 
 -- a clause that begins with an expression has no colon behind its `except`
-catch_is : (rest : List Terminal) → after_colon rest ≡ None → after_catch (Word token.ExceptWord ∷ rest) ≡ Some rest
+catch_is : (rest : List Terminal) → after (Sign token.Colon) rest ≡ None → after_catch (Word token.ExceptWord ∷ rest) ≡ Some rest
 catch_is rest h = ap (λ o. if is_none o then Some rest else None) h
 
-colon_behind : (rest more : List Terminal) → after_colon rest ≡ Some more → after_catch (Word token.ExceptWord ∷ rest) ≡ None
+colon_behind : (rest more : List Terminal) → after (Sign token.Colon) rest ≡ Some more → after_catch (Word token.ExceptWord ∷ rest) ≡ None
 colon_behind rest more h = ap (λ o. if is_none o then Some rest else None) h
 
-uncatching : (ts : List Terminal) → after_except ts ≡ None → no_catch ts ≡ true
-uncatching ts h = ap (λ o. is_none (then_read o (λ rest. if is_none (after_colon rest) then Some rest else None))) h
+uncatching : (ts : List Terminal) → after (Word token.ExceptWord) ts ≡ None → no_catch ts ≡ true
+uncatching ts h = ap (λ o. is_none (then_read o (λ rest. if is_none (after (Sign token.Colon) rest) then Some rest else None))) h
 
 caught_complete : (e : Expr) (y : Option Text) (f g more k : List Terminal) → IsExpression e f → Binds y g → more ≡ Sign token.Colon ∷ k → caught_by (f ++ (g ++ more)) ≡ Some ((e, y), more)
 caught_complete e None f g more k he hy colon =
     let c = expression_complete max_depth max_depth 1 e f (Sign token.Colon ∷ k) (omega arith) (omega arith) he (omega arith) refl in
     let P : List Terminal → Type 0 = λ t. caught_by (f ++ t) ≡ Some ((e, None), t) in
-    ap (λ t. caught_by (f ++ (t ++ more))) hy ∙ subst P (sym colon) (ap (λ o. then_read o (λ t. caught_from t.0 t.2 (after_as t.2))) c.3)
+    ap (λ t. caught_by (f ++ (t ++ more))) hy ∙ subst P (sym colon) (ap (λ o. then_read o (λ t. caught_from t.0 t.2 (after (Word token.AsWord) t.2))) c.3)
 caught_complete e (Some y) f g more k he hy colon =
     let c = expression_complete max_depth max_depth 1 e f (Word token.AsWord ∷ (NAME y ∷ more)) (omega arith) (omega arith) he (omega arith) refl in
-    ap (λ t. caught_by (f ++ (t ++ more))) hy ∙ ap (λ o. then_read o (λ t. caught_from t.0 t.2 (after_as t.2))) c.3
+    ap (λ t. caught_by (f ++ (t ++ more))) hy ∙ ap (λ o. then_read o (λ t. caught_from t.0 t.2 (after (Word token.AsWord) t.2))) c.3
 
 -- what stands behind the clauses and their `else`
 pub record Closes (ts : List Terminal) : Type 0 where
-  pub no_except : after_except ts ≡ None
-  pub no_else : after_else ts ≡ None
+  pub no_except : (after (Word token.ExceptWord)) ts ≡ None
+  pub no_else : (after (Word token.ElseWord)) ts ≡ None
   pub some : 0 < length ts
 
 abbrev pub SuiteComplete : Lines → LineParser → Type 0
@@ -326,7 +326,7 @@ module _ (L : Lines) (line : LineParser) (suite_complete : SuiteComplete L line)
   parts_found cs e y b ts more p =
       let inner = p.0 ++ (p.1 ++ p.2) in
       let split : inner ++ more ≡ p.0 ++ ((p.1 ++ p.2) ++ more) = append_assoc p.0 (p.1 ++ p.2) more in
-      let open_yet : after_colon (inner ++ more) ≡ None = ap after_colon split ∙ colon_not (p.0 ++ ((p.1 ++ p.2) ++ more)) (expression_begins max_depth 1 e p.0 p.4 ((p.1 ++ p.2) ++ more)) in
+      let open_yet : (after (Sign token.Colon)) (inner ++ more) ≡ None = ap (after (Sign token.Colon)) split ∙ colon_not (p.0 ++ ((p.1 ++ p.2) ++ more)) (expression_begins max_depth 1 e p.0 p.4 ((p.1 ++ p.2) ++ more)) in
       let is = catch_is (inner ++ more) open_yet in (
         ap (λ t. catch_by line cs (t ++ more)) p.3
             ∙ ap (λ o. then_read o (λ rest. then_read (clause_by line rest) (with_clause cs))) is
@@ -345,13 +345,13 @@ module _ (L : Lines) (line : LineParser) (suite_complete : SuiteComplete L line)
       many_complete and_clause (catch_by line) no_catch (Catches L) Any (λ c f more h any. tt) next_catch (length (f ++ more)) [] cs f more fuel h tt over ∙ ap (λ b. Some (b, more)) (added_clauses [] cs)
 
   -- no clause with an expression stands where the bare one does, or behind it
-  bare_begins : (o : Option Stmts) (k more : List Terminal) → Last L o k → after_except more ≡ None → no_catch (k ++ more) ≡ true
+  bare_begins : (o : Option Stmts) (k more : List Terminal) → Last L o k → after (Word token.ExceptWord) more ≡ None → no_catch (k ++ more) ≡ true
   bare_begins None k more h not_except = ap (λ t. no_catch (t ++ more)) h ∙ uncatching more not_except
   bare_begins (Some b) k more h not_except =
       let colon = suite_front L b h.0 h.2 in
-      ap (λ t. no_catch (t ++ more)) h.1 ∙ ap is_none (colon_behind (h.0 ++ more) (colon.0 ++ more) (ap (λ t. after_colon (t ++ more)) colon.1))
+      ap (λ t. no_catch (t ++ more)) h.1 ∙ ap is_none (colon_behind (h.0 ++ more) (colon.0 ++ more) (ap (λ t. after (Sign token.Colon) (t ++ more)) colon.1))
 
-  bare_complete : (xs : List Clause) (o : Option Stmts) (k more : List Terminal) → Last L o k → after_except more ≡ None → bare_by line xs (k ++ more) ≡ Some (xs ++ bare_list L o, more)
+  bare_complete : (xs : List Clause) (o : Option Stmts) (k more : List Terminal) → Last L o k → after (Word token.ExceptWord) more ≡ None → bare_by line xs (k ++ more) ≡ Some (xs ++ bare_list L o, more)
   bare_complete xs None k more h not_except =
       ap (λ t. bare_by line xs (t ++ more)) h ∙ ap (bare_from line xs more) not_except ∙ ap (λ l. Some (l, more)) (sym (append-nil xs))
   bare_complete xs (Some b) k more h not_except =
@@ -360,7 +360,7 @@ module _ (L : Lines) (line : LineParser) (suite_complete : SuiteComplete L line)
       ∙ ap (λ o. then_read o (λ b. Some (xs ++ (None, None, stmts_of b.0) ∷ [], b.1))) s.2
       ∙ ap (λ ss. Some (xs ++ (None, None, ss) ∷ [], more)) (sym s.1)
 
-  clauses_complete : (cs : List Clause) (f more : List Terminal) → Many (Excepts L) cs f → bare_is_last cs ≡ true → 0 < length more → after_except more ≡ None → clauses_by line (f ++ more) ≡ Some (cs, more)
+  clauses_complete : (cs : List Clause) (f more : List Terminal) → Many (Excepts L) cs f → bare_is_last cs ≡ true → 0 < length more → after (Word token.ExceptWord) more ≡ None → clauses_by line (f ++ more) ≡ Some (cs, more)
   clauses_complete cs f more h last some not_except =
       let p = clauses_parted L cs f h last in
       let long : 0 < length (p.3 ++ more) = omega (arith, length-append p.3 more) in
@@ -370,14 +370,14 @@ module _ (L : Lines) (line : LineParser) (suite_complete : SuiteComplete L line)
       ∙ ap (λ l. Some (l, more)) (sym p.4)
 
   abbrev ElseFound : Stmts → List Terminal → List Terminal → Type 0
-  ElseFound last g more = (ss : List Stmt) × (last ≡ stmts_of ss) × (otherwise_by line (g ++ more) ≡ Some (ss, more)) × (after_except (g ++ more) ≡ None)
+  ElseFound last g more = (ss : List Stmt) × (last ≡ stmts_of ss) × (otherwise_by line (g ++ more) ≡ Some (ss, more)) × (after (Word token.ExceptWord) (g ++ more) ≡ None)
 
-  else_complete : (last : Stmts) (g more : List Terminal) → Otherwise L last g → after_else more ≡ None → after_except more ≡ None → ElseFound last g more
+  else_complete : (last : Stmts) (g more : List Terminal) → Otherwise L last g → after (Word token.ElseWord) more ≡ None → after (Word token.ExceptWord) more ≡ None → ElseFound last g more
   else_complete last g more (inl h) not_else not_except =
       let P : List Terminal → Type 0 = λ g. ElseFound last g more in
       subst P (sym h.1) ([], h.0, ap (otherwise_from line more) not_else, not_except)
   else_complete last g more (inr h) not_else not_except =
-      let s = suite_complete last h.0 more h.2 in (s.0, s.1, ap (λ t. otherwise_by line (t ++ more)) h.1 ∙ s.2, ap (λ t. after_except (t ++ more)) h.1)
+      let s = suite_complete last h.0 more h.2 in (s.0, s.1, ap (λ t. otherwise_by line (t ++ more)) h.1 ∙ s.2, ap (λ t. after (Word token.ExceptWord) (t ++ more)) h.1)
 
   abbrev HandlersFound : List Clause → Stmts → List Terminal → List Terminal → Type 0
   HandlersFound cs other f more = (ss : List Stmt) × (other ≡ stmts_of ss) × (handlers_by line (f ++ more) ≡ Some ((cs, ss), more))
@@ -398,15 +398,15 @@ module _ (L : Lines) (line : LineParser) (suite_complete : SuiteComplete L line)
   abbrev TryFound : Stmt → List Terminal → List Terminal → Type 0
   TryFound s f more = (g : List Terminal) × (f ≡ Word token.TryWord ∷ g) × (try_by line (g ++ more) ≡ Some (s, more))
 
-  pub try_complete : (body : Stmts) (cs : Clauses) (other : Stmts) (f more : List Terminal) → Compound L (Try body cs other) f → Closes more → after_finally more ≡ None → TryFound (Try body cs other) f more
+  pub try_complete : (body : Stmts) (cs : Clauses) (other : Stmts) (f more : List Terminal) → Compound L (Try body cs other) f → Closes more → after (Word token.FinallyWord) more ≡ None → TryFound (Try body cs other) f more
   try_complete body cs other f more h e not_finally =
       let s = suite_complete body h.0 (h.1 ++ more) h.3 in
       let m = handlers_complete (clause_list cs) other h.1 more h.5 e in (
         h.0 ++ h.1,
         h.2,
         ap (try_by line) (append_assoc h.0 h.1 more)
-            ∙ ap (λ o. then_read o (λ b. then_read (handlers_by line b.1) (λ h. finally_from line (stmts_of b.0) h (after_finally h.1)))) s.2
-            ∙ ap (λ o. then_read o (λ h. finally_from line (stmts_of s.0) h (after_finally h.1))) m.2
+            ∙ ap (λ o. then_read o (λ b. then_read (handlers_by line b.1) (λ h. finally_from line (stmts_of b.0) h (after (Word token.FinallyWord) h.1)))) s.2
+            ∙ ap (λ o. then_read o (λ h. finally_from line (stmts_of s.0) h (after (Word token.FinallyWord) h.1))) m.2
             ∙ ap (λ o. finally_from line (stmts_of s.0) ((clause_list cs, m.0), more) o) not_finally
             ∙ tried_some (stmts_of s.0) (clause_list cs) m.0 more h.4
             ∙ ap (λ b. Some (Try b (clauses_of (clause_list cs)) (stmts_of m.0), more)) (sym s.1)
@@ -423,8 +423,8 @@ module _ (L : Lines) (line : LineParser) (suite_complete : SuiteComplete L line)
         h.0 ++ (h.1 ++ tail),
         h.3,
         ap (try_by line) (append_assoc h.0 (h.1 ++ tail) more ∙ ap (λ t. h.0 ++ t) (append_assoc h.1 tail more))
-            ∙ ap (λ o. then_read o (λ b. then_read (handlers_by line b.1) (λ h. finally_from line (stmts_of b.0) h (after_finally h.1)))) s.2
-            ∙ ap (λ o. then_read o (λ h. finally_from line (stmts_of s.0) h (after_finally h.1))) m.2
+            ∙ ap (λ o. then_read o (λ b. then_read (handlers_by line b.1) (λ h. finally_from line (stmts_of b.0) h (after (Word token.FinallyWord) h.1)))) s.2
+            ∙ ap (λ o. then_read o (λ h. finally_from line (stmts_of s.0) h (after (Word token.FinallyWord) h.1))) m.2
             ∙ ap (λ o. then_read o (λ b. Some (Finally (stmts_of s.0) (clauses_of (clause_list cs)) (stmts_of m.0) (stmts_of b.0), b.1))) l.2
             ∙ ap (λ b. Some (Finally b (clauses_of (clause_list cs)) (stmts_of m.0) (stmts_of l.0), more)) (sym s.1)
             ∙ ap (λ c. Some (Finally body c (stmts_of m.0) (stmts_of l.0), more)) (list_is cs)

@@ -7,7 +7,7 @@ use Rattle.si_semantics.specs.Tree as tree
 use Rattle.si_semantics.specs.Tokens.{Symbol, Keyword}
 use Rattle.si_semantics.specs.Tokens as token
 use Rattle.si_semantics.specs.Grammar.{Terminal, NAME, Sign, Word, NEWLINE, INDENT, Language, prefix_level, prefix_of, item_level, word_of, comparison_of, Many, Behind, Following, Separated, Argument, Positional, ByName, Passes, items_of, exprs_of, Link, links_of, chain_of, Compares, Produces, Spells}
-use Rattle.si_parse.specs.Reading.{then_read, rest_of, after_close, after_equal, after_open, named_at, name_at, after_comma, after_semicolon, after_newline, after_colon, after_indent, after_elif, after_in, after_except, after_finally, after_as, after_return, after_global, after_raise, Header, if_header, while_header, for_header, try_header, def_header, header_at, after_not, after_else, after_and, after_or, after_boolean, with_word, prefix_at, comparison_symbol, identity_from, comparison_at}
+use Rattle.si_parse.specs.Reading.{then_read, rest_of, named_at, name_at, Header, if_header, while_header, for_header, try_header, def_header, header_at, after_boolean, with_word, prefix_at, comparison_symbol, identity_from, comparison_at, after}
 
 -- ---- lists of items
 
@@ -120,87 +120,87 @@ then_read_some (Some x) f y h = (x, refl, h)
 pub some_inj : {A : Type 0} (x y : A) → Some x ≡ Some y → x ≡ y
 some_inj x y h = cc
 
-pub after_close_some : (ts rest : List Terminal) → after_close ts ≡ Some rest → ts ≡ Sign token.RightParenthesis ∷ rest
+pub after_close_some : (ts rest : List Terminal) → after (Sign token.RightParenthesis) ts ≡ Some rest → ts ≡ Sign token.RightParenthesis ∷ rest
 after_close_some [] rest h = cc
 after_close_some (Sign token.RightParenthesis ∷ ts) rest h = let e : ts ≡ rest = cc in ap (λ l. Sign token.RightParenthesis ∷ l) e
 after_close_some (_ ∷ ts) rest h = cc
 
-pub after_comma_some : (ts rest : List Terminal) → after_comma ts ≡ Some rest → ts ≡ Sign token.Comma ∷ rest
+pub after_comma_some : (ts rest : List Terminal) → after (Sign token.Comma) ts ≡ Some rest → ts ≡ Sign token.Comma ∷ rest
 after_comma_some [] rest h = cc
 after_comma_some (Sign token.Comma ∷ ts) rest h = let e : ts ≡ rest = cc in ap (λ l. Sign token.Comma ∷ l) e
 after_comma_some (_ ∷ ts) rest h = cc
 
-pub after_equal_some : (ts rest : List Terminal) → after_equal ts ≡ Some rest → ts ≡ Sign token.Equal ∷ rest
+pub after_equal_some : (ts rest : List Terminal) → after (Sign token.Equal) ts ≡ Some rest → ts ≡ Sign token.Equal ∷ rest
 after_equal_some [] rest h = cc
 after_equal_some (Sign token.Equal ∷ ts) rest h = let e : ts ≡ rest = cc in ap (λ l. Sign token.Equal ∷ l) e
 after_equal_some (_ ∷ ts) rest h = cc
 
-name_from : (x : List ℕ) (ts : List Terminal) (o : Option (List Terminal)) → after_equal ts ≡ o → (n : List ℕ × List Terminal) → option_map {U = List ℕ × List Terminal} (λ rest. (x, rest)) o ≡ Some n → NAME x ∷ ts ≡ NAME n.0 ∷ (Sign token.Equal ∷ n.1)
+name_from : (x : List ℕ) (ts : List Terminal) (o : Option (List Terminal)) → after (Sign token.Equal) ts ≡ o → (n : List ℕ × List Terminal) → option_map {U = List ℕ × List Terminal} (λ rest. (x, rest)) o ≡ Some n → NAME x ∷ ts ≡ NAME n.0 ∷ (Sign token.Equal ∷ n.1)
 name_from x ts None is n h = cc
 name_from x ts (Some rest) is n h =
     ap (λ l. NAME x ∷ l) (after_equal_some ts rest is) ∙ ap (λ p. NAME p.0 ∷ (Sign token.Equal ∷ p.1)) (some_inj (x, rest) n h)
 
 pub named_at_some : (ts : List Terminal) (n : List ℕ × List Terminal) → named_at ts ≡ Some n → ts ≡ NAME n.0 ∷ (Sign token.Equal ∷ n.1)
 named_at_some [] n h = cc
-named_at_some (NAME x ∷ ts) n h = name_from x ts (after_equal ts) refl n h
+named_at_some (NAME x ∷ ts) n h = name_from x ts (after (Sign token.Equal) ts) refl n h
 named_at_some (_ ∷ ts) n h = cc
 
-pub after_semicolon_some : (ts rest : List Terminal) → after_semicolon ts ≡ Some rest → ts ≡ Sign token.Semicolon ∷ rest
+pub after_semicolon_some : (ts rest : List Terminal) → after (Sign token.Semicolon) ts ≡ Some rest → ts ≡ Sign token.Semicolon ∷ rest
 after_semicolon_some [] rest h = cc
 after_semicolon_some (Sign token.Semicolon ∷ ts) rest h = let e : ts ≡ rest = cc in ap (λ l. Sign token.Semicolon ∷ l) e
 after_semicolon_some (_ ∷ ts) rest h = cc
 
-pub after_newline_some : (ts rest : List Terminal) → after_newline ts ≡ Some rest → ts ≡ NEWLINE ∷ rest
+pub after_newline_some : (ts rest : List Terminal) → after NEWLINE ts ≡ Some rest → ts ≡ NEWLINE ∷ rest
 after_newline_some [] rest h = cc
 after_newline_some (NEWLINE ∷ ts) rest h = let e : ts ≡ rest = cc in ap (λ l. NEWLINE ∷ l) e
 after_newline_some (_ ∷ ts) rest h = cc
 
-pub after_colon_some : (ts rest : List Terminal) → after_colon ts ≡ Some rest → ts ≡ Sign token.Colon ∷ rest
+pub after_colon_some : (ts rest : List Terminal) → after (Sign token.Colon) ts ≡ Some rest → ts ≡ Sign token.Colon ∷ rest
 after_colon_some [] rest h = cc
 after_colon_some (Sign token.Colon ∷ ts) rest h = let e : ts ≡ rest = cc in ap (λ l. Sign token.Colon ∷ l) e
 after_colon_some (_ ∷ ts) rest h = cc
 
-pub after_indent_some : (ts rest : List Terminal) → after_indent ts ≡ Some rest → ts ≡ INDENT ∷ rest
+pub after_indent_some : (ts rest : List Terminal) → after INDENT ts ≡ Some rest → ts ≡ INDENT ∷ rest
 after_indent_some [] rest h = cc
 after_indent_some (INDENT ∷ ts) rest h = let e : ts ≡ rest = cc in ap (λ l. INDENT ∷ l) e
 after_indent_some (_ ∷ ts) rest h = cc
 
-pub after_elif_some : (ts rest : List Terminal) → after_elif ts ≡ Some rest → ts ≡ Word token.ElifWord ∷ rest
+pub after_elif_some : (ts rest : List Terminal) → after (Word token.ElifWord) ts ≡ Some rest → ts ≡ Word token.ElifWord ∷ rest
 after_elif_some [] rest h = cc
 after_elif_some (Word token.ElifWord ∷ ts) rest h = let e : ts ≡ rest = cc in ap (λ l. Word token.ElifWord ∷ l) e
 after_elif_some (_ ∷ ts) rest h = cc
 
-pub after_in_some : (ts rest : List Terminal) → after_in ts ≡ Some rest → ts ≡ Word token.InWord ∷ rest
+pub after_in_some : (ts rest : List Terminal) → after (Word token.InWord) ts ≡ Some rest → ts ≡ Word token.InWord ∷ rest
 after_in_some [] rest h = cc
 after_in_some (Word token.InWord ∷ ts) rest h = let e : ts ≡ rest = cc in ap (λ l. Word token.InWord ∷ l) e
 after_in_some (_ ∷ ts) rest h = cc
 
-pub after_except_some : (ts rest : List Terminal) → after_except ts ≡ Some rest → ts ≡ Word token.ExceptWord ∷ rest
+pub after_except_some : (ts rest : List Terminal) → after (Word token.ExceptWord) ts ≡ Some rest → ts ≡ Word token.ExceptWord ∷ rest
 after_except_some [] rest h = cc
 after_except_some (Word token.ExceptWord ∷ ts) rest h = let e : ts ≡ rest = cc in ap (λ l. Word token.ExceptWord ∷ l) e
 after_except_some (_ ∷ ts) rest h = cc
 
-pub after_finally_some : (ts rest : List Terminal) → after_finally ts ≡ Some rest → ts ≡ Word token.FinallyWord ∷ rest
+pub after_finally_some : (ts rest : List Terminal) → after (Word token.FinallyWord) ts ≡ Some rest → ts ≡ Word token.FinallyWord ∷ rest
 after_finally_some [] rest h = cc
 after_finally_some (Word token.FinallyWord ∷ ts) rest h = let e : ts ≡ rest = cc in ap (λ l. Word token.FinallyWord ∷ l) e
 after_finally_some (_ ∷ ts) rest h = cc
 
-pub after_as_some : (ts rest : List Terminal) → after_as ts ≡ Some rest → ts ≡ Word token.AsWord ∷ rest
+pub after_as_some : (ts rest : List Terminal) → after (Word token.AsWord) ts ≡ Some rest → ts ≡ Word token.AsWord ∷ rest
 after_as_some [] rest h = cc
 after_as_some (Word token.AsWord ∷ ts) rest h = let e : ts ≡ rest = cc in ap (λ l. Word token.AsWord ∷ l) e
 after_as_some (_ ∷ ts) rest h = cc
 
-pub after_open_some : (ts rest : List Terminal) → after_open ts ≡ Some rest → ts ≡ Sign token.LeftParenthesis ∷ rest
+pub after_open_some : (ts rest : List Terminal) → after (Sign token.LeftParenthesis) ts ≡ Some rest → ts ≡ Sign token.LeftParenthesis ∷ rest
 after_open_some [] rest h = cc
 after_open_some (Sign token.LeftParenthesis ∷ ts) rest h = let e : ts ≡ rest = cc in ap (λ l. Sign token.LeftParenthesis ∷ l) e
 after_open_some (_ ∷ ts) rest h = cc
 
-pub after_return_some : (ts rest : List Terminal) → after_return ts ≡ Some rest → ts ≡ Word token.ReturnWord ∷ rest
+pub after_return_some : (ts rest : List Terminal) → after (Word token.ReturnWord) ts ≡ Some rest → ts ≡ Word token.ReturnWord ∷ rest
 after_return_some [] rest h = cc
 after_return_some (Word token.ReturnWord ∷ ts) rest h = let e : ts ≡ rest = cc in ap (λ l. Word token.ReturnWord ∷ l) e
 after_return_some (_ ∷ ts) rest h = cc
 
-pub after_global_some : (ts rest : List Terminal) → after_global ts ≡ Some rest → ts ≡ Word token.GlobalWord ∷ rest
+pub after_global_some : (ts rest : List Terminal) → after (Word token.GlobalWord) ts ≡ Some rest → ts ≡ Word token.GlobalWord ∷ rest
 after_global_some [] rest h = cc
 after_global_some (Word token.GlobalWord ∷ ts) rest h = let e : ts ≡ rest = cc in ap (λ l. Word token.GlobalWord ∷ l) e
 after_global_some (_ ∷ ts) rest h = cc
@@ -210,27 +210,27 @@ name_at_some [] n h = cc
 name_at_some (NAME x ∷ ts) n h = ap (λ p. NAME p.0 ∷ p.1) (some_inj (x, ts) n h)
 name_at_some (_ ∷ ts) n h = cc
 
-pub after_raise_some : (ts rest : List Terminal) → after_raise ts ≡ Some rest → ts ≡ Word token.RaiseWord ∷ rest
+pub after_raise_some : (ts rest : List Terminal) → after (Word token.RaiseWord) ts ≡ Some rest → ts ≡ Word token.RaiseWord ∷ rest
 after_raise_some [] rest h = cc
 after_raise_some (Word token.RaiseWord ∷ ts) rest h = let e : ts ≡ rest = cc in ap (λ l. Word token.RaiseWord ∷ l) e
 after_raise_some (_ ∷ ts) rest h = cc
 
-pub after_not_some : (ts rest : List Terminal) → after_not ts ≡ Some rest → ts ≡ Word token.NotWord ∷ rest
+pub after_not_some : (ts rest : List Terminal) → after (Word token.NotWord) ts ≡ Some rest → ts ≡ Word token.NotWord ∷ rest
 after_not_some [] rest h = cc
 after_not_some (Word token.NotWord ∷ ts) rest h = let e : ts ≡ rest = cc in ap (λ l. Word token.NotWord ∷ l) e
 after_not_some (_ ∷ ts) rest h = cc
 
-pub after_else_some : (ts rest : List Terminal) → after_else ts ≡ Some rest → ts ≡ Word token.ElseWord ∷ rest
+pub after_else_some : (ts rest : List Terminal) → after (Word token.ElseWord) ts ≡ Some rest → ts ≡ Word token.ElseWord ∷ rest
 after_else_some [] rest h = cc
 after_else_some (Word token.ElseWord ∷ ts) rest h = let e : ts ≡ rest = cc in ap (λ l. Word token.ElseWord ∷ l) e
 after_else_some (_ ∷ ts) rest h = cc
 
-pub after_and_some : (ts rest : List Terminal) → after_and ts ≡ Some rest → ts ≡ Word token.AndWord ∷ rest
+pub after_and_some : (ts rest : List Terminal) → after (Word token.AndWord) ts ≡ Some rest → ts ≡ Word token.AndWord ∷ rest
 after_and_some [] rest h = cc
 after_and_some (Word token.AndWord ∷ ts) rest h = let e : ts ≡ rest = cc in ap (λ l. Word token.AndWord ∷ l) e
 after_and_some (_ ∷ ts) rest h = cc
 
-pub after_or_some : (ts rest : List Terminal) → after_or ts ≡ Some rest → ts ≡ Word token.OrWord ∷ rest
+pub after_or_some : (ts rest : List Terminal) → after (Word token.OrWord) ts ≡ Some rest → ts ≡ Word token.OrWord ∷ rest
 after_or_some [] rest h = cc
 after_or_some (Word token.OrWord ∷ ts) rest h = let e : ts ≡ rest = cc in ap (λ l. Word token.OrWord ∷ l) e
 after_or_some (_ ∷ ts) rest h = cc
@@ -282,7 +282,7 @@ prefix_at_some (_ ∷ ts) op h = cc
 abbrev spelled : ComparisonOperator × List Terminal → List Terminal
 spelled p = comparison_of p.0 ++ p.1
 
-identity_is : (ts : List Terminal) (r : Option (List Terminal)) → after_not ts ≡ r → (o : ComparisonOperator) (rest : List Terminal) → identity_from ts r ≡ (o, rest) → Word token.IsWord ∷ ts ≡ comparison_of o ++ rest
+identity_is : (ts : List Terminal) (r : Option (List Terminal)) → after (Word token.NotWord) ts ≡ r → (o : ComparisonOperator) (rest : List Terminal) → identity_from ts r ≡ (o, rest) → Word token.IsWord ∷ ts ≡ comparison_of o ++ rest
 identity_is ts None is o rest h = ap spelled h
 identity_is ts (Some more) is o rest h = ap (λ l. Word token.IsWord ∷ l) (after_not_some ts more is) ∙ ap spelled h
 
@@ -302,7 +302,7 @@ symbol_from s ts (Some op) is o rest h = symbol_is s op is ts ∙ ap spelled (so
 pub comparison_at_some : (ts : List Terminal) (o : ComparisonOperator) (rest : List Terminal) → comparison_at ts ≡ Some (o, rest) → ts ≡ comparison_of o ++ rest
 comparison_at_some [] o rest h = cc
 comparison_at_some (Sign s ∷ ts) o rest h = symbol_from s ts (comparison_symbol s) refl o rest h
-comparison_at_some (Word token.IsWord ∷ ts) o rest h = identity_is ts (after_not ts) refl o rest (some_inj (identity_from ts (after_not ts)) (o, rest) h)
+comparison_at_some (Word token.IsWord ∷ ts) o rest h = identity_is ts (after (Word token.NotWord) ts) refl o rest (some_inj (identity_from ts (after (Word token.NotWord) ts)) (o, rest) h)
 comparison_at_some (_ ∷ ts) o rest h = cc
 
 pub links_of_chain : (links : List Link) → links_of (chain_of links) ≡ links

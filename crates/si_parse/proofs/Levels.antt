@@ -5,7 +5,7 @@ use Rattle.si_semantics.specs.Tree as tree
 use Rattle.si_semantics.specs.Tokens.{Symbol}
 use Rattle.si_semantics.specs.Tokens as token
 use Rattle.si_semantics.specs.Grammar.{Terminal, Sign, Word, level_of, left_level, right_level, symbol_of, prefix_level, prefix_of, boolean_level, item_level, word_of, comparison_of}
-use Rattle.si_parse.specs.Reading.{Continuation, operator, arguments, comparison, boolean, condition, nothing, role_of, word_role, continuation_at, strength_of, strength_at, after_and, after_or, after_boolean, comparison_at, prefix_at}
+use Rattle.si_parse.specs.Reading.{Continuation, operator, arguments, comparison, boolean, condition, nothing, role_of, word_role, continuation_at, strength_of, strength_at, after_boolean, comparison_at, prefix_at, after}
 
 -- ---- operators between two operands
 
@@ -315,13 +315,13 @@ role_not : (s : Symbol) (op : BooleanOperator) → role_of s ≡ boolean op → 
 role_not token.Bar op h = cc
 role_not _ op h = cc
 
-or_not : (ts : List Terminal) → after_or ts ≡ None → continuation_at ts ≡ boolean tree.Or → ⊥
+or_not : (ts : List Terminal) → after (Word token.OrWord) ts ≡ None → continuation_at ts ≡ boolean tree.Or → ⊥
 or_not [] h e = cc
 or_not (Word token.OrWord ∷ ts) h e = cc
 or_not (Sign s ∷ ts) h e = role_not s tree.Or e
 or_not (_ ∷ ts) h e = cc
 
-and_not : (ts : List Terminal) → after_and ts ≡ None → continuation_at ts ≡ boolean tree.And → ⊥
+and_not : (ts : List Terminal) → after (Word token.AndWord) ts ≡ None → continuation_at ts ≡ boolean tree.And → ⊥
 and_not [] h e = cc
 and_not (Word token.AndWord ∷ ts) h e = cc
 and_not (Sign s ∷ ts) h e = role_not s tree.And e
@@ -349,12 +349,12 @@ pub boolean_ends : (op : BooleanOperator) (ts : List Terminal) → after_boolean
 boolean_ends tree.And ts h s = and_ends (continuation_at ts) (and_not ts h) s
 boolean_ends tree.Or ts h s = or_ends (continuation_at ts) (or_not ts h) s
 
-or_none : (ts : List Terminal) → strength_at ts ≤ 3 → after_or ts ≡ None
+or_none : (ts : List Terminal) → strength_at ts ≤ 3 → after (Word token.OrWord) ts ≡ None
 or_none [] h = refl
 or_none (Word token.OrWord ∷ ts) h = absurd (omega arith)
 or_none (_ ∷ ts) h = refl
 
-and_none : (ts : List Terminal) → strength_at ts ≤ 5 → after_and ts ≡ None
+and_none : (ts : List Terminal) → strength_at ts ≤ 5 → after (Word token.AndWord) ts ≡ None
 and_none [] h = refl
 and_none (Word token.AndWord ∷ ts) h = absurd (omega arith)
 and_none (_ ∷ ts) h = refl

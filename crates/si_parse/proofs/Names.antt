@@ -6,7 +6,7 @@ use Rattle.std.proofs.lemmas.Option.{cond_some}
 use Rattle.si_semantics.specs.Value.{Text}
 use Rattle.si_semantics.specs.Tokens as token
 use Rattle.si_semantics.specs.Grammar.{Terminal, NAME, Sign, Behind, Following, Separated, IsName, Names, max_parameters}
-use Rattle.si_parse.specs.Reading.{then_read, after_close, after_comma, name_at, and_name, next_name_by, no_comma, names_by, many_by, with_parameter, listed_from, listed_by, few, parameters_by}
+use Rattle.si_parse.specs.Reading.{then_read, name_at, and_name, next_name_by, no_comma, names_by, many_by, with_parameter, listed_from, listed_by, few, parameters_by, after}
 use Rattle.si_parse.proofs.Laws.{then_read_some, some_inj, after_close_some, after_comma_some, name_at_some}
 use Rattle.si_parse.proofs.Lists.{le_from, le_to, added, Pairwise, separated_sound, separated_complete, many_sound, many_complete}
 
@@ -27,7 +27,7 @@ NextRead xs ts r = (x : Text) × (f : List Terminal) × (r.0 ≡ behind_name xs 
 
 next_reads : (xs : List Text) (ts : List Terminal) (r : List Text × List Terminal) → next_name_by xs ts ≡ Some r → NextRead xs ts r
 next_reads xs ts r h =
-    let s = then_read_some (after_comma ts) (λ rest. then_read (name_at rest) (and_name xs)) r h in
+    let s = then_read_some (after (Sign token.Comma) ts) (λ rest. then_read (name_at rest) (and_name xs)) r h in
     let n = then_read_some (name_at s.0) (and_name xs) r s.2 in
     let P : List Text × List Terminal → Type 0 = NextRead xs ts in
     subst P (some_inj (xs ++ n.0.0 ∷ [], n.0.1) r n.2) (
@@ -90,11 +90,11 @@ separated_firsts (r ∷ rs) g h = (h.0, h.1, h.2, h.3, following_firsts rs h.1 h
 abbrev ListedRead : List Terminal → List Text × List Terminal → Type 0
 ListedRead ts r = (g : List Terminal) × (ts ≡ g ++ Sign token.RightParenthesis ∷ r.1) × Separated IsName token.Comma r.0 g
 
-listed_reads : (ts : List Terminal) (o : Option (List Terminal)) → after_close ts ≡ o → (r : List Text × List Terminal) → listed_from ts o ≡ Some r → ListedRead ts r
+listed_reads : (ts : List Terminal) (o : Option (List Terminal)) → after (Sign token.RightParenthesis) ts ≡ o → (r : List Text × List Terminal) → listed_from ts o ≡ Some r → ListedRead ts r
 listed_reads ts (Some rest) is r h =
     let P : List Text × List Terminal → Type 0 = ListedRead ts in subst P (some_inj ([], rest) r h) ([], after_close_some ts rest is, refl)
 listed_reads ts None is r h =
-    let s = separated_sound with_parameter (λ r. r.1) name_at after_comma after_close token.Comma (Sign token.RightParenthesis) Spelled name_reads after_comma_some after_close_some (length ts) [] ts r h in
+    let s = separated_sound with_parameter (λ r. r.1) name_at (after (Sign token.Comma)) (after (Sign token.RightParenthesis)) token.Comma (Sign token.RightParenthesis) Spelled name_reads after_comma_some after_close_some (length ts) [] ts r h in
     let all : r.0 ≡ map first s.0 = s.2 ∙ added_parameters [] s.0 in
     let P : List Text → Type 0 = λ l. Separated IsName token.Comma l s.1 in
     (s.1, s.4, subst P (sym all) (separated_firsts s.0 s.1 s.5))
@@ -106,7 +106,7 @@ pub parameters_reads : (ts : List Terminal) (r : List Text × List Terminal) →
 parameters_reads ts r h =
     let s = then_read_some (listed_by ts) few r h in
     let c = cond_some (nat_le (length s.0.0) max_parameters) s.0 r s.2 in
-    let g = listed_reads ts (after_close ts) refl s.0 s.1 in
+    let g = listed_reads ts (after (Sign token.RightParenthesis) ts) refl s.0 s.1 in
     let P : List Text × List Terminal → Type 0 = ParametersRead ts in
     subst P c.1 (g.0, g.1, g.2, le_from (length s.0.0) max_parameters c.0)
 
@@ -122,8 +122,8 @@ collected before (x ∷ xs) (r ∷ rs) h = collected (before ++ r.0 ∷ []) xs r
 name_read : (x : Text) (f more : List Terminal) → IsName x f → Any more → (r : Text × List Terminal) × (name_at (f ++ more) ≡ Some r) × (r.1 ≡ more) × Read x r
 name_read x f more h any = ((x, more), ap (λ t. name_at (t ++ more)) h, refl, refl)
 
-name_open : (x : Text) (f more : List Terminal) → IsName x f → after_close (f ++ more) ≡ None
-name_open x f more h = ap (λ t. after_close (t ++ more)) h
+name_open : (x : Text) (f more : List Terminal) → IsName x f → after (Sign token.RightParenthesis) (f ++ more) ≡ None
+name_open x f more h = ap (λ t. after (Sign token.RightParenthesis) (t ++ more)) h
 
 listed_complete : (xs : List Text) (g more : List Terminal) → Separated IsName token.Comma xs g → listed_by (g ++ Sign token.RightParenthesis ∷ more) ≡ Some (xs, more)
 listed_complete [] g more h = ap (λ t. listed_by (t ++ Sign token.RightParenthesis ∷ more)) h
@@ -131,8 +131,8 @@ listed_complete (x ∷ xs) g more h =
     let ts = g ++ Sign token.RightParenthesis ∷ more in
     let long : length ts ≡ length g + length (Sign token.RightParenthesis ∷ more) = length-append g (Sign token.RightParenthesis ∷ more) in
     let split : ts ≡ h.0 ++ (h.1 ++ Sign token.RightParenthesis ∷ more) = ap (λ t. t ++ Sign token.RightParenthesis ∷ more) h.2 ∙ append_assoc h.0 h.1 (Sign token.RightParenthesis ∷ more) in
-    let open_yet : after_close ts ≡ None = ap after_close split ∙ name_open x h.0 (h.1 ++ Sign token.RightParenthesis ∷ more) h.3 in
-    let s = separated_complete with_parameter (λ r. r.1) name_at after_comma after_close token.Comma (Sign token.RightParenthesis) IsName Read Any name_read name_open (λ ts. refl) (λ ts. refl) (λ ts. refl) (λ ts. tt) (λ ts. tt)
+    let open_yet : (after (Sign token.RightParenthesis)) ts ≡ None = ap (after (Sign token.RightParenthesis)) split ∙ name_open x h.0 (h.1 ++ Sign token.RightParenthesis ∷ more) h.3 in
+    let s = separated_complete with_parameter (λ r. r.1) name_at (after (Sign token.Comma)) (after (Sign token.RightParenthesis)) token.Comma (Sign token.RightParenthesis) IsName Read Any name_read name_open (λ ts. refl) (λ ts. refl) (λ ts. refl) (λ ts. tt) (λ ts. tt)
     (length ts) [] (x ∷ xs) g more (omega arith) (omega arith) h in
     ap (listed_from ts) open_yet ∙ s.2 ∙ ap (λ l. Some (l, more)) (collected [] (x ∷ xs) s.0 s.1)
 

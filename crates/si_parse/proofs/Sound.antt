@@ -11,7 +11,7 @@ use Rattle.si_semantics.specs.Tokens.{Symbol, Keyword}
 use Rattle.si_semantics.specs.Tokens as token
 use Rattle.si_semantics.specs.Text.{max_length}
 use Rattle.si_semantics.specs.Grammar.{Terminal, NAME, NUMBER, STRING, Sign, Word, value_of_int, value_of_str, level_of, left_level, right_level, symbol_of, prefix_level, prefix_of, boolean_level, item_level, word_of, comparison_of, is_identity, Many, Behind, Following, Separated, Argument, Positional, ByName, Passes, IsPassed, exprs_of, items_of, links_of, chain_of, Compares, Strings, Spells}
-use Rattle.si_parse.specs.Reading.{short, str_by, Argued, named_at, argument_from, argument_by, passed_from, called, boolean, continuation_at, strength_of, strength_at, then_read, rest_of, after_close, after_comma, after_else, after_boolean, with_word, comparison_at, Found, Parser, with_argument, arguments_from, arguments_by, within, binary_by, call_by, operands_by, boolean_by, is_singleton, compared_to, compared_by, links_by, compare_by, other_by, conditional_by, extended_by, identity_from, after_not, continued_by, closed, strings_by, prefix_at, unary_by, bracketed_by, atom_by, operand_from, operand_by, expression_at}
+use Rattle.si_parse.specs.Reading.{short, str_by, Argued, named_at, argument_from, argument_by, passed_from, called, boolean, continuation_at, strength_of, strength_at, then_read, rest_of, after_boolean, with_word, comparison_at, Found, Parser, with_argument, arguments_from, arguments_by, within, binary_by, call_by, operands_by, boolean_by, is_singleton, compared_to, compared_by, links_by, compare_by, other_by, conditional_by, extended_by, identity_from, continued_by, closed, strings_by, prefix_at, unary_by, bracketed_by, atom_by, operand_from, operand_by, expression_at, after}
 use Rattle.si_parse.proofs.Laws.{named_at_some, passes_mono, spells_looser, spells_deeper, node, bracketed, then_read_some, some_inj, after_close_some, after_comma_some, after_else_some, with_word_some, with_word_none, prefix_at_some, comparison_at_some, links_of_chain, items_of_exprs, separated_mono, many_mono, compares_mono, behind_mono}
 use Rattle.si_parse.proofs.Levels.{strength_at_most, right_stops, right_bound, level_reached, Apart, high, at_condition, at_disjunction, at_comparison, right_apart, level_apart, prefix_apart, prefix_bound, boolean_apart, item_apart, item_bound, condition_up, condition_down, comparison_up, comparison_down, boolean_up, boolean_down, boolean_strength, after_word, boolean_ends, comparison_ends}
 use Rattle.si_parse.proofs.Lists.{le_from, chosen, added, separated_sound}
@@ -136,12 +136,12 @@ module _ (n : ℕ) (sub : Parser) (sound : IsSound n sub) where
   abbrev ArgumentsRead : List Terminal → (List Argument × ℕ) × List Terminal → Type 0
   ArgumentsRead ts r = (g : List Terminal) × (ts ≡ g ++ Sign token.RightParenthesis ∷ r.1) × (r.0.1 ≤ n) × Separated (Passes (Spells r.0.1)) token.Comma r.0.0 g
 
-  arguments_read : (ts : List Terminal) (o : Option (List Terminal)) → after_close ts ≡ o → (r : (List Argument × ℕ) × List Terminal) → arguments_from sub ts o ≡ Some r → ArgumentsRead ts r
+  arguments_read : (ts : List Terminal) (o : Option (List Terminal)) → after (Sign token.RightParenthesis) ts ≡ o → (r : (List Argument × ℕ) × List Terminal) → arguments_from sub ts o ≡ Some r → ArgumentsRead ts r
   arguments_read ts (Some rest) is r h =
       let P : (List Argument × ℕ) × List Terminal → Type 0 = ArgumentsRead ts in
       subst P (some_inj (([], 0), rest) r h) ([], after_close_some ts rest is, omega arith, refl)
   arguments_read ts None is r h =
-      let s = separated_sound with_argument (λ r. r.2) (argument_by sub) after_comma after_close token.Comma (Sign token.RightParenthesis) ArgumentRead argument_sound after_comma_some after_close_some (length ts) ([], 0) ts r h in
+      let s = separated_sound with_argument (λ r. r.2) (argument_by sub) (after (Sign token.Comma)) (after (Sign token.RightParenthesis)) token.Comma (Sign token.RightParenthesis) ArgumentRead argument_sound after_comma_some after_close_some (length ts) ([], 0) ts r h in
       let all : r.0 ≡ (map first s.0, deepest 0 s.0) = s.2 ∙ added_is [] 0 s.0 in
       let P : List Argument × ℕ → Type 0 = λ c. (c.1 ≤ n) × Separated (Passes (Spells c.1)) token.Comma c.0 s.1 in
       let p = subst P (sym all) (separated_low 0 s.0 s.1 (omega arith) s.5, separated_trees 0 (deepest 0 s.0) s.0 s.1 (omega arith) s.5) in
@@ -156,7 +156,7 @@ module _ (n : ℕ) (sub : Parser) (sound : IsSound n sub) where
     atom : (f ts : List Terminal) (e : Expr) → Spells (0 + 1) 18 e f → Begins (f ++ ts) (e, 1, ts)
     atom f ts e h = (record { front = f; split = refl; level = 18; spelled = h; continues = strength_at_most ts; enough = omega arith; apart = high 18 (omega arith) }, omega arith)
 
-    closed_reads : (e : Expr) (d : ℕ) (inner ts : List Terminal) (o : Option (List Terminal)) → after_close ts ≡ o → (r : Found) → Spells d 1 e inner → d ≤ n → closed e d o ≡ Some r → Begins (Sign token.LeftParenthesis ∷ (inner ++ ts)) r
+    closed_reads : (e : Expr) (d : ℕ) (inner ts : List Terminal) (o : Option (List Terminal)) → after (Sign token.RightParenthesis) ts ≡ o → (r : Found) → Spells d 1 e inner → d ≤ n → closed e d o ≡ Some r → Begins (Sign token.LeftParenthesis ∷ (inner ++ ts)) r
     closed_reads e d inner ts None is r spelled le h = cc
     closed_reads e d inner ts (Some rest) is r spelled le h =
         let same = some_inj (e, d + 1, rest) r h in
@@ -176,10 +176,10 @@ module _ (n : ℕ) (sub : Parser) (sound : IsSound n sub) where
 
     bracketed_reads : (ts : List Terminal) (r : Found) → bracketed_by sub ts ≡ Some r → Begins (Sign token.LeftParenthesis ∷ ts) r
     bracketed_reads ts r h =
-        let s = then_read_some (sub 1 ts) (λ r. closed r.0 r.1 (after_close r.2)) r h in
+        let s = then_read_some (sub 1 ts) (λ r. closed r.0 r.1 (after (Sign token.RightParenthesis) r.2)) r h in
         let a = sound 1 (omega arith) at_condition ts s.0 s.1 in
         let P : List Terminal → Type 0 = λ l. Begins (Sign token.LeftParenthesis ∷ l) r in
-        subst P (sym a.0.split) (closed_reads s.0.0 s.0.1 a.0.front s.0.2 (after_close s.0.2) refl r a.0.spelled a.1 s.2)
+        subst P (sym a.0.split) (closed_reads s.0.0 s.0.1 a.0.front s.0.2 (after (Sign token.RightParenthesis) s.0.2) refl r a.0.spelled a.1 s.2)
 
     unary_read : (op : UnaryOperator) (ts : List Terminal) (r : Found) → l ≤ prefix_level op → then_read (sub (prefix_level op) ts) (λ r. Some (Unary op r.0, r.1 + 1, r.2)) ≡ Some r → Begins (prefix_of op ∷ ts) r
     unary_read op ts r under h =
@@ -284,7 +284,7 @@ module _ (n : ℕ) (sub : Parser) (sound : IsSound n sub) where
       → call_by sub (n + 1) e d ts ≡ Some r → Longer front (Sign token.LeftParenthesis ∷ ts) l r
   call_reads front e d m ts l r spelled low le h =
       let s = then_read_some (arguments_by sub ts) (called (n + 1) e d) r h in
-      let a = arguments_read ts (after_close ts) refl s.0 s.1 in
+      let a = arguments_read ts (after (Sign token.RightParenthesis) ts) refl s.0 s.1 in
       let p = then_read_some (passed_from ([], []) s.0.0.0) (λ p. within (n + 1) (Call e (exprs_of p.0) p.1) (max d s.0.0.1 + 1) s.0.1) r s.2 in
       let w = within_some (n + 1) (Call e (exprs_of p.0.0) p.0.1) (max d s.0.0.1 + 1) s.0.1 r p.2 in
       let P : Found → Type 0 = Longer front (Sign token.LeftParenthesis ∷ ts) l in
@@ -408,9 +408,9 @@ module _ (n : ℕ) (sub : Parser) (sound : IsSound n sub) where
 
   conditional_reads : (front : List Terminal) (e : Expr) (d m : ℕ) (ts : List Terminal) (l : ℕ) (r : Found) → Spells d m e front → 3 ≤ m → l ≤ 1 → conditional_by sub (n + 1) e d ts ≡ Some r → Longer front (Word token.IfWord ∷ ts) l r
   conditional_reads front e d m ts l r spelled low high h =
-      let t = then_read_some (sub 3 ts) (λ t. then_read (after_else t.2) (other_by sub (n + 1) e d t)) r h in
+      let t = then_read_some (sub 3 ts) (λ t. then_read (after (Word token.ElseWord) t.2) (other_by sub (n + 1) e d t)) r h in
       let a = sound 3 (omega arith) at_disjunction ts t.0 t.1 in
-      let u = then_read_some (after_else t.0.2) (other_by sub (n + 1) e d t.0) r t.2 in
+      let u = then_read_some (after (Word token.ElseWord) t.0.2) (other_by sub (n + 1) e d t.0) r t.2 in
       let v = then_read_some (sub 1 u.0) (λ o. within (n + 1) (Conditional t.0.0 e o.0) (max d (max t.0.1 o.1) + 1) o.2) r u.2 in
       let b = sound 1 (omega arith) at_condition u.0 v.0 v.1 in
       let w = within_some (n + 1) (Conditional t.0.0 e v.0.0) (max d (max t.0.1 v.0.1) + 1) v.0.2 r v.2 in
@@ -461,7 +461,7 @@ module _ (n : ℕ) (sub : Parser) (sound : IsSound n sub) where
   extended_reads front e d m (Sign token.NotEqual ∷ ts) l r spelled low high le am al h =
       compare_reads front e d m (Sign token.NotEqual ∷ ts) l r spelled (comparison_up m am low) (comparison_down l al high) (tree.NotEqual, ts) refl (omega arith) h
   extended_reads front e d m (Word token.IsWord ∷ ts) l r spelled low high le am al h =
-      compare_reads front e d m (Word token.IsWord ∷ ts) l r spelled (comparison_up m am low) (comparison_down l al high) (identity_from ts (after_not ts)) refl (omega arith) h
+      compare_reads front e d m (Word token.IsWord ∷ ts) l r spelled (comparison_up m am low) (comparison_down l al high) (identity_from ts (after (Word token.NotWord) ts)) refl (omega arith) h
   extended_reads front e d m (Word token.AndWord ∷ ts) l r spelled low high le am al h = word_reads tree.And front e d m ts l r spelled low high am al refl h
   extended_reads front e d m (Word token.OrWord ∷ ts) l r spelled low high le am al h = word_reads tree.Or front e d m ts l r spelled low high am al refl h
   extended_reads front e d m (Word token.IfWord ∷ ts) l r spelled low high le am al h = conditional_reads front e d m ts l r spelled (condition_up m am low) (condition_down l al high) h

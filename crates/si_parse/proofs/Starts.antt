@@ -6,7 +6,7 @@ use Rattle.si_semantics.specs.Tree as tree
 use Rattle.si_semantics.specs.Tokens.{Keyword}
 use Rattle.si_semantics.specs.Tokens as token
 use Rattle.si_semantics.specs.Grammar.{Terminal, NAME, NUMBER, STRING, Sign, Word, NEWLINE, DEDENT, symbol_of, left_level, prefix_of, prefix_level, item_level, truth_word, Strings, Spells}
-use Rattle.si_parse.specs.Reading.{after_close, after_colon, after_newline, after_not, header_at, after_return, after_global, after_raise, ends_small, after_elif, after_else, after_except, after_finally, is_dedent, word_statement, is_singleton}
+use Rattle.si_parse.specs.Reading.{header_at, ends_small, is_dedent, word_statement, is_singleton, after}
 
 -- whether an operand may begin so
 abbrev pub is_operand : Terminal → Bool
@@ -75,12 +75,12 @@ some_terminals m l e (t ∷ f) h = omega arith
 
 -- ---- what does not begin an expression
 
-pub close_not : (ts : List Terminal) → begins ts ≡ true → after_close ts ≡ None
+pub close_not : (ts : List Terminal) → begins ts ≡ true → after (Sign token.RightParenthesis) ts ≡ None
 close_not [] h = cc
 close_not (Sign token.RightParenthesis ∷ ts) h = cc
 close_not (_ ∷ ts) h = refl
 
-pub colon_not : (ts : List Terminal) → begins ts ≡ true → after_colon ts ≡ None
+pub colon_not : (ts : List Terminal) → begins ts ≡ true → after (Sign token.Colon) ts ≡ None
 colon_not [] h = cc
 colon_not (Sign token.Colon ∷ ts) h = cc
 colon_not (_ ∷ ts) h = refl
@@ -92,17 +92,17 @@ word_not (Word token.BreakWord ∷ ts) h = cc
 word_not (Word token.ContinueWord ∷ ts) h = cc
 word_not (_ ∷ ts) h = refl
 
-pub return_not : (ts : List Terminal) → begins ts ≡ true → after_return ts ≡ None
+pub return_not : (ts : List Terminal) → begins ts ≡ true → after (Word token.ReturnWord) ts ≡ None
 return_not [] h = cc
 return_not (Word token.ReturnWord ∷ ts) h = cc
 return_not (_ ∷ ts) h = refl
 
-pub global_not : (ts : List Terminal) → begins ts ≡ true → after_global ts ≡ None
+pub global_not : (ts : List Terminal) → begins ts ≡ true → after (Word token.GlobalWord) ts ≡ None
 global_not [] h = cc
 global_not (Word token.GlobalWord ∷ ts) h = cc
 global_not (_ ∷ ts) h = refl
 
-pub raise_not : (ts : List Terminal) → begins ts ≡ true → after_raise ts ≡ None
+pub raise_not : (ts : List Terminal) → begins ts ≡ true → after (Word token.RaiseWord) ts ≡ None
 raise_not [] h = cc
 raise_not (Word token.RaiseWord ∷ ts) h = cc
 raise_not (_ ∷ ts) h = refl
@@ -138,7 +138,7 @@ starts_operand (Word token.GlobalWord ∷ ts) h = refl
 starts_operand (Word token.RaiseWord ∷ ts) h = refl
 starts_operand (_ ∷ ts) h = h
 
-pub newline_not : (ts : List Terminal) → starts ts ≡ true → after_newline ts ≡ None
+pub newline_not : (ts : List Terminal) → starts ts ≡ true → after NEWLINE ts ≡ None
 newline_not [] h = cc
 newline_not (NEWLINE ∷ ts) h = cc
 newline_not (_ ∷ ts) h = refl
@@ -157,22 +157,22 @@ header_not (Word token.TryWord ∷ ts) h = cc
 header_not (Word token.DefWord ∷ ts) h = cc
 header_not (_ ∷ ts) h = refl
 
-pub elif_not : (ts : List Terminal) → starts ts ≡ true → after_elif ts ≡ None
+pub elif_not : (ts : List Terminal) → starts ts ≡ true → after (Word token.ElifWord) ts ≡ None
 elif_not [] h = cc
 elif_not (Word token.ElifWord ∷ ts) h = cc
 elif_not (_ ∷ ts) h = refl
 
-pub else_not : (ts : List Terminal) → starts ts ≡ true → after_else ts ≡ None
+pub else_not : (ts : List Terminal) → starts ts ≡ true → after (Word token.ElseWord) ts ≡ None
 else_not [] h = cc
 else_not (Word token.ElseWord ∷ ts) h = cc
 else_not (_ ∷ ts) h = refl
 
-pub except_not : (ts : List Terminal) → starts ts ≡ true → after_except ts ≡ None
+pub except_not : (ts : List Terminal) → starts ts ≡ true → after (Word token.ExceptWord) ts ≡ None
 except_not [] h = cc
 except_not (Word token.ExceptWord ∷ ts) h = cc
 except_not (_ ∷ ts) h = refl
 
-pub finally_not : (ts : List Terminal) → starts ts ≡ true → after_finally ts ≡ None
+pub finally_not : (ts : List Terminal) → starts ts ≡ true → after (Word token.FinallyWord) ts ≡ None
 finally_not [] h = cc
 finally_not (Word token.FinallyWord ∷ ts) h = cc
 finally_not (_ ∷ ts) h = refl
@@ -183,19 +183,19 @@ finally_not (_ ∷ ts) h = refl
 pub record Singleton (e : Expr) (w : Keyword) : Type 0 where
   pub spelled : Spells 1 10 e (Word w ∷ [])
   pub is : is_singleton e 1 ≡ true
-  pub affirms : (ts : List Terminal) → after_not (Word w ∷ ts) ≡ None
+  pub affirms : (ts : List Terminal) → after (Word token.NotWord) (Word w ∷ ts) ≡ None
 
 spelled_none : (w : Keyword) → Word w ∷ [] ≡ Word token.NoneWord ∷ [] → Singleton (Constant Nothing) w
 spelled_none w h =
-    let P : List Terminal → Type 0 = λ f. (ts : List Terminal) → after_not (f ++ ts) ≡ None in
+    let P : List Terminal → Type 0 = λ f. (ts : List Terminal) → after (Word token.NotWord) (f ++ ts) ≡ None in
     record { spelled = inl h; is = refl; affirms = subst P (sym h) (λ ts. refl) }
 
 spelled_truth : (b : Bool) (w : Keyword) → Word w ∷ [] ≡ Word (truth_word b) ∷ [] → Singleton (Constant (Truth b)) w
 spelled_truth true w h =
-    let P : List Terminal → Type 0 = λ f. (ts : List Terminal) → after_not (f ++ ts) ≡ None in
+    let P : List Terminal → Type 0 = λ f. (ts : List Terminal) → after (Word token.NotWord) (f ++ ts) ≡ None in
     record { spelled = inl h; is = refl; affirms = subst P (sym h) (λ ts. refl) }
 spelled_truth false w h =
-    let P : List Terminal → Type 0 = λ f. (ts : List Terminal) → after_not (f ++ ts) ≡ None in
+    let P : List Terminal → Type 0 = λ f. (ts : List Terminal) → after (Word token.NotWord) (f ++ ts) ≡ None in
     record { spelled = inl h; is = refl; affirms = subst P (sym h) (λ ts. refl) }
 
 no_prefix : (op : UnaryOperator) (w : Keyword) (f : List Terminal) → 10 ≤ prefix_level op → Word w ∷ [] ≡ prefix_of op ∷ f → ⊥

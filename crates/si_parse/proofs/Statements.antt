@@ -7,7 +7,7 @@ use Rattle.si_semantics.specs.Tree.{BinaryOperator, Add, Subtract, Multiply, Flo
 use Rattle.si_semantics.specs.Tokens.{Symbol}
 use Rattle.si_semantics.specs.Tokens as token
 use Rattle.si_semantics.specs.Grammar.{Terminal, Sign, Word, NEWLINE, Following, Separated, max_depth, IsExpression, augmented_of, Small, Simple}
-use Rattle.si_parse.specs.Reading.{then_read, rest_of, strength_at, begins_str, after_semicolon, after_newline, after_return, after_global, after_raise, no_comma, names_by, ends_small, value_by, returned_by, raised_by, global_by, expression_at, assignment_symbol, assignment_at, assigned, statement_from, spelled_by, word_statement, small_from, statement_by, with_statement, line_by}
+use Rattle.si_parse.specs.Reading.{then_read, rest_of, strength_at, begins_str, no_comma, names_by, ends_small, value_by, returned_by, raised_by, global_by, expression_at, assignment_symbol, assignment_at, assigned, statement_from, spelled_by, word_statement, small_from, statement_by, with_statement, line_by, after}
 use Rattle.si_parse.proofs.Laws.{then_read_some, some_inj, spells_deeper, after_semicolon_some, after_newline_some, after_return_some, after_global_some, after_raise_some}
 use Rattle.si_parse.proofs.Levels.{at_condition}
 use Rattle.si_parse.proofs.Lists.{chosen, added, Pairwise, separated_sound, separated_complete}
@@ -166,7 +166,7 @@ global_reads ts r h =
     let P : Stmt × List Terminal → Type 0 = SmallRead (Word token.GlobalWord ∷ ts) in
     subst P (some_inj (Global s.0.0, s.0.1) r s.2) (Word token.GlobalWord ∷ n.0, ap (λ t. Word token.GlobalWord ∷ t) n.1, (n.0, refl, n.2))
 
-small_reads : (ts : List Terminal) (o : Option Stmt) (p q x : Option (List Terminal)) → word_statement ts ≡ o → after_return ts ≡ p → after_global ts ≡ q → after_raise ts ≡ x → (r : Stmt × List Terminal)
+small_reads : (ts : List Terminal) (o : Option Stmt) (p q x : Option (List Terminal)) → word_statement ts ≡ o → after (Word token.ReturnWord) ts ≡ p → after (Word token.GlobalWord) ts ≡ q → after (Word token.RaiseWord) ts ≡ x → (r : Stmt × List Terminal)
     → small_from (expression_at max_depth) ts o p q x ≡ Some r → SmallRead ts r
 small_reads ts (Some s) p q x is also too last r h = let P : Stmt × List Terminal → Type 0 = SmallRead ts in subst P (some_inj (s, rest_of ts) r h) (word_reads ts s is)
 small_reads ts None (Some rest) q x is also too last r h =
@@ -178,7 +178,7 @@ small_reads ts None None None (Some rest) is also too last r h =
 small_reads ts None None None None is also too last r h = spelled_reads ts r h
 
 statement_reads : (ts : List Terminal) (r : Stmt × List Terminal) → statement_by (expression_at max_depth) ts ≡ Some r → SmallRead ts r
-statement_reads ts r h = small_reads ts (word_statement ts) (after_return ts) (after_global ts) (after_raise ts) refl refl refl refl r h
+statement_reads ts r h = small_reads ts (word_statement ts) (after (Word token.ReturnWord) ts) (after (Word token.GlobalWord) ts) (after (Word token.RaiseWord) ts) refl refl refl refl r h
 
 -- what may stand behind a statement
 abbrev Follows : List Terminal → Type 0
@@ -188,9 +188,9 @@ by_expression : (m : ℕ) (e : Expr) (f more : List Terminal) → IsExpression e
 by_expression m e f more h =
     let ts = f ++ more in
     let start = expression_begins max_depth 1 e f h more in
-    ap (λ o. small_from (expression_at max_depth) ts o (after_return ts) (after_global ts) (after_raise ts)) (word_not ts start)
-    ∙ ap (λ o. small_from (expression_at max_depth) ts None o (after_global ts) (after_raise ts)) (return_not ts start)
-    ∙ ap (λ o. small_from (expression_at max_depth) ts None None o (after_raise ts)) (global_not ts start)
+    ap (λ o. small_from (expression_at max_depth) ts o (after (Word token.ReturnWord) ts) (after (Word token.GlobalWord) ts) (after (Word token.RaiseWord) ts)) (word_not ts start)
+    ∙ ap (λ o. small_from (expression_at max_depth) ts None o (after (Word token.GlobalWord) ts) (after (Word token.RaiseWord) ts)) (return_not ts start)
+    ∙ ap (λ o. small_from (expression_at max_depth) ts None None o (after (Word token.RaiseWord) ts)) (global_not ts start)
     ∙ ap (λ o. small_from (expression_at max_depth) ts None None None o) (raise_not ts start)
 
 assigned_complete : (x : Text) (a : Option BinaryOperator) (e : Expr) (f g whole more : List Terminal) → whole ≡ f ++ Sign (sign_of a) ∷ g → IsExpression (Name x) f → IsExpression e g → Follows more → statement_by (expression_at max_depth) (whole ++ more) ≡ Some (assigned (Named x) a e, more)
@@ -314,7 +314,7 @@ with_line body line = body ++ line
 pub line_reads : (body : List Stmt) (ts : List Terminal) (r : List Stmt × List Terminal) → line_by (expression_at max_depth) body ts ≡ Some r
     → (line : List Stmt) × (f : List Terminal) × (r.0 ≡ with_line body line) × (ts ≡ f ++ r.1) × Simple line f
 line_reads body ts r h =
-    let s = separated_sound with_statement (λ r. r.1) (statement_by (expression_at max_depth)) after_semicolon after_newline token.Semicolon NEWLINE Spelled statement_reads after_semicolon_some after_newline_some
+    let s = separated_sound with_statement (λ r. r.1) (statement_by (expression_at max_depth)) (after (Sign token.Semicolon)) (after NEWLINE) token.Semicolon NEWLINE Spelled statement_reads after_semicolon_some after_newline_some
     (length ts) body ts r h in
     (map first s.0, s.1 ++ NEWLINE ∷ [], s.2 ∙ added_is body s.0, s.4 ∙ sym (append_assoc s.1 (NEWLINE ∷ []) r.1), (s.1, refl, omega (arith, length-map s.0 first), separated_firsts s.0 s.1 s.5))
 
@@ -334,7 +334,7 @@ pub line_complete : (body line : List Stmt) (f more : List Terminal) → Simple 
 line_complete body line f more h =
     let split : f ++ more ≡ h.0 ++ NEWLINE ∷ more = ap (λ t. t ++ more) h.1 ∙ append_assoc h.0 (NEWLINE ∷ []) more in
     let long : length (h.0 ++ NEWLINE ∷ more) ≡ length h.0 + length (NEWLINE ∷ more) = length-append h.0 (NEWLINE ∷ more) in
-    let s = separated_complete with_statement (λ r. r.1) (statement_by (expression_at max_depth)) after_semicolon after_newline token.Semicolon NEWLINE Small Read Follows statement_read
+    let s = separated_complete with_statement (λ r. r.1) (statement_by (expression_at max_depth)) (after (Sign token.Semicolon)) (after NEWLINE) token.Semicolon NEWLINE Small Read Follows statement_read
     (λ s f more h. newline_not (f ++ more) (small_starts s f more h)) (λ ts. refl) (λ ts. refl) (λ ts. refl) (λ ts. (omega arith, refl, refl, refl)) (λ ts. (omega arith, refl, refl, refl))
     (length (h.0 ++ NEWLINE ∷ more)) body line h.0 more (omega arith) h.2 h.3 in
     ap (line_by (expression_at max_depth) body) split ∙ s.2 ∙ ap (λ b. Some (b, more)) (collected body line s.0 s.1)

@@ -4,10 +4,11 @@ use Rattle.std.specs.Prelude.{nat_lt, Bool, true, false, if◌then◌else◌}
 use Rattle.std.proofs.lemmas.Bool.Decides.{nat_tests}
 use Rattle.si_semantics.specs.Value.{Text}
 use Rattle.si_semantics.specs.Tree.{Expr, Stmt, Stmts, Try}
-use Rattle.si_semantics.specs.Grammar.{Terminal, DEDENT, Branch, stmts_of, Clause, clauses_of}
+use Rattle.si_semantics.specs.Tokens as token
+use Rattle.si_semantics.specs.Grammar.{Terminal, DEDENT, Branch, stmts_of, Clause, clauses_of, Sign, Word}
 use Rattle.si_parse.specs.declared.fault.ParseFault.{ParseFault}
 use Rattle.si_parse.specs.declared.fault.ParseFault.TheVariants.{Syntax, NoMemory}
-use Rattle.si_parse.specs.Reading.{Parser, Step, Continuation, strength_of, then_read, strength_at, continuation_at, closing, behind_item, separated_by, chain_from, chain_by, Parsed, many_by, extended_by, continued_by, rest_of, after_comma, name_at, and_name, next_name_by, Header, header_at, after_elif, after_dedent, LineParser, with_branch, branch_by, elif_by, otherwise_by, suite_by, after_finally, handlers_by, finally_from, try_by, after_catch, with_clause, clause_by, catch_by, handled_from, tried, compound_by, with_compound, block_from, block_at}
+use Rattle.si_parse.specs.Reading.{Parser, Step, Continuation, strength_of, then_read, strength_at, continuation_at, closing, behind_item, separated_by, chain_from, chain_by, Parsed, many_by, extended_by, continued_by, rest_of, name_at, and_name, next_name_by, Header, header_at, LineParser, with_branch, branch_by, elif_by, otherwise_by, suite_by, handlers_by, finally_from, try_by, after_catch, with_clause, clause_by, catch_by, handled_from, tried, compound_by, with_compound, block_from, block_at, after}
 use Rattle.si_parse.specs.Gives.{Fails}
 use Rattle.si_parse.proofs.Steps.{continued_by_step, separated_by_step, chain_by_step, many_by_step, block_at_step}
 
@@ -103,10 +104,10 @@ pub block_compound : (n : ℕ) (body : List Stmt) (ts rest : List Terminal) (wor
 block_compound n body ts rest word s more positive is h =
     block_at_step n body ts positive ∙ ap (block_from (block_at (n - 1)) body ts) is ∙ ap (λ o. then_read o (with_compound body)) h
 
-pub next_name_read : (xs : List Text) (ts rest : List Terminal) (x : Text) (more : List Terminal) → after_comma ts ≡ Some rest → name_at rest ≡ Some (x, more) → next_name_by xs ts ≡ Some (xs ++ x ∷ [], more)
+pub next_name_read : (xs : List Text) (ts rest : List Terminal) (x : Text) (more : List Terminal) → after (Sign token.Comma) ts ≡ Some rest → name_at rest ≡ Some (x, more) → next_name_by xs ts ≡ Some (xs ++ x ∷ [], more)
 next_name_read xs ts rest x more is h = ap (λ o. then_read o (λ rest. then_read (name_at rest) (and_name xs))) is ∙ ap (λ o. then_read o (and_name xs)) h
 
-pub elif_read : (line : LineParser) (bs : List Branch) (ts rest : List Terminal) (b : Branch) (more : List Terminal) → after_elif ts ≡ Some rest → branch_by line rest ≡ Some (b, more) → elif_by line bs ts ≡ Some (bs ++ b ∷ [], more)
+pub elif_read : (line : LineParser) (bs : List Branch) (ts rest : List Terminal) (b : Branch) (more : List Terminal) → after (Word token.ElifWord) ts ≡ Some rest → branch_by line rest ≡ Some (b, more) → elif_by line bs ts ≡ Some (bs ++ b ∷ [], more)
 elif_read line bs ts rest b more is h = ap (λ o. then_read o (λ rest. then_read (branch_by line rest) (with_branch bs))) is ∙ ap (λ o. then_read o (with_branch bs)) h
 
 pub catch_read : (line : LineParser) (cs : List Clause) (ts rest : List Terminal) (c : Clause) (more : List Terminal) → after_catch ts ≡ Some rest → clause_by line rest ≡ Some (c, more) → catch_by line cs ts ≡ Some (cs ++ c ∷ [], more)
@@ -130,14 +131,14 @@ tried_none body [] last ts none = refl
 tried_none body (c ∷ cs) last ts none = absurd (omega arith)
 
 pub try_read : (line : LineParser) (ts : List Terminal) (body : List Stmt) (behind : List Terminal) (cs : List Clause) (last : List Stmt) (more : List Terminal) → suite_by line ts ≡ Some (body, behind)
-    → handlers_by line behind ≡ Some ((cs, last), more) → after_finally more ≡ None → 0 < length cs → try_by line ts ≡ Some (Try (stmts_of body) (clauses_of cs) (stmts_of last), more)
+    → handlers_by line behind ≡ Some ((cs, last), more) → after (Word token.FinallyWord) more ≡ None → 0 < length cs → try_by line ts ≡ Some (Try (stmts_of body) (clauses_of cs) (stmts_of last), more)
 try_read line ts body behind cs last more h i not_finally some =
-    ap (λ o. then_read o (λ b. then_read (handlers_by line b.1) (λ h. finally_from line (stmts_of b.0) h (after_finally h.1)))) h
-    ∙ ap (λ o. then_read o (λ h. finally_from line (stmts_of body) h (after_finally h.1))) i
+    ap (λ o. then_read o (λ b. then_read (handlers_by line b.1) (λ h. finally_from line (stmts_of b.0) h (after (Word token.FinallyWord) h.1)))) h
+    ∙ ap (λ o. then_read o (λ h. finally_from line (stmts_of body) h (after (Word token.FinallyWord) h.1))) i
     ∙ ap (finally_from line (stmts_of body) ((cs, last), more)) not_finally
     ∙ tried_some (stmts_of body) cs last more some
 
-dedent_rest : (ts rest : List Terminal) → after_dedent ts ≡ Some rest → rest_of ts ≡ rest
+dedent_rest : (ts rest : List Terminal) → after DEDENT ts ≡ Some rest → rest_of ts ≡ rest
 dedent_rest [] rest h = cc
 dedent_rest (DEDENT ∷ ts) rest h = cc
 dedent_rest (_ ∷ ts) rest h = cc

@@ -1,4 +1,5 @@
 pub mod Modules
+pub mod Numbers
 pub mod Reading
 pub mod Gives
 pub mod Literals

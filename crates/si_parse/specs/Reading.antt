@@ -7,7 +7,8 @@ use Rattle.si_semantics.specs.Scope.{is_in}
 use Rattle.si_semantics.specs.Tokens.{Symbol, Keyword}
 use Rattle.si_semantics.specs.Tokens as token
 use Rattle.si_semantics.specs.Text.{max_length}
-use Rattle.si_semantics.specs.Grammar.{Terminal, NAME, NUMBER, STRING, Sign, Word, NEWLINE, INDENT, DEDENT, ENDMARKER, Argument, Positional, ByName, value_of_int, value_of_str, left_level, right_level, prefix_level, item_level, is_identity, Link, chain_of, exprs_of, max_depth, Branch, stmts_of, elifs_of, Clause, clauses_of, max_nesting, max_parameters}
+use Rattle.si_parse.specs.Numbers.{same_symbol, same_keyword}
+use Rattle.si_semantics.specs.Grammar.{Terminal, NAME, NUMBER, STRING, Sign, Word, NEWLINE, INDENT, DEDENT, ENDMARKER, Argument, Positional, ByName, value_of_int, value_of_str, left_level, right_level, prefix_level, item_level, is_identity, Link, chain_of, exprs_of, max_depth, Branch, stmts_of, elifs_of, Clause, clauses_of, max_nesting, max_parameters, word_of}
 
 -- ---- one terminal of look-ahead
 
@@ -82,119 +83,27 @@ abbrev pub rest_of : List Terminal → List Terminal
 rest_of [] = []
 rest_of (t ∷ ts) = ts
 
--- the terminals behind one of a kind, where it stands first
+-- the terminals behind some, where these stand first
 abbrev pub Step : Type 0
 Step = List Terminal → Option (List Terminal)
 
-abbrev pub after_close : Step
-after_close [] = None
-after_close (Sign token.RightParenthesis ∷ ts) = Some ts
-after_close (_ ∷ ts) = None
+-- two terminals that have no text of their own are one
+abbrev pub is_same : Terminal → Terminal → Bool
+is_same (Sign s) (Sign t) = same_symbol s t
+is_same (Word v) (Word w) = same_keyword v w
+is_same NEWLINE NEWLINE = true
+is_same INDENT INDENT = true
+is_same DEDENT DEDENT = true
+is_same _ _ = false
 
-abbrev pub after_equal : Step
-after_equal [] = None
-after_equal (Sign token.Equal ∷ ts) = Some ts
-after_equal (_ ∷ ts) = None
-
-abbrev pub after_open : Step
-after_open [] = None
-after_open (Sign token.LeftParenthesis ∷ ts) = Some ts
-after_open (_ ∷ ts) = None
-
-abbrev pub after_comma : Step
-after_comma [] = None
-after_comma (Sign token.Comma ∷ ts) = Some ts
-after_comma (_ ∷ ts) = None
-
-abbrev pub after_semicolon : Step
-after_semicolon [] = None
-after_semicolon (Sign token.Semicolon ∷ ts) = Some ts
-after_semicolon (_ ∷ ts) = None
-
-abbrev pub after_newline : Step
-after_newline [] = None
-after_newline (NEWLINE ∷ ts) = Some ts
-after_newline (_ ∷ ts) = None
-
-abbrev pub after_colon : Step
-after_colon [] = None
-after_colon (Sign token.Colon ∷ ts) = Some ts
-after_colon (_ ∷ ts) = None
-
-abbrev pub after_indent : Step
-after_indent [] = None
-after_indent (INDENT ∷ ts) = Some ts
-after_indent (_ ∷ ts) = None
-
-abbrev pub after_dedent : Step
-after_dedent [] = None
-after_dedent (DEDENT ∷ ts) = Some ts
-after_dedent (_ ∷ ts) = None
-
-abbrev pub after_elif : Step
-after_elif [] = None
-after_elif (Word token.ElifWord ∷ ts) = Some ts
-after_elif (_ ∷ ts) = None
-
-abbrev pub after_in : Step
-after_in [] = None
-after_in (Word token.InWord ∷ ts) = Some ts
-after_in (_ ∷ ts) = None
-
-abbrev pub after_except : Step
-after_except [] = None
-after_except (Word token.ExceptWord ∷ ts) = Some ts
-after_except (_ ∷ ts) = None
-
-abbrev pub after_finally : Step
-after_finally [] = None
-after_finally (Word token.FinallyWord ∷ ts) = Some ts
-after_finally (_ ∷ ts) = None
-
-abbrev pub after_as : Step
-after_as [] = None
-after_as (Word token.AsWord ∷ ts) = Some ts
-after_as (_ ∷ ts) = None
-
-abbrev pub after_return : Step
-after_return [] = None
-after_return (Word token.ReturnWord ∷ ts) = Some ts
-after_return (_ ∷ ts) = None
-
-abbrev pub after_global : Step
-after_global [] = None
-after_global (Word token.GlobalWord ∷ ts) = Some ts
-after_global (_ ∷ ts) = None
-
-abbrev pub after_raise : Step
-after_raise [] = None
-after_raise (Word token.RaiseWord ∷ ts) = Some ts
-after_raise (_ ∷ ts) = None
-
-abbrev pub after_not : Step
-after_not [] = None
-after_not (Word token.NotWord ∷ ts) = Some ts
-after_not (_ ∷ ts) = None
-
-abbrev pub after_else : Step
-after_else [] = None
-after_else (Word token.ElseWord ∷ ts) = Some ts
-after_else (_ ∷ ts) = None
-
-abbrev pub after_and : Step
-after_and [] = None
-after_and (Word token.AndWord ∷ ts) = Some ts
-after_and (_ ∷ ts) = None
-
-abbrev pub after_or : Step
-after_or [] = None
-after_or (Word token.OrWord ∷ ts) = Some ts
-after_or (_ ∷ ts) = None
+-- the terminals behind one that has no text of its own, where it stands first
+abbrev pub after : Terminal → Step
+after t [] = None
+after t (u ∷ ts) = if is_same u t then Some ts else None
 
 -- the terminals behind the word of an operator
 abbrev pub after_boolean : BooleanOperator → Step
-after_boolean tree.And = after_and
-after_boolean tree.Or = after_or
+after_boolean op = after (Word (word_of op))
 
 -- the word with which a compound statement begins
 pub data Header : Type 0 where
@@ -282,11 +191,11 @@ and_name xs r = Some (xs ++ r.0 ∷ [], r.1)
 
 -- one more name, behind a comma
 abbrev pub next_name_by : List Text → List Terminal → Option (List Text × List Terminal)
-next_name_by xs ts = then_read (after_comma ts) (λ rest. then_read (name_at rest) (and_name xs))
+next_name_by xs ts = then_read (after (Sign token.Comma) ts) (λ rest. then_read (name_at rest) (and_name xs))
 
 -- whether no further name follows
 abbrev pub no_comma : List Terminal → Bool
-no_comma ts = is_none (after_comma ts)
+no_comma ts = is_none (after (Sign token.Comma) ts)
 
 -- names with commas between them, of which there is one at least
 abbrev pub names_by : List Terminal → Option (List Text × List Terminal)
@@ -299,11 +208,11 @@ with_parameter xs r = xs ++ r.0 ∷ []
 -- the same, once it is known whether the bracket is closed at once
 abbrev pub listed_from : List Terminal → Option (List Terminal) → Option (List Text × List Terminal)
 listed_from ts (Some rest) = Some ([], rest)
-listed_from ts None = separated_by with_parameter (λ r. r.1) name_at after_comma after_close (length ts) [] ts
+listed_from ts None = separated_by with_parameter (λ r. r.1) name_at (after (Sign token.Comma)) (after (Sign token.RightParenthesis)) (length ts) [] ts
 
 -- the names behind an open bracket, and the closed one
 abbrev pub listed_by : List Terminal → Option (List Text × List Terminal)
-listed_by ts = listed_from ts (after_close ts)
+listed_by ts = listed_from ts (after (Sign token.RightParenthesis) ts)
 
 -- names, where there are not too many for a function
 abbrev pub few : List Text × List Terminal → Option (List Text × List Terminal)
@@ -329,7 +238,7 @@ Argued = Argument × ℕ × List Terminal
 -- the name by which an argument is passed, and the terminals behind its `=`
 abbrev pub named_at : List Terminal → Option (Text × List Terminal)
 named_at [] = None
-named_at (NAME x ∷ ts) = option_map (λ rest. (x, rest)) (after_equal ts)
+named_at (NAME x ∷ ts) = option_map (λ rest. (x, rest)) (after (Sign token.Equal) ts)
 named_at (_ ∷ ts) = None
 
 -- an argument, once it is known whether a name stands in front
@@ -348,11 +257,11 @@ with_argument b r = (b.0 ++ r.0 ∷ [], max b.1 r.1)
 -- the arguments, once it is known whether the bracket is closed at once
 abbrev pub arguments_from : Parser → List Terminal → Option (List Terminal) → Option ((List Argument × ℕ) × List Terminal)
 arguments_from sub ts (Some rest) = Some (([], 0), rest)
-arguments_from sub ts None = separated_by with_argument (λ r. r.2) (argument_by sub) after_comma after_close (length ts) ([], 0) ts
+arguments_from sub ts None = separated_by with_argument (λ r. r.2) (argument_by sub) (after (Sign token.Comma)) (after (Sign token.RightParenthesis)) (length ts) ([], 0) ts
 
 -- the arguments behind an open bracket, the greatest depth among them, and the closed one
 abbrev pub arguments_by : Parser → List Terminal → Option ((List Argument × ℕ) × List Terminal)
-arguments_by sub ts = arguments_from sub ts (after_close ts)
+arguments_by sub ts = arguments_from sub ts (after (Sign token.RightParenthesis) ts)
 
 -- the expressions of arguments, and the names by which the last ones are passed
 abbrev pub Passed : Type 0
@@ -392,7 +301,7 @@ abbrev pub other_by : Parser → ℕ → Expr → ℕ → Found → List Termina
 other_by sub n e d t ts = then_read (sub 1 ts) (λ o. within n (Conditional t.0 e o.0) (max d (max t.1 o.1) + 1) o.2)
 
 abbrev pub conditional_by : Parser → ℕ → Expr → ℕ → List Terminal → Parsed
-conditional_by sub n e d ts = then_read (sub 3 ts) (λ t. then_read (after_else t.2) (other_by sub n e d t))
+conditional_by sub n e d ts = then_read (sub 3 ts) (λ t. then_read (after (Word token.ElseWord) t.2) (other_by sub n e d t))
 
 -- the operands of `and` or of `or` behind the first one, from the first word on
 abbrev pub with_word : BooleanOperator → Option (List Terminal) → Option (BooleanOperator × List Terminal)
@@ -421,7 +330,7 @@ identity_from ts (Some rest) = (tree.IsNot, rest)
 abbrev pub comparison_at : List Terminal → Option (ComparisonOperator × List Terminal)
 comparison_at [] = None
 comparison_at (Sign s ∷ ts) = option_map (λ op. (op, ts)) (comparison_symbol s)
-comparison_at (Word token.IsWord ∷ ts) = Some (identity_from ts (after_not ts))
+comparison_at (Word token.IsWord ∷ ts) = Some (identity_from ts (after (Word token.NotWord) ts))
 comparison_at (_ ∷ ts) = None
 
 -- whether a tree of this depth is None, True or False, by one word alone
@@ -491,7 +400,7 @@ abbrev pub unary_by : Parser → ℕ → UnaryOperator → List Terminal → Par
 unary_by sub l op ts = if nat_le l (prefix_level op) then then_read (sub (prefix_level op) ts) (λ r. Some (Unary op r.0, r.1 + 1, r.2)) else None
 
 abbrev pub bracketed_by : Parser → List Terminal → Parsed
-bracketed_by sub ts = then_read (sub 1 ts) (λ r. closed r.0 r.1 (after_close r.2))
+bracketed_by sub ts = then_read (sub 1 ts) (λ r. closed r.0 r.1 (after (Sign token.RightParenthesis) r.2))
 
 abbrev pub atom_by : Parser → List Terminal → Parsed
 atom_by sub [] = None
@@ -599,7 +508,7 @@ small_from sub ts None None None (Some rest) = raised_by sub rest
 small_from sub ts None None None None = spelled_by sub ts
 
 abbrev pub statement_by : Parser → List Terminal → Option (Stmt × List Terminal)
-statement_by sub ts = small_from sub ts (word_statement ts) (after_return ts) (after_global ts) (after_raise ts)
+statement_by sub ts = small_from sub ts (word_statement ts) (after (Word token.ReturnWord) ts) (after (Word token.GlobalWord) ts) (after (Word token.RaiseWord) ts)
 
 abbrev pub with_statement : List Stmt → Stmt × List Terminal → List Stmt
 with_statement body r = body ++ r.0 ∷ []
@@ -610,7 +519,7 @@ LineParser = List Stmt → List Terminal → Option (List Stmt × List Terminal)
 
 -- a line's statements
 abbrev pub line_by : Parser → LineParser
-line_by sub body ts = separated_by with_statement (λ r. r.1) (statement_by sub) after_semicolon after_newline (length ts) body ts
+line_by sub body ts = separated_by with_statement (λ r. r.1) (statement_by sub) (after (Sign token.Semicolon)) (after NEWLINE) (length ts) body ts
 
 abbrev pub simple_line : LineParser
 simple_line = line_by (expression_at max_depth)
@@ -618,17 +527,17 @@ simple_line = line_by (expression_at max_depth)
 -- ---- compound statements
 
 abbrev pub is_dedent : List Terminal → Bool
-is_dedent ts = not (is_none (after_dedent ts))
+is_dedent ts = not (is_none (after DEDENT ts))
 
 abbrev pub indented_by : LineParser → List Terminal → Option (List Stmt × List Terminal)
 indented_by line ts = if is_dedent ts then None else then_read (many_by line is_dedent (length ts) [] ts) (λ r. Some (r.0, rest_of r.1))
 
 abbrev pub suite_from : LineParser → List Terminal → Option (List Terminal) → Option (List Stmt × List Terminal)
 suite_from line ts None = simple_line [] ts
-suite_from line ts (Some rest) = then_read (after_indent rest) (indented_by line)
+suite_from line ts (Some rest) = then_read (after INDENT rest) (indented_by line)
 
 abbrev pub suite_by : LineParser → List Terminal → Option (List Stmt × List Terminal)
-suite_by line ts = then_read (after_colon ts) (λ rest. suite_from line rest (after_newline rest))
+suite_by line ts = then_read (after (Sign token.Colon) ts) (λ rest. suite_from line rest (after NEWLINE rest))
 
 -- a test and the suite behind it
 abbrev pub branch_by : LineParser → List Terminal → Option (Branch × List Terminal)
@@ -638,10 +547,10 @@ abbrev pub with_branch : List Branch → Branch × List Terminal → Option (Lis
 with_branch bs r = Some (bs ++ r.0 ∷ [], r.1)
 
 abbrev pub elif_by : LineParser → List Branch → List Terminal → Option (List Branch × List Terminal)
-elif_by line bs ts = then_read (after_elif ts) (λ rest. then_read (branch_by line rest) (with_branch bs))
+elif_by line bs ts = then_read (after (Word token.ElifWord) ts) (λ rest. then_read (branch_by line rest) (with_branch bs))
 
 abbrev pub no_elif : List Terminal → Bool
-no_elif ts = is_none (after_elif ts)
+no_elif ts = is_none (after (Word token.ElifWord) ts)
 
 abbrev pub elifs_by : LineParser → List Terminal → Option (List Branch × List Terminal)
 elifs_by line ts = many_by (elif_by line) no_elif (length ts) [] ts
@@ -651,7 +560,7 @@ otherwise_from line ts None = Some ([], ts)
 otherwise_from line ts (Some rest) = suite_by line rest
 
 abbrev pub otherwise_by : LineParser → List Terminal → Option (List Stmt × List Terminal)
-otherwise_by line ts = otherwise_from line ts (after_else ts)
+otherwise_by line ts = otherwise_from line ts (after (Word token.ElseWord) ts)
 
 abbrev pub joined_if : Branch → List Branch → List Stmt × List Terminal → Option (Stmt × List Terminal)
 joined_if b elifs o = Some (If b.0 b.1 (elifs_of elifs (stmts_of o.0)), o.1)
@@ -673,7 +582,7 @@ target_from e behind = then_read (as_target e) (λ t. option_map (λ rest. (t, r
 
 -- The target of a `for`, and the terminals behind the `in`. A name is of every level: one is asked at which no operator but `**` is read.
 abbrev pub target_by : List Terminal → Option (Target × List Terminal)
-target_by ts = then_read (expression_at max_depth 16 ts) (λ r. target_from r.0 (after_in r.2))
+target_by ts = then_read (expression_at max_depth 16 ts) (λ r. target_from r.0 (after (Word token.InWord) r.2))
 
 abbrev pub joined_for : Target → Branch → List Stmt × List Terminal → Option (Stmt × List Terminal)
 joined_for t b o = Some (For t b.0 b.1 (stmts_of o.0), o.1)
@@ -688,13 +597,13 @@ defined_by line x ps = then_read (suite_by line ps.1) (λ b. Some (Define x ps.0
 
 -- from behind the `def`
 abbrev pub define_by : LineParser → List Terminal → Option (Stmt × List Terminal)
-define_by line ts = then_read (name_at ts) (λ n. then_read (after_open n.1) (λ rest. then_read (parameters_by rest) (defined_by line n.0)))
+define_by line ts = then_read (name_at ts) (λ n. then_read (after (Sign token.LeftParenthesis) n.1) (λ rest. then_read (parameters_by rest) (defined_by line n.0)))
 
 -- ---- try
 
 -- the terminals behind an `except`, where no colon follows it
 abbrev pub after_catch : Step
-after_catch ts = then_read (after_except ts) (λ rest. if is_none (after_colon rest) then Some rest else None)
+after_catch ts = then_read (after (Word token.ExceptWord) ts) (λ rest. if is_none (after (Sign token.Colon) rest) then Some rest else None)
 
 abbrev pub no_catch : List Terminal → Bool
 no_catch ts = is_none (after_catch ts)
@@ -710,7 +619,7 @@ caught_from e ts (Some rest) = then_read (name_at rest) (λ n. Some ((e, Some n.
 
 -- from behind the `except`
 abbrev pub caught_by : List Terminal → Option (Catch × List Terminal)
-caught_by ts = then_read (expression_at max_depth 1 ts) (λ t. caught_from t.0 t.2 (after_as t.2))
+caught_by ts = then_read (expression_at max_depth 1 ts) (λ t. caught_from t.0 t.2 (after (Word token.AsWord) t.2))
 
 -- the same, with its suite
 abbrev pub clause_by : LineParser → List Terminal → Option (Clause × List Terminal)
@@ -732,7 +641,7 @@ bare_from line cs ts None = Some (cs, ts)
 bare_from line cs ts (Some rest) = then_read (suite_by line rest) (λ b. Some (cs ++ (None, None, stmts_of b.0) ∷ [], b.1))
 
 abbrev pub bare_by : LineParser → List Clause → List Terminal → Option (List Clause × List Terminal)
-bare_by line cs ts = bare_from line cs ts (after_except ts)
+bare_by line cs ts = bare_from line cs ts (after (Word token.ExceptWord) ts)
 
 -- all except clauses, the bare one last
 abbrev pub clauses_by : LineParser → List Terminal → Option (List Clause × List Terminal)
@@ -761,7 +670,7 @@ finally_from line body h (Some rest) = then_read (suite_by line rest) (λ b. Som
 
 -- from behind the `try`
 abbrev pub try_by : LineParser → List Terminal → Option (Stmt × List Terminal)
-try_by line ts = then_read (suite_by line ts) (λ b. then_read (handlers_by line b.1) (λ h. finally_from line (stmts_of b.0) h (after_finally h.1)))
+try_by line ts = then_read (suite_by line ts) (λ b. then_read (handlers_by line b.1) (λ h. finally_from line (stmts_of b.0) h (after (Word token.FinallyWord) h.1)))
 
 -- ---- lines
 

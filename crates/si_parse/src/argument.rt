@@ -6,10 +6,10 @@ ghost use Rattle.si_parse.specs.Reading.{named_at, passed_from};
 ghost use Rattle.si_parse.specs.Gives.{Gives, from, argument_of};
 
 use crate::fault::ParseFault;
-use crate::lookahead::{after_equal, token_at};
+use crate::lookahead::{after, token_at};
 use si_plain::Names;
 use si_syntax::Expr;
-use si_token::{Token, TokenKind};
+use si_token::{Symbol, Token, TokenKind};
 use std::alloc::Global;
 
 // An argument of a call.
@@ -28,7 +28,7 @@ pub(crate) fn named_at<'a>(tokens: &[Token<'a>], at: usize) -> Option<(&'a str, 
     let token = token_at(tokens, at)?;
     match token.kind {
         TokenKind::Name => {
-            let behind = after_equal(tokens, at + 1)?;
+            let behind = after(tokens, at + 1, Symbol::Equal)?;
             Some((token.text, behind))
         }
         _ => None,

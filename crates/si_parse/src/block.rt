@@ -9,8 +9,7 @@ use crate::expression::expression;
 use crate::fault::ParseFault;
 use crate::handler::try_statement;
 use crate::lookahead::{
-    Header, after_colon, after_dedent, after_elif, after_else, after_indent, after_newline,
-    after_open, header_at, line_at,
+    Header, after, after_dedent, after_indent, after_newline, after_word, header_at, line_at,
 };
 use crate::name::{name, parameters};
 use crate::precedence::ANY;
@@ -18,7 +17,7 @@ use crate::statement::line;
 use crate::target::target;
 use si_plain::limits::MAX_EXPRESSION_DEPTH;
 use si_syntax::{Expr, Stmt};
-use si_token::Token;
+use si_token::{Keyword, Symbol, Token};
 use std::alloc::Global;
 
 // The most compound statements that are nested.
@@ -139,7 +138,7 @@ fn definition(
     ensures { Gives (λ x. (stmt_of x.0, from tokens.now x.1)) result (define_by (block_at parts) (from tokens.now start)) }
 {
     let (name, behind) = name(alloc, tokens, start)?;
-    let Some(first) = after_open(tokens, behind) else {
+    let Some(first) = after(tokens, behind, Symbol::LeftParenthesis) else {
         return Err(ParseFault::Syntax(line_at(tokens, behind)));
     };
     let (parameters, at) = parameters(alloc, tokens, first)?;
@@ -178,7 +177,7 @@ fn elifs(
     let mut elifs = Vec::new(alloc);
     let mut at = start;
     for _turn in start..tokens.len() {
-        let Some(behind) = after_elif(tokens, at) else {
+        let Some(behind) = after_word(tokens, at, Keyword::Elif) else {
             return Ok((elifs, at));
         };
         let (next, end) = branch(alloc, parts, tokens, behind)?;
@@ -194,7 +193,7 @@ pub(crate) fn otherwise(alloc: Global, parts: u32, tokens: &[Token], at: usize) 
     requires { parts < 999 }
     ensures { Gives (λ x. (map stmt_of x.0.items, from tokens.now x.1)) result (otherwise_by (block_at parts) (from tokens.now at)) }
 {
-    match after_else(tokens, at) {
+    match after_word(tokens, at, Keyword::Else) {
         Some(behind) => suite(alloc, parts, tokens, behind),
         None => Ok((Vec::new(alloc), at)),
     }
@@ -206,7 +205,7 @@ pub(crate) fn suite(alloc: Global, parts: u32, tokens: &[Token], at: usize) -> S
     requires { parts < 999 }
     ensures { Gives (λ x. (map stmt_of x.0.items, from tokens.now x.1)) result (suite_by (block_at parts) (from tokens.now at)) }
 {
-    let Some(behind) = after_colon(tokens, at) else {
+    let Some(behind) = after(tokens, at, Symbol::Colon) else {
         return Err(ParseFault::Syntax(line_at(tokens, at)));
     };
     let Some(next) = after_newline(tokens, behind) else {

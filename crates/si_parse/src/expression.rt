@@ -9,9 +9,7 @@ ghost use Rattle.si_parse.specs.Gives.{Gives, from, continuation_view, argument_
 use crate::argument::{Argument, named_at, passed};
 use crate::fault::ParseFault;
 use crate::literal::str_value;
-use crate::lookahead::{
-    after_arguments, after_boolean, after_close, after_comma, after_else, line_at, token_at,
-};
+use crate::lookahead::{after, after_arguments, after_boolean, after_word, line_at, token_at};
 use crate::precedence::{
     ANY, COMPARED, Continuation, DISJUNCTION, comparison_at, item_level, prefix_at, prefix_level,
     right_level, strength, what_follows,
@@ -161,7 +159,7 @@ fn bracketed(alloc: Global, parts: u32, tokens: &[Token], at: usize) -> Read
     ensures shallow { IfOk result (λ x. x.1 ≤ parts + 1) }
 {
     let (inner, depth, at) = expression(alloc, parts, ANY, tokens, at)?;
-    match after_close(tokens, at) {
+    match after(tokens, at, Symbol::RightParenthesis) {
         Some(behind) => Ok((inner, depth + 1, behind)),
         None => Err(ParseFault::Syntax(line_at(tokens, at))),
     }
@@ -318,7 +316,7 @@ fn conditional(
     ensures shallow { IfOk result (λ x. x.1 ≤ parts + 1) }
 {
     let (test, test_depth, at) = expression(alloc, parts, DISJUNCTION, tokens, at)?;
-    let Some(behind) = after_else(tokens, at) else {
+    let Some(behind) = after_word(tokens, at, Keyword::Else) else {
         return Err(ParseFault::Syntax(line_at(tokens, at)));
     };
     let (other, other_depth, at) = expression(alloc, parts, ANY, tokens, behind)?;
@@ -377,7 +375,7 @@ fn arguments(
     ensures reads { Gives (λ x. ((map argument_of x.0.items, x.1), from tokens.now x.2)) result (arguments_by (expression_at parts) (from tokens.now start)) }
     ensures shallow { IfOk result (λ x. x.1 ≤ parts) }
 {
-    if let Some(behind) = after_close(tokens, start) {
+    if let Some(behind) = after(tokens, start, Symbol::RightParenthesis) {
         return Ok((Vec::new(alloc), 0, behind));
     }
     let mut arguments = Vec::new(alloc);
@@ -390,7 +388,7 @@ fn arguments(
         if let Some(end) = after_arguments(tokens, behind) {
             return Ok((arguments, depth, end));
         }
-        let Some(more) = after_comma(tokens, behind) else {
+        let Some(more) = after(tokens, behind, Symbol::Comma) else {
             return Err(ParseFault::Syntax(line_at(tokens, behind)));
         };
         at = more;

@@ -9,12 +9,12 @@ ghost use Rattle.si_parse.specs.Gives.{Gives, from};
 use crate::block::{otherwise, suite};
 use crate::expression::expression;
 use crate::fault::ParseFault;
-use crate::lookahead::{after_as, after_catch, after_except, after_finally, line_at};
+use crate::lookahead::{after_catch, after_word, line_at};
 use crate::name::name;
 use crate::precedence::ANY;
 use si_plain::limits::MAX_EXPRESSION_DEPTH;
 use si_syntax::{Clause, Expr, Stmt};
-use si_token::Token;
+use si_token::{Keyword, Token};
 use std::alloc::Global;
 
 // Except clauses, and the place behind them.
@@ -34,7 +34,7 @@ pub(crate) fn try_statement(
 {
     let (body, behind) = suite(alloc, parts, tokens, start)?;
     let (clauses, last, at) = handlers(alloc, parts, tokens, behind)?;
-    if let Some(cleanup) = after_finally(tokens, at) {
+    if let Some(cleanup) = after_word(tokens, at, Keyword::Finally) {
         let (cleanup, end) = suite(alloc, parts, tokens, cleanup)?;
         return Ok((Stmt::Finally(body, clauses, last, cleanup), end));
     }
@@ -91,7 +91,7 @@ fn bare(alloc: Global, parts: u32, before: Vec<Clause>, tokens: &[Token], at: us
     requires { parts < 999 }
     ensures { Gives (λ x. (map clause_of x.0.items, from tokens.now x.1)) result (bare_by (block_at parts) (map clause_of before.items) (from tokens.now at)) }
 {
-    let Some(behind) = after_except(tokens, at) else {
+    let Some(behind) = after_word(tokens, at, Keyword::Except) else {
         return Ok((before, at));
     };
     let (body, end) = suite(alloc, parts, tokens, behind)?;
@@ -125,7 +125,7 @@ fn caught(
     ensures { Gives (λ x. ((expr_of x.0, option_map string_bytes x.1), from tokens.now x.2)) result (caught_by (from tokens.now start)) }
 {
     let (value, _, at) = expression(alloc, MAX_EXPRESSION_DEPTH, ANY, tokens, start)?;
-    let Some(behind) = after_as(tokens, at) else {
+    let Some(behind) = after_word(tokens, at, Keyword::As) else {
         return Ok((value, None, at));
     };
     let (name, end) = name(alloc, tokens, behind)?;

@@ -1,10 +1,11 @@
 // One token of look-ahead: the token at a place, and the place behind it.
 
 ghost use Rattle.std.specs.Prelude.{◌≡◌, ℕ, ◌+◌, ◌<◌, ◌≤◌, length, [], ◌∷◌, option_map, MatchOption, OnSome};
-ghost use Rattle.si_semantics.specs.Grammar.{terminal_of};
-ghost use Rattle.si_token.specs.Views.{token_of};
+ghost use Rattle.si_semantics.specs.Grammar.{terminal_of, Sign, Word, NEWLINE, INDENT, DEDENT};
+ghost use Rattle.si_semantics.specs.Tokens as token;
+ghost use Rattle.si_token.specs.Views.{keyword_of, symbol_of, token_of};
 ghost use Rattle.si_syntax.specs.Trees.{boolean_of};
-ghost use Rattle.si_parse.specs.Reading.{after_close, after_equal, after_open, after_comma, after_newline, after_colon, after_indent, after_dedent, after_elif, after_in, after_except, after_finally, after_as, after_catch, after_return, after_global, after_raise, after_semicolon, after_not, after_else, after_and, after_or, after_boolean, closing, ends_small, header_at};
+ghost use Rattle.si_parse.specs.Reading.{after, after_boolean, after_catch, closing, ends_small, header_at};
 ghost use Rattle.si_parse.specs.Gives.{from, header_view};
 
 use si_syntax::BooleanOperator;
@@ -40,64 +41,33 @@ pub(crate) fn line_at(tokens: &[Token], at: usize) -> usize {
     }
 }
 
-// The place behind a closed bracket, where one stands at the place.
-pub(crate) fn after_close(tokens: &[Token], at: usize) -> Option<usize>
-    ensures { option_map (from tokens.now) result ≡ after_close (from tokens.now at) }
+// The place behind the symbol, where it stands at the place.
+#[tactic(auto, using(crate::proofs::Numbers::symbols_same, crate::proofs::Numbers::symbols_differ))]
+pub(crate) fn after(tokens: &[Token], at: usize, symbol: Symbol) -> Option<usize>
+    ensures { option_map (from tokens.now) result ≡ after (Sign (symbol_of symbol)) (from tokens.now at) }
 {
     let token = token_at(tokens, at)?;
     match token.kind {
-        TokenKind::Symbol(Symbol::RightParenthesis) => Some(at + 1),
+        TokenKind::Symbol(found) => { if found == symbol { Some(at + 1) } else { None } }
         _ => None,
     }
 }
 
-// The place behind an `=`, where one stands at the place.
-pub(crate) fn after_equal(tokens: &[Token], at: usize) -> Option<usize>
-    ensures { option_map (from tokens.now) result ≡ after_equal (from tokens.now at) }
+// The place behind the keyword, where it stands at the place.
+#[tactic(auto, using(crate::proofs::Numbers::keywords_same, crate::proofs::Numbers::keywords_differ))]
+pub(crate) fn after_word(tokens: &[Token], at: usize, keyword: Keyword) -> Option<usize>
+    ensures { option_map (from tokens.now) result ≡ after (Word (keyword_of keyword)) (from tokens.now at) }
 {
     let token = token_at(tokens, at)?;
     match token.kind {
-        TokenKind::Symbol(Symbol::Equal) => Some(at + 1),
-        _ => None,
-    }
-}
-
-// The place behind an open bracket, where one stands at the place.
-pub(crate) fn after_open(tokens: &[Token], at: usize) -> Option<usize>
-    ensures { option_map (from tokens.now) result ≡ after_open (from tokens.now at) }
-{
-    let token = token_at(tokens, at)?;
-    match token.kind {
-        TokenKind::Symbol(Symbol::LeftParenthesis) => Some(at + 1),
-        _ => None,
-    }
-}
-
-// The place behind a comma, where one stands at the place.
-pub(crate) fn after_comma(tokens: &[Token], at: usize) -> Option<usize>
-    ensures { option_map (from tokens.now) result ≡ after_comma (from tokens.now at) }
-{
-    let token = token_at(tokens, at)?;
-    match token.kind {
-        TokenKind::Symbol(Symbol::Comma) => Some(at + 1),
-        _ => None,
-    }
-}
-
-// The place behind a semicolon, where one stands at the place.
-pub(crate) fn after_semicolon(tokens: &[Token], at: usize) -> Option<usize>
-    ensures { option_map (from tokens.now) result ≡ after_semicolon (from tokens.now at) }
-{
-    let token = token_at(tokens, at)?;
-    match token.kind {
-        TokenKind::Symbol(Symbol::Semicolon) => Some(at + 1),
+        TokenKind::Keyword(found) => { if found == keyword { Some(at + 1) } else { None } }
         _ => None,
     }
 }
 
 // The place behind the end of a line, where it stands at the place.
 pub(crate) fn after_newline(tokens: &[Token], at: usize) -> Option<usize>
-    ensures { option_map (from tokens.now) result ≡ after_newline (from tokens.now at) }
+    ensures { option_map (from tokens.now) result ≡ after NEWLINE (from tokens.now at) }
 {
     let token = token_at(tokens, at)?;
     match token.kind {
@@ -106,20 +76,9 @@ pub(crate) fn after_newline(tokens: &[Token], at: usize) -> Option<usize>
     }
 }
 
-// The place behind a colon, where one stands at the place.
-pub(crate) fn after_colon(tokens: &[Token], at: usize) -> Option<usize>
-    ensures { option_map (from tokens.now) result ≡ after_colon (from tokens.now at) }
-{
-    let token = token_at(tokens, at)?;
-    match token.kind {
-        TokenKind::Symbol(Symbol::Colon) => Some(at + 1),
-        _ => None,
-    }
-}
-
 // The place behind an indent, where one stands at the place.
 pub(crate) fn after_indent(tokens: &[Token], at: usize) -> Option<usize>
-    ensures { option_map (from tokens.now) result ≡ after_indent (from tokens.now at) }
+    ensures { option_map (from tokens.now) result ≡ after INDENT (from tokens.now at) }
 {
     let token = token_at(tokens, at)?;
     match token.kind {
@@ -130,143 +89,11 @@ pub(crate) fn after_indent(tokens: &[Token], at: usize) -> Option<usize>
 
 // The place behind a dedent, where one stands at the place.
 pub(crate) fn after_dedent(tokens: &[Token], at: usize) -> Option<usize>
-    ensures { option_map (from tokens.now) result ≡ after_dedent (from tokens.now at) }
+    ensures { option_map (from tokens.now) result ≡ after DEDENT (from tokens.now at) }
 {
     let token = token_at(tokens, at)?;
     match token.kind {
         TokenKind::Dedent => Some(at + 1),
-        _ => None,
-    }
-}
-
-// The place behind an `elif`, where one stands at the place.
-pub(crate) fn after_elif(tokens: &[Token], at: usize) -> Option<usize>
-    ensures { option_map (from tokens.now) result ≡ after_elif (from tokens.now at) }
-{
-    let token = token_at(tokens, at)?;
-    match token.kind {
-        TokenKind::Keyword(Keyword::Elif) => Some(at + 1),
-        _ => None,
-    }
-}
-
-// The place behind an `in`, where one stands at the place.
-pub(crate) fn after_in(tokens: &[Token], at: usize) -> Option<usize>
-    ensures { option_map (from tokens.now) result ≡ after_in (from tokens.now at) }
-{
-    let token = token_at(tokens, at)?;
-    match token.kind {
-        TokenKind::Keyword(Keyword::In) => Some(at + 1),
-        _ => None,
-    }
-}
-
-// The place behind an `except`, where one stands at the place.
-pub(crate) fn after_except(tokens: &[Token], at: usize) -> Option<usize>
-    ensures { option_map (from tokens.now) result ≡ after_except (from tokens.now at) }
-{
-    let token = token_at(tokens, at)?;
-    match token.kind {
-        TokenKind::Keyword(Keyword::Except) => Some(at + 1),
-        _ => None,
-    }
-}
-
-// The place behind a `finally`, where one stands at the place.
-pub(crate) fn after_finally(tokens: &[Token], at: usize) -> Option<usize>
-    ensures { option_map (from tokens.now) result ≡ after_finally (from tokens.now at) }
-{
-    let token = token_at(tokens, at)?;
-    match token.kind {
-        TokenKind::Keyword(Keyword::Finally) => Some(at + 1),
-        _ => None,
-    }
-}
-
-// The place behind an `as`, where one stands at the place.
-pub(crate) fn after_as(tokens: &[Token], at: usize) -> Option<usize>
-    ensures { option_map (from tokens.now) result ≡ after_as (from tokens.now at) }
-{
-    let token = token_at(tokens, at)?;
-    match token.kind {
-        TokenKind::Keyword(Keyword::As) => Some(at + 1),
-        _ => None,
-    }
-}
-
-// The place behind a `return`, where one stands at the place.
-pub(crate) fn after_return(tokens: &[Token], at: usize) -> Option<usize>
-    ensures { option_map (from tokens.now) result ≡ after_return (from tokens.now at) }
-{
-    let token = token_at(tokens, at)?;
-    match token.kind {
-        TokenKind::Keyword(Keyword::Return) => Some(at + 1),
-        _ => None,
-    }
-}
-
-// The place behind a `global`, where one stands at the place.
-pub(crate) fn after_global(tokens: &[Token], at: usize) -> Option<usize>
-    ensures { option_map (from tokens.now) result ≡ after_global (from tokens.now at) }
-{
-    let token = token_at(tokens, at)?;
-    match token.kind {
-        TokenKind::Keyword(Keyword::Global) => Some(at + 1),
-        _ => None,
-    }
-}
-
-// The place behind a `raise`, where one stands at the place.
-pub(crate) fn after_raise(tokens: &[Token], at: usize) -> Option<usize>
-    ensures { option_map (from tokens.now) result ≡ after_raise (from tokens.now at) }
-{
-    let token = token_at(tokens, at)?;
-    match token.kind {
-        TokenKind::Keyword(Keyword::Raise) => Some(at + 1),
-        _ => None,
-    }
-}
-
-// The place behind a `not`, where one stands at the place.
-pub(crate) fn after_not(tokens: &[Token], at: usize) -> Option<usize>
-    ensures { option_map (from tokens.now) result ≡ after_not (from tokens.now at) }
-{
-    let token = token_at(tokens, at)?;
-    match token.kind {
-        TokenKind::Keyword(Keyword::Not) => Some(at + 1),
-        _ => None,
-    }
-}
-
-// The place behind an `else`, where one stands at the place.
-pub(crate) fn after_else(tokens: &[Token], at: usize) -> Option<usize>
-    ensures { option_map (from tokens.now) result ≡ after_else (from tokens.now at) }
-{
-    let token = token_at(tokens, at)?;
-    match token.kind {
-        TokenKind::Keyword(Keyword::Else) => Some(at + 1),
-        _ => None,
-    }
-}
-
-// The place behind an `and`, where one stands at the place.
-pub(crate) fn after_and(tokens: &[Token], at: usize) -> Option<usize>
-    ensures { option_map (from tokens.now) result ≡ after_and (from tokens.now at) }
-{
-    let token = token_at(tokens, at)?;
-    match token.kind {
-        TokenKind::Keyword(Keyword::And) => Some(at + 1),
-        _ => None,
-    }
-}
-
-// The place behind an `or`, where one stands at the place.
-pub(crate) fn after_or(tokens: &[Token], at: usize) -> Option<usize>
-    ensures { option_map (from tokens.now) result ≡ after_or (from tokens.now at) }
-{
-    let token = token_at(tokens, at)?;
-    match token.kind {
-        TokenKind::Keyword(Keyword::Or) => Some(at + 1),
         _ => None,
     }
 }
@@ -276,26 +103,26 @@ pub(crate) fn after_boolean(operator: BooleanOperator, tokens: &[Token], at: usi
     ensures { option_map (from tokens.now) result ≡ after_boolean (boolean_of operator) (from tokens.now at) }
 {
     match operator {
-        BooleanOperator::And => after_and(tokens, at),
-        BooleanOperator::Or => after_or(tokens, at),
+        BooleanOperator::And => after_word(tokens, at, Keyword::And),
+        BooleanOperator::Or => after_word(tokens, at, Keyword::Or),
     }
 }
 
 // The place behind a closed bracket, before which a comma may stand.
 pub(crate) fn after_arguments(tokens: &[Token], at: usize) -> Option<usize>
-    ensures { option_map (from tokens.now) result ≡ closing after_comma after_close (from tokens.now at) }
+    ensures { option_map (from tokens.now) result ≡ closing (after (Sign token.Comma)) (after (Sign token.RightParenthesis)) (from tokens.now at) }
 {
-    match after_comma(tokens, at) {
-        Some(behind) => after_close(tokens, behind),
-        None => after_close(tokens, at),
+    match after(tokens, at, Symbol::Comma) {
+        Some(behind) => after(tokens, behind, Symbol::RightParenthesis),
+        None => after(tokens, at, Symbol::RightParenthesis),
     }
 }
 
 // The place behind the end of a line, before which a semicolon may stand.
 pub(crate) fn after_line(tokens: &[Token], at: usize) -> Option<usize>
-    ensures { option_map (from tokens.now) result ≡ closing after_semicolon after_newline (from tokens.now at) }
+    ensures { option_map (from tokens.now) result ≡ closing (after (Sign token.Semicolon)) (after NEWLINE) (from tokens.now at) }
 {
-    match after_semicolon(tokens, at) {
+    match after(tokens, at, Symbol::Semicolon) {
         Some(behind) => after_newline(tokens, behind),
         None => after_newline(tokens, at),
     }
@@ -305,8 +132,8 @@ pub(crate) fn after_line(tokens: &[Token], at: usize) -> Option<usize>
 pub(crate) fn after_catch(tokens: &[Token], at: usize) -> Option<usize>
     ensures { option_map (from tokens.now) result ≡ after_catch (from tokens.now at) }
 {
-    let behind = after_except(tokens, at)?;
-    match after_colon(tokens, behind) {
+    let behind = after_word(tokens, at, Keyword::Except)?;
+    match after(tokens, behind, Symbol::Colon) {
         Some(_) => None,
         None => Some(behind),
     }

@@ -5,8 +5,8 @@ ghost use Rattle.si_parse.specs.Reading.{name_at, names_by, listed_by, parameter
 ghost use Rattle.si_parse.specs.Gives.{Gives, from};
 
 use crate::fault::ParseFault;
-use crate::lookahead::{after_arguments, after_close, after_comma, line_at, token_at};
-use si_token::{Token, TokenKind};
+use crate::lookahead::{after, after_arguments, line_at, token_at};
+use si_token::{Symbol, Token, TokenKind};
 use std::alloc::Global;
 
 // The most parameters of a function.
@@ -42,7 +42,7 @@ pub(crate) fn names(alloc: Global, tokens: &[Token], start: usize) -> Names
     names.push(first)?;
     let mut at = behind;
     for _turn in behind..tokens.len() {
-        let Some(more) = after_comma(tokens, at) else {
+        let Some(more) = after(tokens, at, Symbol::Comma) else {
             return Ok((names, at));
         };
         let (next, end) = name(alloc, tokens, more)?;
@@ -57,7 +57,7 @@ pub(crate) fn names(alloc: Global, tokens: &[Token], start: usize) -> Names
 fn listed(alloc: Global, tokens: &[Token], start: usize) -> Names
     ensures { Gives (λ x. (map string_bytes x.0.items, from tokens.now x.1)) result (listed_by (from tokens.now start)) }
 {
-    if let Some(behind) = after_close(tokens, start) {
+    if let Some(behind) = after(tokens, start, Symbol::RightParenthesis) {
         return Ok((Vec::new(alloc), behind));
     }
     let mut names = Vec::new(alloc);
@@ -68,7 +68,7 @@ fn listed(alloc: Global, tokens: &[Token], start: usize) -> Names
         if let Some(end) = after_arguments(tokens, behind) {
             return Ok((names, end));
         }
-        let Some(more) = after_comma(tokens, behind) else {
+        let Some(more) = after(tokens, behind, Symbol::Comma) else {
             return Err(ParseFault::Syntax(line_at(tokens, behind)));
         };
         at = more;

@@ -7,7 +7,7 @@ ghost use Rattle.si_syntax.specs.Trees.{binary_of, unary_of, comparison_of, bool
 ghost use Rattle.si_parse.specs.Reading.{role_of, word_role, continuation_at, strength_of, rest_of, prefix_at, comparison_symbol, comparison_at};
 ghost use Rattle.si_parse.specs.Gives.{from, continuation_view};
 
-use crate::lookahead::{after_not, token_at};
+use crate::lookahead::{after_word, token_at};
 use si_syntax::{BinaryOperator, BooleanOperator, ComparisonOperator, UnaryOperator};
 use si_token::{Keyword, Symbol, Token, TokenKind};
 
@@ -196,7 +196,7 @@ pub(crate) fn comparison_at(tokens: &[Token], at: usize) -> Option<(ComparisonOp
             let operator = comparison_symbol(symbol)?;
             Some((operator, at + 1))
         }
-        TokenKind::Keyword(Keyword::Is) => match after_not(tokens, at + 1) {
+        TokenKind::Keyword(Keyword::Is) => match after_word(tokens, at + 1, Keyword::Not) {
             Some(behind) => Some((ComparisonOperator::IsNot, behind)),
             None => Some((ComparisonOperator::Is, at + 1)),
         },

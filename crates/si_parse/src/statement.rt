@@ -10,10 +10,7 @@ ghost use Rattle.si_parse.specs.Gives.{Gives, from};
 use crate::block::{MAX_NESTING, block};
 use crate::expression::expression;
 use crate::fault::ParseFault;
-use crate::lookahead::{
-    after_global, after_line, after_raise, after_return, after_semicolon, ends_small, line_at,
-    token_at,
-};
+use crate::lookahead::{after, after_line, after_word, ends_small, line_at, token_at};
 use crate::name::names;
 use crate::precedence::ANY;
 use crate::target::as_target;
@@ -141,13 +138,13 @@ fn statement(alloc: Global, tokens: &[Token], start: usize) -> Result<(Stmt, usi
     if let Some((word, behind)) = word_statement(tokens, start) {
         return Ok((word, behind));
     }
-    if let Some(behind) = after_return(tokens, start) {
+    if let Some(behind) = after_word(tokens, start, Keyword::Return) {
         return returned(alloc, line_at(tokens, start), tokens, behind);
     }
-    if let Some(behind) = after_global(tokens, start) {
+    if let Some(behind) = after_word(tokens, start, Keyword::Global) {
         return global(alloc, line_at(tokens, start), tokens, behind);
     }
-    if let Some(behind) = after_raise(tokens, start) {
+    if let Some(behind) = after_word(tokens, start, Keyword::Raise) {
         return raised(alloc, tokens, behind);
     }
     spelled(alloc, tokens, start)
@@ -171,7 +168,7 @@ pub(crate) fn line(
         if let Some(end) = after_line(tokens, behind) {
             return Ok((body, end));
         }
-        let Some(more) = after_semicolon(tokens, behind) else {
+        let Some(more) = after(tokens, behind, Symbol::Semicolon) else {
             return Err(ParseFault::Syntax(line_at(tokens, behind)));
         };
         at = more;

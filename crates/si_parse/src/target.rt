@@ -7,11 +7,11 @@ ghost use Rattle.si_parse.specs.Gives.{Gives, from};
 
 use crate::expression::expression;
 use crate::fault::ParseFault;
-use crate::lookahead::{after_in, line_at};
+use crate::lookahead::{after_word, line_at};
 use crate::precedence::FACTOR;
 use si_plain::limits::MAX_EXPRESSION_DEPTH;
 use si_syntax::{Expr, Target};
-use si_token::Token;
+use si_token::{Keyword, Token};
 use std::alloc::Global;
 
 // The target that an expression is.
@@ -37,7 +37,7 @@ pub(crate) fn target(
     let Some(target) = as_target(first) else {
         return Err(ParseFault::Syntax(line_at(tokens, start)));
     };
-    match after_in(tokens, at) {
+    match after_word(tokens, at, Keyword::In) {
         Some(behind) => Ok((target, behind)),
         None => Err(ParseFault::Syntax(line_at(tokens, at))),
     }

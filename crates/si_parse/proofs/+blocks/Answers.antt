@@ -18,7 +18,7 @@ block::block-returns t c =
 
 pub block::elifs-loop-turn-preserved : goal.block::elifs-loop-turn-preserved
 block::elifs-loop-turn-preserved t c =
-    let next = sym c.after_elif.ensures ∙ ap (option_map (from c.args.tokens.now)) c.in-Some.is in
+    let next = sym c.after_word.ensures ∙ ap (option_map (from c.args.tokens.now)) c.in-Some.is in
     let pushed = ap (map (λ b. branch_of b.0 b.1.items)) c.in_ok-push.ensures.items ∙ map-append (λ b. branch_of b.0 b.1.items) c.loop-turn.elifs.items (c.in_ok-next.next ∷ []) in
     let read = elif_read (block_at c.args.parts) (map (λ b. branch_of b.0 b.1.items) c.loop-turn.elifs.items) (from c.args.tokens.now c.loop-turn.at) (from c.args.tokens.now c.in-Some.behind) _ _ next c.in_ok-next.ensures in
     ap (λ l. many_by (elif_by (block_at c.args.parts)) no_elif (length c.args.tokens.now - (c.loop-turn._turn + 1)) l (from c.args.tokens.now c.in_ok-next.end)) pushed
@@ -45,7 +45,7 @@ handler::catches-loop-turn-preserved t c =
 
 pub handler::try_statement-returns : goal.handler::try_statement-returns
 handler::try_statement-returns t c =
-    let over = sym c.after_finally.ensures ∙ ap (option_map (from c.args.tokens.now)) c.in_default.is in
+    let over = sym c.after_word.ensures ∙ ap (option_map (from c.args.tokens.now)) c.in_default.is in
     let some : 0 < length (map clause_of c.in_ok-clauses.clauses.items) =
     omega (arith, length-map c.in_ok-clauses.clauses.items clause_of, c.in_ok-clauses.clauses.ok.0, not_empty c.in_ok-clauses.clauses.len _ c.is_empty.ensures c.if-is_empty.false) in
     try_read (block_at c.args.parts) (from c.args.tokens.now c.args.start) _ _ _ _ _ c.in_ok-body.ensures c.in_ok-clauses.ensures over some

@@ -1,7 +1,8 @@
 use Rattle.std.proofs.Common.{◌≡◌, ◌+◌, ◌-◌, ◌*◌, ◌≤◌, length, map}
-use Rattle.si_semantics.specs.Grammar.{item_level}
+use Rattle.si_semantics.specs.Tokens as token
+use Rattle.si_semantics.specs.Grammar.{item_level, Sign}
 use Rattle.si_syntax.specs.Trees.{expr_of, link_of, boolean_of}
-use Rattle.si_parse.specs.Reading.{continued_by, arguments_by, operands_by, links_by, separated_by, chain_by, with_word, after_boolean, comparison_at, compared_by, with_argument, argument_by, after_comma, after_close, expression_at}
+use Rattle.si_parse.specs.Reading.{continued_by, arguments_by, operands_by, links_by, separated_by, chain_by, with_word, after_boolean, comparison_at, compared_by, with_argument, argument_by, expression_at, after}
 use Rattle.si_parse.specs.Gives.{from, argument_of}
 use Rattle.si_parse.proofs.expression.+expressions.Given as goal
 
@@ -66,7 +67,7 @@ invariant-continued-loop-turn l = record {
 abbrev pub invariant-arguments-loop-turn : goal.invariant-arguments-loop-turn
 invariant-arguments-loop-turn l = record {
   shallow : l.depth ≤ l.parts;
-  reads : separated_by with_argument (λ r. r.2) (argument_by (expression_at l.parts)) after_comma after_close (length l.tokens - l._turn) (map argument_of l.arguments.items, l.depth) (from l.tokens l.at)
+  reads : separated_by with_argument (λ r. r.2) (argument_by (expression_at l.parts)) (after (Sign token.Comma)) (after (Sign token.RightParenthesis)) (length l.tokens - l._turn) (map argument_of l.arguments.items, l.depth) (from l.tokens l.at)
       ≡ arguments_by (expression_at l.parts) (from l.tokens l.start);
 }
 

@@ -1,8 +1,10 @@
 use Rattle.std.proofs.Common.{◌≡◌, ◌-◌, length, map, string_bytes}
-use Rattle.si_parse.specs.Reading.{separated_by, with_parameter, name_at, after_comma, after_close, listed_by}
+use Rattle.si_semantics.specs.Tokens as token
+use Rattle.si_semantics.specs.Grammar.{Sign}
+use Rattle.si_parse.specs.Reading.{separated_by, with_parameter, name_at, listed_by, after}
 use Rattle.si_parse.specs.Gives.{from}
 use Rattle.si_parse.proofs.name.listed.Given as goal
 
 abbrev pub invariant-loop-turn : goal.invariant-loop-turn
 invariant-loop-turn l =
-    separated_by with_parameter (λ r. r.1) name_at after_comma after_close (length l.tokens - l._turn) (map string_bytes l.names.items) (from l.tokens l.at) ≡ listed_by (from l.tokens l.start)
+    separated_by with_parameter (λ r. r.1) name_at (after (Sign token.Comma)) (after (Sign token.RightParenthesis)) (length l.tokens - l._turn) (map string_bytes l.names.items) (from l.tokens l.at) ≡ listed_by (from l.tokens l.start)

@@ -1,11 +1,12 @@
 use Rattle.std.proofs.Common.{◌≡◌, ◌-◌, length, map}
-use Rattle.si_semantics.specs.Grammar.{max_depth}
+use Rattle.si_semantics.specs.Tokens as token
+use Rattle.si_semantics.specs.Grammar.{max_depth, Sign, NEWLINE}
 use Rattle.si_syntax.specs.Trees.{stmt_of}
-use Rattle.si_parse.specs.Reading.{separated_by, with_statement, statement_by, after_semicolon, after_newline, expression_at, line_by}
+use Rattle.si_parse.specs.Reading.{separated_by, with_statement, statement_by, expression_at, line_by, after}
 use Rattle.si_parse.specs.Gives.{from}
 use Rattle.si_parse.proofs.statement.line.Given as goal
 
 abbrev pub invariant-loop-turn : goal.invariant-loop-turn
 invariant-loop-turn l =
-    separated_by with_statement (λ r. r.1) (statement_by (expression_at max_depth)) after_semicolon after_newline (length l.tokens - l._turn) (map stmt_of l.body.items) (from l.tokens l.at)
+    separated_by with_statement (λ r. r.1) (statement_by (expression_at max_depth)) (after (Sign token.Semicolon)) (after NEWLINE) (length l.tokens - l._turn) (map stmt_of l.body.items) (from l.tokens l.at)
     ≡ line_by (expression_at max_depth) (map stmt_of l.fn.before.items) (from l.tokens l.start)
