@@ -29,9 +29,9 @@ use Rattle.si_machine.specs.declared.step.Step.TheVariants.{Local, Ended, Starve
 use Rattle.si_machine.specs.Values.{value_of, bound_of, Fits, FitsBound}
 use Rattle.si_machine.specs.Causes.{threw, not_bound, not_bound_cause}
 use Rattle.si_machine.specs.Stacks.{OperandsSeen, SlotsSeen, back_with, back, left_by, slot_in, unbound, passed, entered}
-use Rattle.si_machine.specs.States.{AreSound, IsSound, Did, place_in, innermost, blocks_with, blocks_of, slots_of, world_of, line_of, FitsBlock, calls_in, with_operands, back_at, IsRaised, IsPrinted, IsCallee, IsEntered, entered_operands, entered_slots}
+use Rattle.si_machine.specs.States.{AreSound, IsSound, IsReady, Did, Does, place_in, innermost, blocks_with, blocks_of, slots_of, world_of, line_of, FitsBlock, calls_in, with_operands, back_at, IsRaised, IsPrinted, IsCallee, IsEntered, entered_operands, entered_slots}
 use Rattle.si_machine.proofs.Growth.{All-innermost}
-use Rattle.si_machine.proofs.Lines.{line_on, yields_on, moved, with_here, starved_did, placed_did, raised_did}
+use Rattle.si_machine.proofs.Lines.{line_on, yields_on, moved, with_here, below, topmost, starved_did, placed_did}
 
 -- a call's line
 drop_map : {A B : Type 0} (f : A → B) (n : ℕ) (xs : List A) → drop n (map f xs) ≡ map f (drop n xs)
@@ -63,24 +63,24 @@ call_line n f args s top args_are =
     ∙ ap (λ vs. calls es (g f) vs (s.pc + 1) (map g (drop (n + 1) s.operands.here)) (slots_of s) (blocks_of s) w) given
 
 -- a call that raises an exception
-pub call_refused : (cause : Cause) (n : ℕ) (f : Value) (args : List Value) (old new : State) (r : Step) → IsSound old → drop n old.operands.here ≡ f ∷ drop (n + 1) old.operands.here → args ≡ reverse (take n old.operands.here) → calls_on f args old (drop (n + 1) old.operands.here) ≡ yields_on (threw old.table.names cause (world_of old)) old (drop (n + 1) old.operands.here) → IsRaised cause old new r → Did (line_of (CallTop n) old) old new r
-call_refused cause n f args old new r h top args_are gives e =
+pub call_refused : (cause : Cause) (n : ℕ) (f : Value) (args : List Value) (old new : State) (r : Step) → drop n old.operands.here ≡ f ∷ drop (n + 1) old.operands.here → args ≡ reverse (take n old.operands.here) → calls_on f args old (drop (n + 1) old.operands.here) ≡ yields_on (threw old.table.names cause (world_of old)) old (drop (n + 1) old.operands.here) → IsRaised cause old new r → Does (CallTop n) old new r
+call_refused cause n f args old new r top args_are gives e =
     let P : Line → Type 0 = λ l. Did l old new r in
-    subst P (sym (call_line n f args old top args_are ∙ gives)) (raised_did cause (drop (n + 1) old.operands.here) old new r h e)
+    subst P (sym (call_line n f args old top args_are ∙ gives)) e
 
-pub call_raises : (n : ℕ) (f : Value) (args : List Value) (old new : State) (r : Step) → IsSound old → drop n old.operands.here ≡ f ∷ drop (n + 1) old.operands.here → args ≡ reverse (take n old.operands.here) → ((es : List Entry) (vs : List pure.Value) (next : ℕ) (ops : List pure.Value) (slots : List (Option pure.Value)) (bs : List machine.Block) (w : World) → calls es (value_of old.texts f) vs next ops slots bs w ≡ yields (threw old.table.names NotCallable w) next ops slots bs) → IsRaised NotCallable old new r → Did (line_of (CallTop n) old) old new r
-call_raises n f args old new r h top args_are gives e =
+pub call_raises : (n : ℕ) (f : Value) (args : List Value) (old new : State) (r : Step) → drop n old.operands.here ≡ f ∷ drop (n + 1) old.operands.here → args ≡ reverse (take n old.operands.here) → ((es : List Entry) (vs : List pure.Value) (next : ℕ) (ops : List pure.Value) (slots : List (Option pure.Value)) (bs : List machine.Block) (w : World) → calls es (value_of old.texts f) vs next ops slots bs w ≡ yields (threw old.table.names NotCallable w) next ops slots bs) → IsRaised NotCallable old new r → Does (CallTop n) old new r
+call_raises n f args old new r top args_are gives e =
     let g = value_of old.texts in
-    call_refused NotCallable n f args old new r h top args_are (gives (entries_of old.table) (map g args) (old.pc + 1) (map g (drop (n + 1) old.operands.here)) (slots_of old) (blocks_of old) (world_of old)) e
+    call_refused NotCallable n f args old new r top args_are (gives (entries_of old.table) (map g args) (old.pc + 1) (map g (drop (n + 1) old.operands.here)) (slots_of old) (blocks_of old) (world_of old)) e
 
 -- a line is printed
-pub print_did : (t : pure.Text) (n : ℕ) (args : List Value) (old mid new : State) (r : Step) → IsSound old → old.standing ≡ standing.Running → drop n old.operands.here ≡ value.BuiltIn Print ∷ drop (n + 1) old.operands.here → args ≡ reverse (take n old.operands.here) → mid ≡ record old { line = mid.line } → text_line (world_of old).store (map (value_of old.texts) args) ≡ Ok t → string_bytes mid.line ≡ encode_utf8_all t → IsPrinted n mid new r → Did (line_of (CallTop n) old) old new r
-print_did t n args old mid new Ended h run top args_are m written line e = absurd e
-print_did t n args old mid new Starved h run top args_are m written line e =
+pub print_did : (t : pure.Text) (n : ℕ) (args : List Value) (old mid new : State) (r : Step) → IsReady old → drop n old.operands.here ≡ value.BuiltIn Print ∷ drop (n + 1) old.operands.here → args ≡ reverse (take n old.operands.here) → mid ≡ record old { line = mid.line } → text_line (world_of old).store (map (value_of old.texts) args) ≡ Ok t → string_bytes mid.line ≡ encode_utf8_all t → IsPrinted n mid new r → Does (CallTop n) old new r
+print_did t n args old mid new Ended h top args_are m written line e = absurd e
+print_did t n args old mid new Starved h top args_are m written line e =
     let M : State → Type 0 = λ s. (new ≡ record s { standing = standing.Starved; printed = new.printed }) × (string_bytes new.printed ≡ string_bytes s.printed) in
     let k = subst M m e in
     (k.0 ∙ ap (λ l. let s : State = record old { standing = standing.Starved; line = l; printed = new.printed } in s) (sym (ap (λ s. s.line) k.0)) ∙ ap (λ l. let s : State = record old { standing = standing.Starved; line = new.line; printed = new.printed; store = l } in s) (sym (ap (λ s. s.store) k.0)), k.1, ap (λ (s : State). s.store.items) k.0)
-print_did t n args old mid new Local h run top args_are m written line e =
+print_did t n args old mid new Local h top args_are m written line e =
     let g = value_of old.texts in
     let rest = drop (n + 1) old.operands.here in
     let l = yields_on (Gave pure.Nothing (Some t) (world_of old)) old rest in
@@ -92,13 +92,13 @@ print_did t n args old mid new Local h run top args_are m written line e =
     subst Q (sym (call_line n (value.BuiltIn Print) args old top args_are ∙ ap (λ x. yields_on (printing x (world_of old)) old rest) written))
     (subst P (sym k.0) (λ bytes. (
       record {
-        place = ap (λ st. place_in st (old.pc + 1) (pure.Nothing ∷ map g rest) (slots_of old) (blocks_of old)) (sym run);
+        place = ap (λ st. place_in st (old.pc + 1) (pure.Nothing ∷ map g rest) (slots_of old) (blocks_of old)) (sym h.running);
         world = refl;
         printed = bytes;
         code = refl;
-        sound = record { stacks = with_here (length old.texts) (value.None ∷ rest) old h.stacks (All-cons F value.None rest tt (All-drop F (n + 1) old.operands.here h.stacks.here)); blocks = h.blocks; globals = h.globals; store = h.store; literals = h.literals; slots = h.slots; built_ins = h.built_ins; short = h.short };
+        sound = record { stacks = with_here (length old.texts) (value.None ∷ rest) old h.sound.stacks (All-cons F value.None rest tt (All-drop F (n + 1) old.operands.here h.sound.stacks.here)); blocks = h.sound.blocks; globals = h.sound.globals; store = h.sound.store; literals = h.sound.literals; slots = h.sound.slots; built_ins = h.sound.built_ins; short = h.sound.short };
       },
-      run,
+      h.running,
     )) (k.1 ∙ ap (λ b. string_bytes old.printed ++ b) line))
 
 -- ---- locals
@@ -121,45 +121,42 @@ load_unbound names j w = pick (nat_lt max_length (length (not_bound (text_at nam
     pick true = refl
     pick false = refl
 
-pub unbound_local_did : (j k : ℕ) (old new : State) (r : Step) → IsSound old → slot_in k old.slots.here ≡ None → IsRaised (not_bound_cause old.table.names j) old new r → Did (line_of (LoadLocal (text_at old.table.names j) k) old) old new r
-unbound_local_did j k old new r h is e =
+pub unbound_local_did : (j k : ℕ) (old new : State) (r : Step) → slot_in k old.slots.here ≡ None → IsRaised (not_bound_cause old.table.names j) old new r → Does (LoadLocal (text_at old.table.names j) k) old new r
+unbound_local_did j k old new r is e =
     let names = old.table.names in
     let P : Line → Type 0 = λ l. Did l old new r in
-    subst P (sym (load_line (text_at names j) k None old is ∙ ap (λ f. yields_on f old old.operands.here) (load_unbound names j (world_of old)))) (raised_did (not_bound_cause names j) old.operands.here old new r h e)
+    subst P (sym (load_line (text_at names j) k None old is ∙ ap (λ f. yields_on f old old.operands.here) (load_unbound names j (world_of old)))) e
 
 -- a slot is set, with operands that fit the texts
-local_set : (k : ℕ) (o : Option Value) (rest : List Value) (old new : State) → IsSound old → old.standing ≡ standing.Running → FitsBound (length old.texts) o → All (Fits (length old.texts)) rest → new ≡ record (moved (old.pc + 1) rest old) { slots = record old.slots { here = slice_set old.slots.here k o } } → Did (goes (At (old.pc + 1) (map (value_of old.texts) rest) (slice_set (slots_of old) k (bound_of old.texts o)) (blocks_of old)) (world_of old)) old new Local
-local_set k o rest old new h run fits below e =
+local_set : (k : ℕ) (o : Option Value) (rest : List Value) (old new : State) → IsReady old → FitsBound (length old.texts) o → All (Fits (length old.texts)) rest → new ≡ record (moved (old.pc + 1) rest old) { slots = record old.slots { here = slice_set old.slots.here k o } } → Did (goes (At (old.pc + 1) (map (value_of old.texts) rest) (slice_set (slots_of old) k (bound_of old.texts o)) (blocks_of old)) (world_of old)) old new Local
+local_set k o rest old new h fits below e =
     let L = FitsBound (length old.texts) in
     let slots : SlotsSeen = record old.slots { here = slice_set old.slots.here k o } in
     let stacks : AreSound (length old.texts) (with_operands rest old.operands) slots old.blocks = record {
       here = below;
-      below = h.stacks.below;
-      locals = All-set L old.slots.here k o fits h.stacks.locals;
-      callers = h.stacks.callers;
-      operands_each = h.stacks.operands_each;
-      locals_each = h.stacks.locals_each;
+      below = h.sound.stacks.below;
+      locals = All-set L old.slots.here k o fits h.sound.stacks.locals;
+      callers = h.sound.stacks.callers;
+      operands_each = h.sound.stacks.operands_each;
+      locals_each = h.sound.stacks.locals_each;
     } in
     let P : List (Option pure.Value) → Type 0 = λ xs. Did (goes (At (old.pc + 1) (map (value_of old.texts) rest) xs (blocks_of old)) (world_of old)) old new Local in
-    subst P (map-set (bound_of old.texts) old.slots.here k o) (placed_did (old.pc + 1) (with_operands rest old.operands) slots old.blocks old new h run stacks h.blocks e)
+    subst P (map-set (bound_of old.texts) old.slots.here k o) (placed_did (old.pc + 1) (with_operands rest old.operands) slots old.blocks old new h stacks h.sound.blocks e)
 
 -- a slot is bound to the topmost operand
-pub store_local_did : (k : ℕ) (v : Value) (rest : List Value) (old new : State) → IsSound old → old.standing ≡ standing.Running → old.operands.here ≡ v ∷ rest → new ≡ record (moved (old.pc + 1) rest old) { slots = record old.slots { here = slice_set old.slots.here k (Some v) } } → Did (line_of (StoreLocal k) old) old new Local
-store_local_did k v rest old new h run top e =
-    let F = Fits (length old.texts) in
-    let A : List Value → Type 0 = λ vs. All F vs in
-    let ops : All F (v ∷ rest) = subst A top h.stacks.here in
+pub store_local_did : (k : ℕ) (v : Value) (rest : List Value) (old new : State) → IsReady old → old.operands.here ≡ v ∷ rest → new ≡ record (moved (old.pc + 1) rest old) { slots = record old.slots { here = slice_set old.slots.here k (Some v) } } → Does (StoreLocal k) old new Local
+store_local_did k v rest old new h top e =
     let P : Line → Type 0 = λ l. Did l old new Local in
-    subst P (sym (ap (line_on (StoreLocal k) old) top)) (local_set k (Some v) rest old new h run (All-head F v rest ops) (All-tail F v rest ops) e)
+    subst P (sym (ap (line_on (StoreLocal k) old) top)) (local_set k (Some v) rest old new h (topmost old h v rest top) (below old h v rest top) e)
 
 -- a slot is unbound
-pub unbind_local_did : (k : ℕ) (old new : State) → IsSound old → old.standing ≡ standing.Running → new ≡ record old { pc = old.pc + 1; slots = record old.slots { here = slice_set old.slots.here k None } } → Did (line_of (UnbindLocal k) old) old new Local
-unbind_local_did k old new h run e = local_set k None old.operands.here old new h run tt h.stacks.here e
+pub unbind_local_did : (k : ℕ) (old new : State) → IsReady old → new ≡ record old { pc = old.pc + 1; slots = record old.slots { here = slice_set old.slots.here k None } } → Does (UnbindLocal k) old new Local
+unbind_local_did k old new h e = local_set k None old.operands.here old new h tt h.sound.stacks.here e
 
 -- ---- calls with an argument by name
 
-pub named_raises : (cause : Cause) (n : ℕ) (f : Value) (old new : State) (r : Step) → IsSound old → drop n old.operands.here ≡ f ∷ drop (n + 1) old.operands.here → ((texts names : List pure.Text) (w : World) → call_by_name (value_of texts f) w ≡ threw names cause w) → IsRaised cause old new r → Did (line_of (CallByName n) old) old new r
-named_raises cause n f old new r h top gives e =
+pub named_raises : (cause : Cause) (n : ℕ) (f : Value) (old new : State) (r : Step) → drop n old.operands.here ≡ f ∷ drop (n + 1) old.operands.here → ((texts names : List pure.Text) (w : World) → call_by_name (value_of texts f) w ≡ threw names cause w) → IsRaised cause old new r → Does (CallByName n) old new r
+named_raises cause n f old new r top gives e =
     let g = value_of old.texts in
     let w = world_of old in
     let rest = drop (n + 1) old.operands.here in
@@ -167,7 +164,7 @@ named_raises cause n f old new r h top gives e =
     let line : line_of (CallByName n) old ≡ yields_on (threw old.table.names cause w) old rest =
     ap (λ vs. on_callee vs (λ u ops. yields (call_by_name u w) (old.pc + 1) ops (slots_of old) (blocks_of old)) (stuck w)) (drop_map g n old.operands.here ∙ ap (map g) top)
     ∙ ap (λ f. yields_on f old rest) (gives old.texts old.table.names w) in
-    subst P (sym line) (raised_did cause rest old new r h e)
+    subst P (sym line) e
 
 -- ---- returns
 
@@ -189,11 +186,11 @@ back_slots [] h = absurd (let no : ⊥ = omega (arith, h) in no)
 back_slots (xs ∷ lists) h = refl
 
 -- back in the caller, with a value
-pub back_did : (after : ℕ) (v : Value) (bs : List Block) (old new : State) → IsSound old → old.standing ≡ standing.Running → Fits (length old.texts) v → All (FitsBlock old.texts) bs → calls_in old.blocks ≡ calls_in bs + 1 → new ≡ record (back_at after v old) { blocks = bs } → Did (goes (At after (value_of old.texts v ∷ map (value_of old.texts) (innermost old.operands.below)) (map (bound_of old.texts) (innermost old.slots.below)) (blocks_with old.texts bs (drop 1 old.operands.below) (drop 1 old.slots.below))) (world_of old)) old new Local
-back_did after v bs old new h run fits blocks one e =
+pub back_did : (after : ℕ) (v : Value) (bs : List Block) (old new : State) → IsReady old → Fits (length old.texts) v → All (FitsBlock old.texts) bs → calls_in old.blocks ≡ calls_in bs + 1 → new ≡ record (back_at after v old) { blocks = bs } → Did (goes (At after (value_of old.texts v ∷ map (value_of old.texts) (innermost old.operands.below)) (map (bound_of old.texts) (innermost old.slots.below)) (blocks_with old.texts bs (drop 1 old.operands.below) (drop 1 old.slots.below))) (world_of old)) old new Local
+back_did after v bs old new h fits blocks one e =
     let F = Fits (length old.texts) in
     let L = FitsBound (length old.texts) in
-    let k = h.stacks in
+    let k = h.sound.stacks in
     let ops = callers_left (calls_in bs) old.operands.below (k.operands_each ∙ one) in
     let locals = callers_left (calls_in bs) old.slots.below (k.locals_each ∙ one) in
     let new_ops : OperandsSeen = record { here = v ∷ innermost old.operands.below; below = drop 1 old.operands.below } in
@@ -207,7 +204,7 @@ back_did after v bs old new h run fits blocks one e =
       locals_each = locals.1;
     } in
     let make : OperandsSeen → SlotsSeen → State = λ o x. record old { pc = after; operands = o; slots = x; blocks = bs } in
-    placed_did after new_ops new_slots bs old new h run stacks blocks
+    placed_did after new_ops new_slots bs old new h stacks blocks
     (e ∙ ap (λ o. make o (back old.slots.below)) (back_operands v old.operands.below ops.0) ∙ ap (make new_ops) (back_slots old.slots.below locals.0))
 
 -- there are callers where a call is under way
@@ -267,19 +264,19 @@ entered_line number name n f fit room s h top is fits has =
     ∙ ap (λ b. choose b (choose (nat_lt (length s.operands.below) max_calls) go deep) wrong) fits
     ∙ ap (λ b. choose fit (choose b go deep) wrong) has
 
-pub missing_raises : (number n : ℕ) (old new : State) (r : Step) → IsSound old → IsCallee number n old.operands.here → slice_get old.table.routines number ≡ None → IsRaised NotCallable old new r → Did (line_of (CallTop n) old) old new r
+pub missing_raises : (number n : ℕ) (old new : State) (r : Step) → IsReady old → IsCallee number n old.operands.here → slice_get old.table.routines number ≡ None → IsRaised NotCallable old new r → Does (CallTop n) old new r
 missing_raises number n old new r h callee is e =
-    call_refused NotCallable n (value.Function number callee.0) (reverse (take n old.operands.here)) old new r h callee.1 refl (function_line number callee.0 (reverse (take n old.operands.here)) None old (drop (n + 1) old.operands.here) h is) e
+    call_refused NotCallable n (value.Function number callee.0) (reverse (take n old.operands.here)) old new r callee.1 refl (function_line number callee.0 (reverse (take n old.operands.here)) None old (drop (n + 1) old.operands.here) h.sound is) e
 
-pub arguments_raise : (number n : ℕ) (f : Routine) (old new : State) (r : Step) → IsSound old → IsCallee number n old.operands.here → slice_get old.table.routines number ≡ Some f → n ≢ f.parameters → IsRaised WrongArguments old new r → Did (line_of (CallTop n) old) old new r
+pub arguments_raise : (number n : ℕ) (f : Routine) (old new : State) (r : Step) → IsReady old → IsCallee number n old.operands.here → slice_get old.table.routines number ≡ Some f → n ≢ f.parameters → IsRaised WrongArguments old new r → Does (CallTop n) old new r
 arguments_raise number n f old new r h callee is fits e =
     let P : Line → Type 0 = λ l. Did l old new r in
-    subst P (sym (entered_line number callee.0 n f false (nat_lt (length old.operands.below) max_calls) old h callee.1 is (ne_eqb n f.parameters fits) refl)) (raised_did WrongArguments (drop (n + 1) old.operands.here) old new r h e)
+    subst P (sym (entered_line number callee.0 n f false (nat_lt (length old.operands.below) max_calls) old h.sound callee.1 is (ne_eqb n f.parameters fits) refl)) e
 
-pub depth_raises : (number n : ℕ) (f : Routine) (old new : State) (r : Step) → IsSound old → IsCallee number n old.operands.here → slice_get old.table.routines number ≡ Some f → n ≡ f.parameters → max_calls ≤ length old.operands.below → IsRaised TooDeep old new r → Did (line_of (CallTop n) old) old new r
+pub depth_raises : (number n : ℕ) (f : Routine) (old new : State) (r : Step) → IsReady old → IsCallee number n old.operands.here → slice_get old.table.routines number ≡ Some f → n ≡ f.parameters → max_calls ≤ length old.operands.below → IsRaised TooDeep old new r → Does (CallTop n) old new r
 depth_raises number n f old new r h callee is fits has e =
     let P : Line → Type 0 = λ l. Did l old new r in
-    subst P (sym (entered_line number callee.0 n f true false old h callee.1 is (eq-eqb n f.parameters fits) (le-ltb (length old.operands.below) max_calls has))) (raised_did TooDeep (drop (n + 1) old.operands.here) old new r h e)
+    subst P (sym (entered_line number callee.0 n f true false old h.sound callee.1 is (eq-eqb n f.parameters fits) (le-ltb (length old.operands.below) max_calls has))) e
 
 -- the locals of a function as it begins
 unbound_seen : (texts : List pure.Text) (n : ℕ) → map (bound_of texts) (unbound n) ≡ meaning.unbound n
@@ -305,13 +302,13 @@ entered_fit : (n : ℕ) (vs : List Value) (more : ℕ) → All (Fits n) vs → A
 entered_fit n [] more h = unbound_fit n more
 entered_fit n (v ∷ vs) more h = All-cons (FitsBound n) (Some v) (passed vs ++ unbound more) (All-head (Fits n) v vs h) (entered_fit n vs more (All-tail (Fits n) v vs h))
 
-pub entered_did : (number n : ℕ) (f : Routine) (old new : State) (r : Step) → IsSound old → old.standing ≡ standing.Running → IsCallee number n old.operands.here → slice_get old.table.routines number ≡ Some f → n ≡ f.parameters → length old.operands.below < max_calls → IsEntered f n old new r → Did (line_of (CallTop n) old) old new r
-entered_did number n f old new Ended h run callee is fits has e = absurd e
-entered_did number n f old new Starved h run callee is fits has e = starved_did (line_of (CallTop n) old) old new e
-entered_did number n f old new Local h run callee is fits has e =
+pub entered_did : (number n : ℕ) (f : Routine) (old new : State) (r : Step) → IsReady old → IsCallee number n old.operands.here → slice_get old.table.routines number ≡ Some f → n ≡ f.parameters → length old.operands.below < max_calls → IsEntered f n old new r → Does (CallTop n) old new r
+entered_did number n f old new Ended h callee is fits has e = absurd e
+entered_did number n f old new Starved h callee is fits has e = starved_did (line_of (CallTop n) old) old new e
+entered_did number n f old new Local h callee is fits has e =
     let F = Fits (length old.texts) in
     let L = FitsBound (length old.texts) in
-    let k = h.stacks in
+    let k = h.sound.stacks in
     let args = reverse (take n old.operands.here) in
     let rest = drop (n + 1) old.operands.here in
     let ops = entered_operands n old.operands in
@@ -329,6 +326,6 @@ entered_did number n f old new Local h run callee is fits has e =
     } in
     let P : Line → Type 0 = λ l. Did l old new Local in
     let line =
-    entered_line number callee.0 n f true true old h callee.1 is (eq-eqb n f.parameters fits) (lt-ltb (length old.operands.below) max_calls has)
+    entered_line number callee.0 n f true true old h.sound callee.1 is (eq-eqb n f.parameters fits) (lt-ltb (length old.operands.below) max_calls has)
     ∙ ap (λ xs. goes (At f.at [] xs (machine.Frame (old.pc + 1) (map (value_of old.texts) rest) (slots_of old) ∷ blocks_of old)) (world_of old)) (sym (entered_seen old.texts f.locals args)) in
-    subst P (sym line) (placed_did f.at ops slots bs old new h run stacks (All-cons (FitsBlock old.texts) (block.Frame (old.pc + 1)) old.blocks tt h.blocks) e)
+    subst P (sym line) (placed_did f.at ops slots bs old new h stacks (All-cons (FitsBlock old.texts) (block.Frame (old.pc + 1)) old.blocks tt h.sound.blocks) e)

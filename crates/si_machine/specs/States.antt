@@ -1,5 +1,5 @@
 -- What a machine's state stands for, and what an instruction makes of it.
-use Rattle.std.specs.Prelude.{Bool, true, false, ◌≡◌, ◌≢◌, ℕ, ◌+◌, ◌<◌, ◌^◌, List, [], ◌∷◌, ◌++◌, length, map, take, drop, reverse, Option, Some, None, option_map, All, slice_get, string_bytes, encode_utf8_all}
+use Rattle.std.specs.Prelude.{Bool, true, false, ◌≡◌, ◌≢◌, ℕ, ◌+◌, ◌<◌, ◌^◌, List, [], ◌∷◌, ◌++◌, length, map, take, drop, reverse, Option, Some, None, option_map, All, AllPairs, slice_get, string_bytes, encode_utf8_all}
 use Rattle.si_semantics.specs.Value as pure
 use Rattle.si_semantics.specs.World.{World}
 use Rattle.si_semantics.specs.Machine as machine
@@ -149,6 +149,14 @@ pub record IsReady (s : State) : Type 0 where
   pub running : s.standing ≡ standing.Running
   pub sound : IsSound s
 
+-- what the method of an instruction takes: a run is under way, and its state is sound; its place is one of the code, of which each
+-- global name has one slot; and the line of the instruction leads on
+pub record IsReadyFor (i : Instr) (s : State) : Type 0 where
+  pub state : IsReady s
+  pub place : s.pc < 2 ^ 63
+  pub distinct : AllPairs (λ x y. x ≢ y) s.table.names
+  pub open_line : IsOpen (line_of i s)
+
 -- a line was done, and leads to a place
 pub record Moves (l : Line) (p : Place) (old new : State) : Type 0 where
   pub place : l.place ≡ p
@@ -165,6 +173,10 @@ Did l old new Starved =
     (new ≡ record old { standing = standing.Starved; line = new.line; printed = new.printed; store = new.store })
     × (string_bytes new.printed ≡ string_bytes old.printed)
     × (new.store.items ≡ old.store.items)
+
+-- what a step did is what the definition of the machine says of this instruction (`act`)
+abbrev pub Does : Instr → State → State → Step → Type 0
+Does i old new r = Did (line_of i old) old new r
 
 -- no operands, and no callers
 abbrev pub no_operands : OperandsSeen

@@ -13,6 +13,6 @@ returns-in-Ok c =
     let old = c.args.self.now in
     let f = object_of old.texts old.table.names in
     ended (leave_line (Raises c.args.place) old) old c.rest.new.self c.rest.result c.rest.ensures.step
-    (raised_ends c.args.place c.kind_at-kind.result c.in-Ok.text old c.rest.new.self c.requires.ready.sound c.requires.unhandled
+    (raised_ends c.args.place c.kind_at-kind.result c.in-Ok.text old c.rest.new.self c.requires.ready c.requires.unhandled
     (c.kind_at-kind.ensures old.texts old.table.names ∙ ap (λ os. kind_of (slice_get (map f os) c.args.place)) c.deref-in-Ok.ensures.value)
     (c.in-Ok.ensures ∙ ap (λ os. message_of (str_in (map f os) (Address c.args.place))) c.deref.ensures.value) c.rest.ensures.state)
