@@ -3,8 +3,7 @@ use Rattle.std.specs.Prelude.{reverse}
 use Rattle.si_semantics.specs.Operations.{call_kind}
 use Rattle.si_machine.specs.declared.value.Value.TheVariants as value
 use Rattle.si_machine.specs.declared.value.Object.TheVariants.{Made}
-use Rattle.si_machine.specs.Values.{value_of}
-use Rattle.si_machine.specs.States.{world_of}
+use Rattle.si_machine.specs.States.{value_in, world_of}
 use Rattle.si_machine.proofs.Lines.{topmost}
 use Rattle.si_machine.proofs.Frames.{callee_within}
 use Rattle.si_machine.proofs.CallLines.{made_did, one_made, kind_refused}
@@ -16,7 +15,7 @@ returns-then-count-eq0 c =
     let old = c.args.self.now in
     let kind = c.args.kind in
     made_did (Made kind None) c.args.count kind old c.make.new.self c.make.result h c.requires.callee tt
-    (ap (λ n. call_kind kind (map (value_of old.texts) (reverse (take n old.operands.here))) (world_of old)) c.if-count-eq0.true) c.make.ensures
+    (ap (λ n. call_kind kind (map (value_in old) (reverse (take n old.operands.here))) (world_of old)) c.if-count-eq0.true) c.make.ensures
 
 pub returns-in-Some : goal.returns-in-Some
 returns-in-Some c =
@@ -26,7 +25,7 @@ returns-in-Some c =
     let v = c.in-Some.argument in
     let k = c.make-then-count-eq1 in
     made_did (Made kind (Some v)) c.args.count kind old k.new.self k.result h c.requires.callee (topmost old h v (drop 1 old.operands.here) c.in-Some.ensures)
-    (ap (λ n. call_kind kind (map (value_of old.texts) (reverse (take n old.operands.here))) (world_of old)) c.if-count-eq1.true
+    (ap (λ n. call_kind kind (map (value_in old) (reverse (take n old.operands.here))) (world_of old)) c.if-count-eq1.true
     ∙ one_made kind v old.operands.here old.texts (world_of old) c.in-Some.ensures) k.ensures
 
 pub returns-else-count-eq1 : goal.returns-else-count-eq1
