@@ -17,7 +17,7 @@ use Rattle.si_machine.specs.declared.value.Value.{Value}
 use Rattle.si_plain.specs.declared.kind.Kind.{Kind}
 use Rattle.si_plain.specs.Kinds.{name_of}
 use Rattle.si_semantics.specs.Operations.{built_in, kind_named}
-use Rattle.si_machine.specs.Values.{bound_of, globals_of, FitsBound, AreBuiltIn}
+use Rattle.si_machine.specs.Values.{Heap, bound_of, globals_of, FitsBound, FitsObject, AreBuiltIn}
 use Rattle.si_machine.specs.Firsts.{first_of, IsKnown}
 
 -- the first elements and the next one
@@ -51,16 +51,16 @@ next_built_in k names x old new v e h f at =
     let V : List (Option Value) → Type 0 = λ vs. AreBuiltIn (take k names ++ x ∷ []) vs in
     subst T (sym (take_suc names k x at) ∙ ap (λ m. take m names) (sym n)) (subst V (sym e) (more_built_in (take k names) x old v h f))
 
-first_fits : (n place : ℕ) (x : pure.Text) → place < n → FitsBound n (first_of place x)
-first_fits n place x p = pick (same_text x (codes "__name__"))
+first_fits : (heap : Heap) (place : ℕ) (x : pure.Text) → place < length heap → FitsBound heap (first_of place x)
+first_fits heap place x p = pick (same_text x (codes "__name__"))
   where
-    pick : (a : Bool) → FitsBound n (cond a (Some (value.Str place)) None)
+    pick : (a : Bool) → FitsBound heap (cond a (Some (value.Str place)) None)
     pick true = p
     pick false = tt
 
-firsts_fit : (n place : ℕ) (names : List pure.Text) → place < n → All (FitsBound n) (map (first_of place) names)
-firsts_fit n place [] p = All-nil (FitsBound n)
-firsts_fit n place (x ∷ names) p = All-cons (FitsBound n) (first_of place x) (map (first_of place) names) (first_fits n place x p) (firsts_fit n place names p)
+firsts_fit : (heap : Heap) (place : ℕ) (names : List pure.Text) → place < length heap → All (FitsBound heap) (map (first_of place) names)
+firsts_fit heap place [] p = All-nil (FitsBound heap)
+firsts_fit heap place (x ∷ names) p = All-cons (FitsBound heap) (first_of place x) (map (first_of place) names) (first_fits heap place x p) (firsts_fit heap place names p)
 
 abbrev main_if : Bool → Option pure.Value
 main_if b = cond b (Some (pure.Str (codes "__main__"))) None
@@ -98,11 +98,12 @@ all_known table texts globals built_ins t g b few =
     let T : List pure.Text → Type 0 = λ ts. IsKnown table ts globals built_ins in
     subst T (sym t)
     (subst K (sym g) (record {
-      literals = take-append_seam table.literals (codes "__main__" ∷ []);
-      fits = firsts_fit (length all) place table.names within;
-      slots = counted place table.names;
-      built_ins = b;
-      short = few;
+      heap = record {
+        literals = take-append_seam table.literals (codes "__main__" ∷ []);
+        globals = firsts_fit all place table.names within;
+        store = All-nil (FitsObject all);
+      };
+      code = record { slots = counted place table.names; built_ins = b; short = few };
       first = fun_ext (λ y. first_values all place table.names y main);
     }))
 

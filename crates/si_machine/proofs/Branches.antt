@@ -16,139 +16,113 @@ use Rattle.si_machine.specs.declared.state.Standing.TheVariants as standing
 use Rattle.si_machine.specs.declared.state.State.{State}
 use Rattle.si_machine.specs.declared.step.Step.{Step}
 use Rattle.si_machine.specs.declared.step.Step.TheVariants.{Local}
-use Rattle.si_machine.specs.Values.{value_of, Fits}
 use Rattle.si_machine.specs.Causes.{threw}
-use Rattle.si_machine.specs.States.{AreSound, IsSound, Did, FitsBlock, calls_in, blocks_with, blocks_of, slots_of, world_of, line_of, with_operands, IsRaised}
-use Rattle.si_machine.proofs.Lines.{line_on, at_line, moved, placed_did, moved_did, advanced_did, raised_did}
-
--- what holds of all operands holds of those below the topmost, and of the topmost
-module _ (old : State) (h : IsSound old) where
-  abbrev F : Value → Type 0
-  F = Fits (length old.texts)
-
-  below : (v : Value) (rest : List Value) → old.operands.here ≡ v ∷ rest → All F rest
-  below v rest top = let A : List Value → Type 0 = λ vs. All F vs in All-tail F v rest (subst A top h.stacks.here)
-
-  topmost : (v : Value) (rest : List Value) → old.operands.here ≡ v ∷ rest → F v
-  topmost v rest top = let A : List Value → Type 0 = λ vs. All F vs in All-head F v rest (subst A top h.stacks.here)
-
-  below_two : (v u : Value) (rest : List Value) → old.operands.here ≡ v ∷ u ∷ rest → All F rest
-  below_two v u rest top = All-tail F u rest (below v (u ∷ rest) top)
-
-  second : (v u : Value) (rest : List Value) → old.operands.here ≡ v ∷ u ∷ rest → F u
-  second v u rest top = All-head F u rest (below v (u ∷ rest) top)
+use Rattle.si_machine.specs.Sound.{FitsBlock, calls_in}
+use Rattle.si_machine.specs.States.{value_in, IsThere, AreThere, IsReady, Did, Does, blocks_in, blocks_of, slots_of, world_of, line_of, with_operands, IsRaised}
+use Rattle.si_machine.proofs.Lines.{line_on, at_line, blocks_line, moved, blocks_did, moved_did, advanced_did, below, topmost, below_two, second}
 
 -- ---- comparisons
 
-comparison_line : (o : tree.ComparisonOperator) (x y : Value) (rest : List Value) (s : State) (f : Ran) → s.operands.here ≡ y ∷ x ∷ rest → compare o (value_of s.texts x) (value_of s.texts y) (world_of s) ≡ f → line_of (ApplyComparison o) s ≡ yields f (s.pc + 1) (map (value_of s.texts) rest) (slots_of s) (blocks_of s)
+comparison_line : (o : tree.ComparisonOperator) (x y : Value) (rest : List Value) (s : State) (f : Ran) → s.operands.here ≡ y ∷ x ∷ rest → compare o (value_in s x) (value_in s y) (world_of s) ≡ f → line_of (ApplyComparison o) s ≡ yields f (s.pc + 1) (map (value_in s) rest) (slots_of s) (blocks_of s)
 comparison_line o x y rest s f top gives =
     ap (line_on (ApplyComparison o) s) top
-    ∙ ap (λ g. yields g (s.pc + 1) (map (value_of s.texts) rest) (slots_of s) (blocks_of s)) gives
+    ∙ ap (λ g. yields g (s.pc + 1) (map (value_in s) rest) (slots_of s) (blocks_of s)) gives
 
 -- two operands give way to what a comparison gives for them
-pub comparison_did : (o : tree.ComparisonOperator) (x y : Value) (b : Bool) (rest : List Value) (old new : State) → IsSound old → old.standing ≡ standing.Running → old.operands.here ≡ y ∷ x ∷ rest → ((names : List pure.Text) (w : World) → compare o (value_of old.texts x) (value_of old.texts y) w ≡ gave (pure.Truth b) w) → new ≡ moved (old.pc + 1) (value.Truth b ∷ rest) old → Did (line_of (ApplyComparison o) old) old new Local
-comparison_did o x y b rest old new h run top gives e =
+pub comparison_did : (o : tree.ComparisonOperator) (x y : Value) (b : Bool) (rest : List Value) (old new : State) → IsReady old → old.operands.here ≡ y ∷ x ∷ rest → ((names : List pure.Text) (w : World) → compare o (value_in old x) (value_in old y) w ≡ gave (pure.Truth b) w) → new ≡ moved (old.pc + 1) (value.Truth b ∷ rest) old → Does (ApplyComparison o) old new Local
+comparison_did o x y b rest old new h top gives e =
     let w = world_of old in
     let P : Line → Type 0 = λ l. Did l old new Local in
     subst P (sym (comparison_line o x y rest old (gave (pure.Truth b) w) top (gives old.table.names w)))
-    (advanced_did (pure.Truth b) (value.Truth b) rest old new h run (below_two old h y x rest top) tt refl e)
+    (advanced_did (pure.Truth b) (value.Truth b) rest old new h (below_two old h y x rest top) tt refl e)
 
-pub comparison_raises : (o : tree.ComparisonOperator) (x y : Value) (rest : List Value) (cause : Cause) (old new : State) (r : Step) → IsSound old → old.operands.here ≡ y ∷ x ∷ rest → ((names : List pure.Text) (w : World) → compare o (value_of old.texts x) (value_of old.texts y) w ≡ threw names cause w) → IsRaised cause old new r → Did (line_of (ApplyComparison o) old) old new r
-comparison_raises o x y rest cause old new r h top gives e =
+pub comparison_raises : (o : tree.ComparisonOperator) (x y : Value) (rest : List Value) (cause : Cause) (old new : State) (r : Step) → old.operands.here ≡ y ∷ x ∷ rest → ((names : List pure.Text) (w : World) → compare o (value_in old x) (value_in old y) w ≡ threw names cause w) → IsRaised cause old new r → Does (ApplyComparison o) old new r
+comparison_raises o x y rest cause old new r top gives e =
     let w = world_of old in
     let P : Line → Type 0 = λ l. Did l old new r in
-    subst P (sym (comparison_line o x y rest old (threw old.table.names cause w) top (gives old.table.names w))) (raised_did cause rest old new r h e)
+    subst P (sym (comparison_line o x y rest old (threw old.table.names cause w) top (gives old.table.names w))) e
 
 -- ---- chains
 
-pub keep_did : (u v : Value) (rest : List Value) (old new : State) → IsSound old → old.standing ≡ standing.Running → old.operands.here ≡ v ∷ u ∷ rest → new ≡ moved (old.pc + 1) (v ∷ u ∷ v ∷ rest) old → Did (line_of KeepRight old) old new Local
-keep_did u v rest old new h run top e =
-    let G = Fits (length old.texts) in
-    let fits : All G (v ∷ u ∷ v ∷ rest) = All-cons G v (u ∷ v ∷ rest) (topmost old h v (u ∷ rest) top) (All-cons G u (v ∷ rest) (second old h v u rest top) (All-cons G v rest (topmost old h v (u ∷ rest) top) (below_two old h v u rest top))) in
+pub keep_did : (u v : Value) (rest : List Value) (old new : State) → IsReady old → old.operands.here ≡ v ∷ u ∷ rest → new ≡ moved (old.pc + 1) (v ∷ u ∷ v ∷ rest) old → Does KeepRight old new Local
+keep_did u v rest old new h top e =
+    let G = IsThere old in
+    let fits : AreThere old (v ∷ u ∷ v ∷ rest) = All-cons G v (u ∷ v ∷ rest) (topmost old h v (u ∷ rest) top) (All-cons G u (v ∷ rest) (second old h v u rest top) (All-cons G v rest (topmost old h v (u ∷ rest) top) (below_two old h v u rest top))) in
     let P : Line → Type 0 = λ l. Did l old new Local in
     subst P (sym (ap (line_on KeepRight old) top))
-    (moved_did (old.pc + 1) (v ∷ u ∷ v ∷ rest) old new h run fits e)
+    (moved_did (old.pc + 1) (v ∷ u ∷ v ∷ rest) old new h fits e)
 
 -- the right operand once more, below the two
 pub two_kept : (ops : List Value) (v u : Value) → ops ≡ v ∷ u ∷ drop 2 ops → take 2 ops ++ v ∷ drop 2 ops ≡ v ∷ u ∷ v ∷ drop 2 ops
 two_kept ops v u top = ap (λ l. take 2 l ++ v ∷ drop 2 ops) top
 
-chain_line : (n : ℕ) (u t : Value) (rest : List Value) (s : State) (b : Bool) → s.operands.here ≡ t ∷ u ∷ rest → is_true (value_of s.texts t) (world_of s) ≡ b → line_of (EndChain n) s ≡ choose b (at_line (s.pc + 1) (u ∷ rest) s) (at_line (s.pc + 1 + n) (t ∷ rest) s)
+chain_line : (n : ℕ) (u t : Value) (rest : List Value) (s : State) (b : Bool) → s.operands.here ≡ t ∷ u ∷ rest → is_true (value_in s t) (world_of s) ≡ b → line_of (EndChain n) s ≡ choose b (at_line (s.pc + 1) (u ∷ rest) s) (at_line (s.pc + 1 + n) (t ∷ rest) s)
 chain_line n u t rest s b top is =
     ap (line_on (EndChain n) s) top
     ∙ ap (λ c. choose c (at_line (s.pc + 1) (u ∷ rest) s) (at_line (s.pc + 1 + n) (t ∷ rest) s)) is
 
 -- a comparison was true: its right operand stays
-pub chain_goes_on : (n : ℕ) (u t : Value) (rest : List Value) (old new : State) → IsSound old → old.standing ≡ standing.Running → old.operands.here ≡ t ∷ u ∷ rest → is_true (value_of old.texts t) (world_of old) ≡ true → new ≡ moved (old.pc + 1) (u ∷ rest) old → Did (line_of (EndChain n) old) old new Local
-chain_goes_on n u t rest old new h run top is e =
+pub chain_goes_on : (n : ℕ) (u t : Value) (rest : List Value) (old new : State) → IsReady old → old.operands.here ≡ t ∷ u ∷ rest → is_true (value_in old t) (world_of old) ≡ true → new ≡ moved (old.pc + 1) (u ∷ rest) old → Does (EndChain n) old new Local
+chain_goes_on n u t rest old new h top is e =
     let P : Line → Type 0 = λ l. Did l old new Local in
-    subst P (sym (chain_line n u t rest old true top is)) (moved_did (old.pc + 1) (u ∷ rest) old new h run (below old h t (u ∷ rest) top) e)
+    subst P (sym (chain_line n u t rest old true top is)) (moved_did (old.pc + 1) (u ∷ rest) old new h (below old h t (u ∷ rest) top) e)
 
 -- it was not: its value stays, and the chain ends
-pub chain_ends : (n : ℕ) (u t : Value) (rest : List Value) (old new : State) → IsSound old → old.standing ≡ standing.Running → old.operands.here ≡ t ∷ u ∷ rest → is_true (value_of old.texts t) (world_of old) ≡ false → new ≡ moved (old.pc + 1 + n) (t ∷ rest) old → Did (line_of (EndChain n) old) old new Local
-chain_ends n u t rest old new h run top is e =
-    let G = Fits (length old.texts) in
+pub chain_ends : (n : ℕ) (u t : Value) (rest : List Value) (old new : State) → IsReady old → old.operands.here ≡ t ∷ u ∷ rest → is_true (value_in old t) (world_of old) ≡ false → new ≡ moved (old.pc + 1 + n) (t ∷ rest) old → Does (EndChain n) old new Local
+chain_ends n u t rest old new h top is e =
+    let G = IsThere old in
     let P : Line → Type 0 = λ l. Did l old new Local in
-    subst P (sym (chain_line n u t rest old false top is)) (moved_did (old.pc + 1 + n) (t ∷ rest) old new h run (All-cons G t rest (topmost old h t (u ∷ rest) top) (below_two old h t u rest top)) e)
+    subst P (sym (chain_line n u t rest old false top is)) (moved_did (old.pc + 1 + n) (t ∷ rest) old new h (All-cons G t rest (topmost old h t (u ∷ rest) top) (below_two old h t u rest top)) e)
 
 -- ---- branches
 
-word_line : (o : tree.BooleanOperator) (n : ℕ) (v : Value) (rest : List Value) (s : State) (b : Bool) → s.operands.here ≡ v ∷ rest → decides o (value_of s.texts v) (world_of s) ≡ b → line_of (JumpOrDiscard o n) s ≡ choose b (at_line (s.pc + 1 + n) (v ∷ rest) s) (at_line (s.pc + 1) rest s)
+word_line : (o : tree.BooleanOperator) (n : ℕ) (v : Value) (rest : List Value) (s : State) (b : Bool) → s.operands.here ≡ v ∷ rest → decides o (value_in s v) (world_of s) ≡ b → line_of (JumpOrDiscard o n) s ≡ choose b (at_line (s.pc + 1 + n) (v ∷ rest) s) (at_line (s.pc + 1) rest s)
 word_line o n v rest s b top is =
     ap (line_on (JumpOrDiscard o n) s) top
     ∙ ap (λ c. choose c (at_line (s.pc + 1 + n) (v ∷ rest) s) (at_line (s.pc + 1) rest s)) is
 
 -- an operand decides an `and` or an `or`
-pub word_decides : (o : tree.BooleanOperator) (n : ℕ) (v : Value) (rest : List Value) (old new : State) → IsSound old → old.standing ≡ standing.Running → old.operands.here ≡ v ∷ rest → decides o (value_of old.texts v) (world_of old) ≡ true → new ≡ record old { pc = old.pc + 1 + n } → Did (line_of (JumpOrDiscard o n) old) old new Local
-word_decides o n v rest old new h run top is e =
+pub word_decides : (o : tree.BooleanOperator) (n : ℕ) (v : Value) (rest : List Value) (old new : State) → IsReady old → old.operands.here ≡ v ∷ rest → decides o (value_in old v) (world_of old) ≡ true → new ≡ record old { pc = old.pc + 1 + n } → Does (JumpOrDiscard o n) old new Local
+word_decides o n v rest old new h top is e =
     let P : Line → Type 0 = λ l. Did l old new Local in
-    let Q : List Value → Type 0 = λ vs. Did (goes (At (old.pc + 1 + n) (map (value_of old.texts) vs) (slots_of old) (blocks_of old)) (world_of old)) old new Local in
-    subst P (sym (word_line o n v rest old true top is)) (subst Q top (moved_did (old.pc + 1 + n) old.operands.here old new h run h.stacks.here e))
+    let Q : List Value → Type 0 = λ vs. Did (goes (At (old.pc + 1 + n) (map (value_in old) vs) (slots_of old) (blocks_of old)) (world_of old)) old new Local in
+    subst P (sym (word_line o n v rest old true top is)) (subst Q top (moved_did (old.pc + 1 + n) old.operands.here old new h h.sound.stacks.here e))
 
 -- or not: it is taken
-pub word_goes_on : (o : tree.BooleanOperator) (n : ℕ) (v : Value) (rest : List Value) (old new : State) → IsSound old → old.standing ≡ standing.Running → old.operands.here ≡ v ∷ rest → decides o (value_of old.texts v) (world_of old) ≡ false → new ≡ moved (old.pc + 1) rest old → Did (line_of (JumpOrDiscard o n) old) old new Local
-word_goes_on o n v rest old new h run top is e =
+pub word_goes_on : (o : tree.BooleanOperator) (n : ℕ) (v : Value) (rest : List Value) (old new : State) → IsReady old → old.operands.here ≡ v ∷ rest → decides o (value_in old v) (world_of old) ≡ false → new ≡ moved (old.pc + 1) rest old → Does (JumpOrDiscard o n) old new Local
+word_goes_on o n v rest old new h top is e =
     let P : Line → Type 0 = λ l. Did l old new Local in
-    subst P (sym (word_line o n v rest old false top is)) (moved_did (old.pc + 1) rest old new h run (below old h v rest top) e)
+    subst P (sym (word_line o n v rest old false top is)) (moved_did (old.pc + 1) rest old new h (below old h v rest top) e)
 
-branch_line : (n : ℕ) (v : Value) (rest : List Value) (s : State) (b : Bool) → s.operands.here ≡ v ∷ rest → is_true (value_of s.texts v) (world_of s) ≡ b → line_of (JumpIfFalse n) s ≡ choose b (at_line (s.pc + 1) rest s) (at_line (s.pc + 1 + n) rest s)
+branch_line : (n : ℕ) (v : Value) (rest : List Value) (s : State) (b : Bool) → s.operands.here ≡ v ∷ rest → is_true (value_in s v) (world_of s) ≡ b → line_of (JumpIfFalse n) s ≡ choose b (at_line (s.pc + 1) rest s) (at_line (s.pc + 1 + n) rest s)
 branch_line n v rest s b top is =
     ap (line_on (JumpIfFalse n) s) top
     ∙ ap (λ c. choose c (at_line (s.pc + 1) rest s) (at_line (s.pc + 1 + n) rest s)) is
 
-pub branch_goes_on : (n : ℕ) (v : Value) (rest : List Value) (old new : State) → IsSound old → old.standing ≡ standing.Running → old.operands.here ≡ v ∷ rest → is_true (value_of old.texts v) (world_of old) ≡ true → new ≡ moved (old.pc + 1) rest old → Did (line_of (JumpIfFalse n) old) old new Local
-branch_goes_on n v rest old new h run top is e =
+pub branch_goes_on : (n : ℕ) (v : Value) (rest : List Value) (old new : State) → IsReady old → old.operands.here ≡ v ∷ rest → is_true (value_in old v) (world_of old) ≡ true → new ≡ moved (old.pc + 1) rest old → Does (JumpIfFalse n) old new Local
+branch_goes_on n v rest old new h top is e =
     let P : Line → Type 0 = λ l. Did l old new Local in
-    subst P (sym (branch_line n v rest old true top is)) (moved_did (old.pc + 1) rest old new h run (below old h v rest top) e)
+    subst P (sym (branch_line n v rest old true top is)) (moved_did (old.pc + 1) rest old new h (below old h v rest top) e)
 
-pub branch_jumps : (n : ℕ) (v : Value) (rest : List Value) (old new : State) → IsSound old → old.standing ≡ standing.Running → old.operands.here ≡ v ∷ rest → is_true (value_of old.texts v) (world_of old) ≡ false → new ≡ moved (old.pc + 1 + n) rest old → Did (line_of (JumpIfFalse n) old) old new Local
-branch_jumps n v rest old new h run top is e =
+pub branch_jumps : (n : ℕ) (v : Value) (rest : List Value) (old new : State) → IsReady old → old.operands.here ≡ v ∷ rest → is_true (value_in old v) (world_of old) ≡ false → new ≡ moved (old.pc + 1 + n) rest old → Does (JumpIfFalse n) old new Local
+branch_jumps n v rest old new h top is e =
     let P : Line → Type 0 = λ l. Did l old new Local in
-    subst P (sym (branch_line n v rest old false top is)) (moved_did (old.pc + 1 + n) rest old new h run (below old h v rest top) e)
+    subst P (sym (branch_line n v rest old false top is)) (moved_did (old.pc + 1 + n) rest old new h (below old h v rest top) e)
 
 -- ---- loops
 
 -- to an end of a loop that is left
-pub left_did : (start after next : ℕ) (rest : List Block) (old new : State) → IsSound old → old.standing ≡ standing.Running → old.blocks ≡ block.Loop start after ∷ rest → new ≡ record old { pc = next; operands = with_operands [] old.operands; blocks = rest } → Did (goes (At next [] (slots_of old) (blocks_with old.texts rest old.operands.below old.slots.below)) (world_of old)) old new Local
-left_did start after next rest old new h run top e =
-    let k = h.stacks in
-    let stacks : AreSound (length old.texts) (with_operands [] old.operands) old.slots rest = record {
-      here = All-nil (Fits (length old.texts));
-      below = k.below;
-      locals = k.locals;
-      callers = k.callers;
-      operands_each = k.operands_each ∙ ap calls_in top;
-      locals_each = k.locals_each ∙ ap calls_in top;
-    } in
+pub left_did : (start after next : ℕ) (rest : List Block) (old new : State) → IsReady old → old.blocks ≡ block.Loop start after ∷ rest → new ≡ record old { pc = next; operands = with_operands [] old.operands; blocks = rest } → Did (blocks_line next [] rest old) old new Local
+left_did start after next rest old new h top e =
     let B : List Block → Type 0 = λ bs. All (FitsBlock old.texts) bs in
-    placed_did next (with_operands [] old.operands) old.slots rest old new h run stacks (All-tail (FitsBlock old.texts) (block.Loop start after) rest (subst B top h.blocks)) e
+    blocks_did next [] rest old new h (All-nil (IsThere old)) (ap calls_in top) (All-tail (FitsBlock old.texts) (block.Loop start after) rest (subst B top h.sound.stacks.blocks)) e
 
-pub break_did : (start after : ℕ) (rest : List Block) (old new : State) → IsSound old → old.standing ≡ standing.Running → old.blocks ≡ block.Loop start after ∷ rest → new ≡ record old { pc = after; operands = with_operands [] old.operands; blocks = rest } → Did (line_of DoBreak old) old new Local
-break_did start after rest old new h run top e =
+pub break_did : (start after : ℕ) (rest : List Block) (old new : State) → IsReady old → old.blocks ≡ block.Loop start after ∷ rest → new ≡ record old { pc = after; operands = with_operands [] old.operands; blocks = rest } → Does DoBreak old new Local
+break_did start after rest old new h top e =
     let P : Line → Type 0 = λ l. Did l old new Local in
-    subst P (sym (ap (λ bs. goes (leave Breaks (world_of old) (slots_of old) (blocks_with old.texts bs old.operands.below old.slots.below)) (world_of old)) top)) (left_did start after after rest old new h run top e)
+    subst P (sym (ap (λ bs. goes (leave Breaks (world_of old) (slots_of old) (blocks_in old bs)) (world_of old)) top)) (left_did start after after rest old new h top e)
 
-pub continue_did : (start after : ℕ) (rest : List Block) (old new : State) → IsSound old → old.standing ≡ standing.Running → old.blocks ≡ block.Loop start after ∷ rest → new ≡ record old { pc = start; operands = with_operands [] old.operands; blocks = rest } → Did (line_of DoContinue old) old new Local
-continue_did start after rest old new h run top e =
+pub continue_did : (start after : ℕ) (rest : List Block) (old new : State) → IsReady old → old.blocks ≡ block.Loop start after ∷ rest → new ≡ record old { pc = start; operands = with_operands [] old.operands; blocks = rest } → Does DoContinue old new Local
+continue_did start after rest old new h top e =
     let P : Line → Type 0 = λ l. Did l old new Local in
-    subst P (sym (ap (λ bs. goes (leave Continues (world_of old) (slots_of old) (blocks_with old.texts bs old.operands.below old.slots.below)) (world_of old)) top)) (left_did start after start rest old new h run top e)
+    subst P (sym (ap (λ bs. goes (leave Continues (world_of old) (slots_of old) (blocks_in old bs)) (world_of old)) top)) (left_did start after start rest old new h top e)

@@ -23,30 +23,25 @@ use Rattle.si_machine.specs.declared.state.Standing.TheVariants as standing
 use Rattle.si_machine.specs.declared.state.State.{State}
 use Rattle.si_machine.specs.declared.step.Step.{Step}
 use Rattle.si_machine.specs.declared.step.Step.TheVariants.{Local, Ended, Starved}
-use Rattle.si_machine.specs.Values.{value_of, built_in_of, Fits, FitsObject}
+use Rattle.si_machine.specs.Values.{Heap, value_of, built_in_of, FitsObject}
 use Rattle.si_machine.specs.Outcomes.{outcome_of}
-use Rattle.si_machine.specs.Causes.{object_of, threw, RunsIn, IsUnwritten, GoesOn}
-use Rattle.si_machine.specs.States.{IsSound, Did, Moves, bytes_of, place_of, IsMade, place_in, slots_of, blocks_of, world_of, line_of, IsRaised}
+use Rattle.si_machine.specs.Causes.{threw, RunsIn, IsUnwritten, GoesOn}
+use Rattle.si_machine.specs.States.{value_in, object_in, IsThere, IsReady, Did, Does, Moves, bytes_of, place_of, IsMade, place_in, slots_of, blocks_of, world_of, line_of, IsRaised}
 use Rattle.si_machine.proofs.Lines.{yields_on, moved, with_here, starved_store, grown_did}
 use Rattle.si_machine.proofs.Frames.{call_line, call_refused}
 
 -- ---- built-ins
 
-pub built_in_did : (n : ℕ) (f : BuiltIn) (v : Value) (args : List Value) (texts : List pure.Text) (old new : State) → IsSound old → old.standing ≡ standing.Running → drop n old.operands.here ≡ value.BuiltIn f ∷ drop (n + 1) old.operands.here → args ≡ reverse (take n old.operands.here) → RunsIn (world_of old).store (λ w. call_built_in (built_in_of f) (map (value_of old.texts) args) w) old.texts texts (Ok v) → new ≡ record (moved (old.pc + 1) (v ∷ drop (n + 1) old.operands.here) old) { texts = texts } → Did (line_of (CallTop n) old) old new Local
-built_in_did n f v args texts old new h run top args_are runs e =
-    let w = world_of old in
+pub built_in_did : (n : ℕ) (f : BuiltIn) (v : Value) (args : List Value) (heap : Heap) (old new : State) → IsReady old → drop n old.operands.here ≡ value.BuiltIn f ∷ drop (n + 1) old.operands.here → args ≡ reverse (take n old.operands.here) → RunsIn (world_of old).store (λ w. call_built_in (built_in_of f) (map (value_in old) args) w) old.texts heap (Ok v) → new ≡ record (moved (old.pc + 1) (v ∷ drop (n + 1) old.operands.here) old) { texts = heap } → Does (CallTop n) old new Local
+built_in_did n f v args heap old new h top args_are runs e =
     let rest = drop (n + 1) old.operands.here in
-    let more = runs.2.0 in
-    let is : texts ≡ old.texts ++ more = runs.2.1 in
-    let V : List pure.Text → Type 0 = λ ts. Fits (length ts) v in
-    let gives : call_built_in (built_in_of f) (map (value_of old.texts) args) w ≡ gave (value_of (old.texts ++ more) v) w = runs.0 w refl ∙ ap (λ ts. gave (value_of ts v) w) is in
     let P : Line → Type 0 = λ l. Did l old new Local in
-    subst P (sym (call_line n (value.BuiltIn f) args old top args_are ∙ ap (λ x. yields_on x old rest) gives))
-    (grown_did v rest more old new h run (All-drop (Fits (length old.texts)) (n + 1) old.operands.here h.stacks.here) (subst V is runs.1) (e ∙ ap (λ ts. let s : State = record (moved (old.pc + 1) (v ∷ rest) old) { texts = ts } in s) is))
+    subst P (sym (call_line n (value.BuiltIn f) args old top args_are ∙ ap (λ x. yields_on x old rest) (runs.0 (world_of old) refl)))
+    (grown_did v rest heap old new h runs.2 (All-drop (IsThere old) (n + 1) old.operands.here h.sound.stacks.here) runs.1 e)
 
-pub built_in_raises : (n : ℕ) (f : BuiltIn) (cause : Cause) (args : List Value) (old new : State) (r : Step) → IsSound old → drop n old.operands.here ≡ value.BuiltIn f ∷ drop (n + 1) old.operands.here → args ≡ reverse (take n old.operands.here) → call_built_in (built_in_of f) (map (value_of old.texts) args) (world_of old) ≡ threw old.table.names cause (world_of old) → IsRaised cause old new r → Did (line_of (CallTop n) old) old new r
-built_in_raises n f cause args old new r h top args_are gives e =
-    call_refused cause n (value.BuiltIn f) args old new r h top args_are (ap (λ x. yields_on x old (drop (n + 1) old.operands.here)) gives) e
+pub built_in_raises : (n : ℕ) (f : BuiltIn) (cause : Cause) (args : List Value) (old new : State) (r : Step) → drop n old.operands.here ≡ value.BuiltIn f ∷ drop (n + 1) old.operands.here → args ≡ reverse (take n old.operands.here) → call_built_in (built_in_of f) (map (value_in old) args) (world_of old) ≡ threw old.table.names cause (world_of old) → IsRaised cause old new r → Does (CallTop n) old new r
+built_in_raises n f cause args old new r top args_are gives e =
+    call_refused cause n (value.BuiltIn f) args old new r top args_are (ap (λ x. yields_on x old (drop (n + 1) old.operands.here)) gives) e
 
 -- an operation that raises, in this world
 pub raised_in : (store : List pure.Object) (f : World → Ran) (old new : List pure.Text) (r : Fault) (cause : Cause) → r ≡ fault.Raises cause → RunsIn store f old new (Err r) → ((names : List pure.Text) (w : World) → w.store ≡ store → f w ≡ threw names cause w) × (new ≡ old)
@@ -66,10 +61,10 @@ unwritten r NoneActive names w h = absurd h
 unwritten r (NotDefined slot) names w h = absurd h
 unwritten r (NotBound slot) names w h = absurd h
 
-pub print_raises : (n : ℕ) (cause : Cause) (args : List Value) (old new : State) (r : Step) → IsSound old → drop n old.operands.here ≡ value.BuiltIn Print ∷ drop (n + 1) old.operands.here → args ≡ reverse (take n old.operands.here) → IsUnwritten (text_line (world_of old).store (map (value_of old.texts) args)) cause → IsRaised cause old new r → Did (line_of (CallTop n) old) old new r
-print_raises n cause args old new r h top args_are is e =
+pub print_raises : (n : ℕ) (cause : Cause) (args : List Value) (old new : State) (r : Step) → drop n old.operands.here ≡ value.BuiltIn Print ∷ drop (n + 1) old.operands.here → args ≡ reverse (take n old.operands.here) → IsUnwritten (text_line (world_of old).store (map (value_in old) args)) cause → IsRaised cause old new r → Does (CallTop n) old new r
+print_raises n cause args old new r top args_are is e =
     let w = world_of old in
-    built_in_raises n Print cause args old new r h top args_are (unwritten (text_line w.store (map (value_of old.texts) args)) cause old.table.names w is) e
+    built_in_raises n Print cause args old new r top args_are (unwritten (text_line w.store (map (value_in old) args)) cause old.table.names w is) e
 
 -- what `print` writes where the line was empty
 pub went_on : (r : Result pure.Text Kind) (old new : List ℕ) → GoesOn r old new → old ≡ [] → (t : pure.Text) × (r ≡ Ok t) × (new ≡ encode_utf8_all t)
@@ -94,16 +89,16 @@ aside_did l old mid new Starved e did =
 
 -- ---- kinds
 
-pub made_did : (o : Object) (n : ℕ) (k : Kind) (old new : State) (r : Step) → IsSound old → old.standing ≡ standing.Running → drop n old.operands.here ≡ value.Kind k ∷ drop (n + 1) old.operands.here → FitsObject (length old.texts) o → call_kind k (map (value_of old.texts) (reverse (take n old.operands.here))) (world_of old) ≡ gave (pure.Address (length (world_of old).store)) (record (world_of old) { store = (world_of old).store ++ object_of old.texts old.table.names o ∷ [] }) → IsMade o n old new r → Did (line_of (CallTop n) old) old new r
-made_did o n k old new Ended h run top fits gives e = absurd e
-made_did o n k old new Starved h run top fits gives e = starved_store (line_of (CallTop n) old) old new e.0 e.1
-made_did o n k old new Local h run top fits gives e =
-    let F = Fits (length old.texts) in
-    let O = FitsObject (length old.texts) in
-    let f = object_of old.texts old.table.names in
+pub made_did : (o : Object) (n : ℕ) (k : Kind) (old new : State) (r : Step) → IsReady old → drop n old.operands.here ≡ value.Kind k ∷ drop (n + 1) old.operands.here → FitsObject old.texts o → call_kind k (map (value_in old) (reverse (take n old.operands.here))) (world_of old) ≡ gave (pure.Address (length (world_of old).store)) (record (world_of old) { store = (world_of old).store ++ object_in old o ∷ [] }) → IsMade o n old new r → Does (CallTop n) old new r
+made_did o n k old new Ended h top fits gives e = absurd e
+made_did o n k old new Starved h top fits gives e = starved_store (line_of (CallTop n) old) old new e.0 e.1
+made_did o n k old new Local h top fits gives e =
+    let F = IsThere old in
+    let O = FitsObject old.texts in
+    let f = object_in old in
     let w = world_of old in
     let rest = drop (n + 1) old.operands.here in
-    let ops = map (value_of old.texts) rest in
+    let ops = map (value_in old) rest in
     let here = value.Exception (length old.store.items) ∷ rest in
     let make : List pure.Object → World = λ os. record w { store = os } in
     let l = yields_on (gave (pure.Address (length w.store)) (make (w.store ++ f o ∷ []))) old rest in
@@ -115,22 +110,17 @@ made_did o n k old new Local h run top fits gives e =
       record {
         place =
             ap (λ m. At (old.pc + 1) (pure.Address m ∷ ops) (slots_of old) (blocks_of old)) (length-map old.store.items f)
-            ∙ ap (λ st. place_in st (old.pc + 1) (map (value_of old.texts) here) (slots_of old) (blocks_of old)) (sym run);
+            ∙ ap (λ st. place_in st (old.pc + 1) (map (value_in old) here) (slots_of old) (blocks_of old)) (sym h.running);
         world = sym (ap (λ os. make (map f os)) e.1 ∙ ap make (map-append f old.store.items (o ∷ [])));
         printed = sym (append-nil (string_bytes old.printed));
         code = refl;
         sound = record {
-          stacks = with_here (length old.texts) here old h.stacks (All-cons F (value.Exception (length old.store.items)) rest tt (All-drop F (n + 1) old.operands.here h.stacks.here));
-          blocks = h.blocks;
-          globals = h.globals;
-          store = subst S (sym e.1) (All-append O old.store.items (o ∷ []) h.store (All-cons O o [] fits (All-nil O)));
-          literals = h.literals;
-          slots = h.slots;
-          built_ins = h.built_ins;
-          short = h.short;
+          stacks = with_here here old h.sound.stacks (All-cons F (value.Exception (length old.store.items)) rest tt (All-drop F (n + 1) old.operands.here h.sound.stacks.here));
+          heap = record { literals = h.sound.heap.literals; globals = h.sound.heap.globals; store = subst S (sym e.1) (All-append O old.store.items (o ∷ []) h.sound.heap.store (All-cons O o [] fits (All-nil O))) };
+          code = h.sound.code;
         };
       },
-      run,
+      h.running,
     ))
 
 -- the only argument
@@ -142,9 +132,9 @@ many_refused k [] w names h = absurd (let no : ⊥ = omega (arith, h) in no)
 many_refused k (v ∷ []) w names h = absurd (let no : ⊥ = omega (arith, h) in no)
 many_refused k (v ∷ u ∷ vs) w names h = refl
 
-pub kind_refused : (n : ℕ) (k : Kind) (old new : State) (r : Step) → IsSound old → drop n old.operands.here ≡ value.Kind k ∷ drop (n + 1) old.operands.here → 1 < n → n < length old.operands.here → IsRaised WrongArguments old new r → Did (line_of (CallTop n) old) old new r
-kind_refused n k old new r h top many within e =
+pub kind_refused : (n : ℕ) (k : Kind) (old new : State) (r : Step) → drop n old.operands.here ≡ value.Kind k ∷ drop (n + 1) old.operands.here → 1 < n → n < length old.operands.here → IsRaised WrongArguments old new r → Does (CallTop n) old new r
+kind_refused n k old new r top many within e =
     let args = reverse (take n old.operands.here) in
-    let g = value_of old.texts in
+    let g = value_in old in
     let size : length (map g args) ≡ n = length-map args g ∙ length-reverse (take n old.operands.here) ∙ length-take-le n old.operands.here (omega (arith, within)) in
-    call_refused WrongArguments n (value.Kind k) args old new r h top refl (ap (λ x. yields_on x old (drop (n + 1) old.operands.here)) (many_refused k (map g args) (world_of old) old.table.names (omega (arith, size, many)))) e
+    call_refused WrongArguments n (value.Kind k) args old new r top refl (ap (λ x. yields_on x old (drop (n + 1) old.operands.here)) (many_refused k (map g args) (world_of old) old.table.names (omega (arith, size, many)))) e

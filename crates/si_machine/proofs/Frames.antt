@@ -26,12 +26,13 @@ use Rattle.si_machine.specs.declared.state.Standing.TheVariants as standing
 use Rattle.si_machine.specs.declared.state.State.{State}
 use Rattle.si_machine.specs.declared.step.Step.{Step}
 use Rattle.si_machine.specs.declared.step.Step.TheVariants.{Local, Ended, Starved}
-use Rattle.si_machine.specs.Values.{value_of, bound_of, Fits, FitsBound}
+use Rattle.si_machine.specs.Values.{Heap, value_of, bound_of, Fits, FitsBound}
 use Rattle.si_machine.specs.Causes.{threw, not_bound, not_bound_cause}
 use Rattle.si_machine.specs.Stacks.{OperandsSeen, SlotsSeen, back_with, back, left_by, slot_in, unbound, passed, entered}
-use Rattle.si_machine.specs.States.{AreSound, IsSound, Did, place_in, innermost, blocks_with, blocks_of, slots_of, world_of, line_of, FitsBlock, calls_in, with_operands, back_at, IsRaised, IsPrinted, IsCallee, IsEntered, entered_operands, entered_slots}
+use Rattle.si_machine.specs.Sound.{SoundStacks, FitsBlock, calls_in}
+use Rattle.si_machine.specs.States.{value_in, bound_in, IsThere, AreThere, IsSound, IsReady, Did, Does, place_in, innermost, blocks_with, blocks_of, slots_of, world_of, line_of, with_operands, back_at, IsRaised, IsPrinted, IsCallee, IsEntered, entered_operands, entered_slots}
 use Rattle.si_machine.proofs.Growth.{All-innermost}
-use Rattle.si_machine.proofs.Lines.{line_on, yields_on, moved, with_here, starved_did, placed_did, raised_did}
+use Rattle.si_machine.proofs.Lines.{line_on, yields_on, placed_line, moved, with_here, below, topmost, starved_did, placed_did}
 
 -- a call's line
 drop_map : {A B : Type 0} (f : A → B) (n : ℕ) (xs : List A) → drop n (map f xs) ≡ map f (drop n xs)
@@ -51,11 +52,11 @@ reverse_map f (x ∷ xs) =
 
 -- the line of a call on these operands
 abbrev pub calls_on : Value → List Value → State → List Value → Line
-calls_on f args s rest = calls (entries_of s.table) (value_of s.texts f) (map (value_of s.texts) args) (s.pc + 1) (map (value_of s.texts) rest) (slots_of s) (blocks_of s) (world_of s)
+calls_on f args s rest = calls (entries_of s.table) (value_in s f) (map (value_in s) args) (s.pc + 1) (map (value_in s) rest) (slots_of s) (blocks_of s) (world_of s)
 
 pub call_line : (n : ℕ) (f : Value) (args : List Value) (s : State) → drop n s.operands.here ≡ f ∷ drop (n + 1) s.operands.here → args ≡ reverse (take n s.operands.here) → line_of (CallTop n) s ≡ calls_on f args s (drop (n + 1) s.operands.here)
 call_line n f args s top args_are =
-    let g = value_of s.texts in
+    let g = value_in s in
     let es = entries_of s.table in
     let w = world_of s in
     let given : reverse (take n (map g s.operands.here)) ≡ map g args = ap reverse (take_map g n s.operands.here) ∙ reverse_map g (take n s.operands.here) ∙ ap (map g) (sym args_are) in
@@ -63,42 +64,46 @@ call_line n f args s top args_are =
     ∙ ap (λ vs. calls es (g f) vs (s.pc + 1) (map g (drop (n + 1) s.operands.here)) (slots_of s) (blocks_of s) w) given
 
 -- a call that raises an exception
-pub call_refused : (cause : Cause) (n : ℕ) (f : Value) (args : List Value) (old new : State) (r : Step) → IsSound old → drop n old.operands.here ≡ f ∷ drop (n + 1) old.operands.here → args ≡ reverse (take n old.operands.here) → calls_on f args old (drop (n + 1) old.operands.here) ≡ yields_on (threw old.table.names cause (world_of old)) old (drop (n + 1) old.operands.here) → IsRaised cause old new r → Did (line_of (CallTop n) old) old new r
-call_refused cause n f args old new r h top args_are gives e =
+pub call_refused : (cause : Cause) (n : ℕ) (f : Value) (args : List Value) (old new : State) (r : Step) → drop n old.operands.here ≡ f ∷ drop (n + 1) old.operands.here → args ≡ reverse (take n old.operands.here) → calls_on f args old (drop (n + 1) old.operands.here) ≡ yields_on (threw old.table.names cause (world_of old)) old (drop (n + 1) old.operands.here) → IsRaised cause old new r → Does (CallTop n) old new r
+call_refused cause n f args old new r top args_are gives e =
     let P : Line → Type 0 = λ l. Did l old new r in
-    subst P (sym (call_line n f args old top args_are ∙ gives)) (raised_did cause (drop (n + 1) old.operands.here) old new r h e)
+    subst P (sym (call_line n f args old top args_are ∙ gives)) e
 
-pub call_raises : (n : ℕ) (f : Value) (args : List Value) (old new : State) (r : Step) → IsSound old → drop n old.operands.here ≡ f ∷ drop (n + 1) old.operands.here → args ≡ reverse (take n old.operands.here) → ((es : List Entry) (vs : List pure.Value) (next : ℕ) (ops : List pure.Value) (slots : List (Option pure.Value)) (bs : List machine.Block) (w : World) → calls es (value_of old.texts f) vs next ops slots bs w ≡ yields (threw old.table.names NotCallable w) next ops slots bs) → IsRaised NotCallable old new r → Did (line_of (CallTop n) old) old new r
-call_raises n f args old new r h top args_are gives e =
-    let g = value_of old.texts in
-    call_refused NotCallable n f args old new r h top args_are (gives (entries_of old.table) (map g args) (old.pc + 1) (map g (drop (n + 1) old.operands.here)) (slots_of old) (blocks_of old) (world_of old)) e
+pub call_raises : (n : ℕ) (f : Value) (args : List Value) (old new : State) (r : Step) → drop n old.operands.here ≡ f ∷ drop (n + 1) old.operands.here → args ≡ reverse (take n old.operands.here) → ((es : List Entry) (vs : List pure.Value) (next : ℕ) (ops : List pure.Value) (slots : List (Option pure.Value)) (bs : List machine.Block) (w : World) → calls es (value_in old f) vs next ops slots bs w ≡ yields (threw old.table.names NotCallable w) next ops slots bs) → IsRaised NotCallable old new r → Does (CallTop n) old new r
+call_raises n f args old new r top args_are gives e =
+    let g = value_in old in
+    call_refused NotCallable n f args old new r top args_are (gives (entries_of old.table) (map g args) (old.pc + 1) (map g (drop (n + 1) old.operands.here)) (slots_of old) (blocks_of old) (world_of old)) e
 
 -- a line is printed
-pub print_did : (t : pure.Text) (n : ℕ) (args : List Value) (old mid new : State) (r : Step) → IsSound old → old.standing ≡ standing.Running → drop n old.operands.here ≡ value.BuiltIn Print ∷ drop (n + 1) old.operands.here → args ≡ reverse (take n old.operands.here) → mid ≡ record old { line = mid.line } → text_line (world_of old).store (map (value_of old.texts) args) ≡ Ok t → string_bytes mid.line ≡ encode_utf8_all t → IsPrinted n mid new r → Did (line_of (CallTop n) old) old new r
-print_did t n args old mid new Ended h run top args_are m written line e = absurd e
-print_did t n args old mid new Starved h run top args_are m written line e =
+pub print_did : (t : pure.Text) (n : ℕ) (args : List Value) (old mid new : State) (r : Step) → IsReady old → drop n old.operands.here ≡ value.BuiltIn Print ∷ drop (n + 1) old.operands.here → args ≡ reverse (take n old.operands.here) → mid ≡ record old { line = mid.line } → text_line (world_of old).store (map (value_in old) args) ≡ Ok t → string_bytes mid.line ≡ encode_utf8_all t → IsPrinted n mid new r → Does (CallTop n) old new r
+print_did t n args old mid new Ended h top args_are m written line e = absurd e
+print_did t n args old mid new Starved h top args_are m written line e =
     let M : State → Type 0 = λ s. (new ≡ record s { standing = standing.Starved; printed = new.printed }) × (string_bytes new.printed ≡ string_bytes s.printed) in
     let k = subst M m e in
     (k.0 ∙ ap (λ l. let s : State = record old { standing = standing.Starved; line = l; printed = new.printed } in s) (sym (ap (λ s. s.line) k.0)) ∙ ap (λ l. let s : State = record old { standing = standing.Starved; line = new.line; printed = new.printed; store = l } in s) (sym (ap (λ s. s.store) k.0)), k.1, ap (λ (s : State). s.store.items) k.0)
-print_did t n args old mid new Local h run top args_are m written line e =
-    let g = value_of old.texts in
+print_did t n args old mid new Local h top args_are m written line e =
+    let g = value_in old in
     let rest = drop (n + 1) old.operands.here in
     let l = yields_on (Gave pure.Nothing (Some t) (world_of old)) old rest in
     let M : State → Type 0 = λ s. (new ≡ record (moved (s.pc + 1) (value.None ∷ drop (n + 1) s.operands.here) s) { printed = new.printed }) × (string_bytes new.printed ≡ string_bytes s.printed ++ string_bytes mid.line) in
     let k = subst M m e in
-    let F = Fits (length old.texts) in
+    let F = IsThere old in
     let P : State → Type 0 = λ s. string_bytes s.printed ≡ string_bytes old.printed ++ encode_utf8_all t → Did l old s Local in
     let Q : Line → Type 0 = λ x. Did x old new Local in
     subst Q (sym (call_line n (value.BuiltIn Print) args old top args_are ∙ ap (λ x. yields_on (printing x (world_of old)) old rest) written))
     (subst P (sym k.0) (λ bytes. (
       record {
-        place = ap (λ st. place_in st (old.pc + 1) (pure.Nothing ∷ map g rest) (slots_of old) (blocks_of old)) (sym run);
+        place = ap (λ st. place_in st (old.pc + 1) (pure.Nothing ∷ map g rest) (slots_of old) (blocks_of old)) (sym h.running);
         world = refl;
         printed = bytes;
         code = refl;
-        sound = record { stacks = with_here (length old.texts) (value.None ∷ rest) old h.stacks (All-cons F value.None rest tt (All-drop F (n + 1) old.operands.here h.stacks.here)); blocks = h.blocks; globals = h.globals; store = h.store; literals = h.literals; slots = h.slots; built_ins = h.built_ins; short = h.short };
+        sound = record {
+          stacks = with_here (value.None ∷ rest) old h.sound.stacks (All-cons F value.None rest tt (All-drop F (n + 1) old.operands.here h.sound.stacks.here));
+          heap = h.sound.heap;
+          code = h.sound.code;
+        };
       },
-      run,
+      h.running,
     )) (k.1 ∙ ap (λ b. string_bytes old.printed ++ b) line))
 
 -- ---- locals
@@ -111,8 +116,8 @@ slot_seen texts (Some v ∷ xs) zero = refl
 slot_seen texts (x ∷ xs) (suc k) = slot_seen texts xs k
 
 -- the line that loads a local, by what its slot has
-load_line : (x : pure.Text) (k : ℕ) (o : Option Value) (s : State) → slot_in k s.slots.here ≡ o → line_of (LoadLocal x k) s ≡ yields_on (load_local x (bound_of s.texts o) (world_of s)) s s.operands.here
-load_line x k o s is = ap (λ p. yields_on (load_local x p (world_of s)) s s.operands.here) (slot_seen s.texts s.slots.here k ∙ ap (bound_of s.texts) is)
+load_line : (x : pure.Text) (k : ℕ) (o : Option Value) (s : State) → slot_in k s.slots.here ≡ o → line_of (LoadLocal x k) s ≡ yields_on (load_local x (bound_in s o) (world_of s)) s s.operands.here
+load_line x k o s is = ap (λ p. yields_on (load_local x p (world_of s)) s s.operands.here) (slot_seen s.texts s.slots.here k ∙ ap (bound_in s) is)
 
 load_unbound : (names : List pure.Text) (j : ℕ) (w : World) → load_local (text_at names j) None w ≡ threw names (not_bound_cause names j) w
 load_unbound names j w = pick (nat_lt max_length (length (not_bound (text_at names j))))
@@ -121,53 +126,52 @@ load_unbound names j w = pick (nat_lt max_length (length (not_bound (text_at nam
     pick true = refl
     pick false = refl
 
-pub unbound_local_did : (j k : ℕ) (old new : State) (r : Step) → IsSound old → slot_in k old.slots.here ≡ None → IsRaised (not_bound_cause old.table.names j) old new r → Did (line_of (LoadLocal (text_at old.table.names j) k) old) old new r
-unbound_local_did j k old new r h is e =
+pub unbound_local_did : (j k : ℕ) (old new : State) (r : Step) → slot_in k old.slots.here ≡ None → IsRaised (not_bound_cause old.table.names j) old new r → Does (LoadLocal (text_at old.table.names j) k) old new r
+unbound_local_did j k old new r is e =
     let names = old.table.names in
     let P : Line → Type 0 = λ l. Did l old new r in
-    subst P (sym (load_line (text_at names j) k None old is ∙ ap (λ f. yields_on f old old.operands.here) (load_unbound names j (world_of old)))) (raised_did (not_bound_cause names j) old.operands.here old new r h e)
+    subst P (sym (load_line (text_at names j) k None old is ∙ ap (λ f. yields_on f old old.operands.here) (load_unbound names j (world_of old)))) e
 
 -- a slot is set, with operands that fit the texts
-local_set : (k : ℕ) (o : Option Value) (rest : List Value) (old new : State) → IsSound old → old.standing ≡ standing.Running → FitsBound (length old.texts) o → All (Fits (length old.texts)) rest → new ≡ record (moved (old.pc + 1) rest old) { slots = record old.slots { here = slice_set old.slots.here k o } } → Did (goes (At (old.pc + 1) (map (value_of old.texts) rest) (slice_set (slots_of old) k (bound_of old.texts o)) (blocks_of old)) (world_of old)) old new Local
-local_set k o rest old new h run fits below e =
-    let L = FitsBound (length old.texts) in
+local_set : (k : ℕ) (o : Option Value) (rest : List Value) (old new : State) → IsReady old → FitsBound old.texts o → AreThere old rest → new ≡ record (moved (old.pc + 1) rest old) { slots = record old.slots { here = slice_set old.slots.here k o } } → Did (goes (At (old.pc + 1) (map (value_in old) rest) (slice_set (slots_of old) k (bound_in old o)) (blocks_of old)) (world_of old)) old new Local
+local_set k o rest old new h fits below e =
+    let L = FitsBound old.texts in
     let slots : SlotsSeen = record old.slots { here = slice_set old.slots.here k o } in
-    let stacks : AreSound (length old.texts) (with_operands rest old.operands) slots old.blocks = record {
+    let was = h.sound.stacks in
+    let stacks : SoundStacks old.texts (with_operands rest old.operands) slots old.blocks = record {
       here = below;
-      below = h.stacks.below;
-      locals = All-set L old.slots.here k o fits h.stacks.locals;
-      callers = h.stacks.callers;
-      operands_each = h.stacks.operands_each;
-      locals_each = h.stacks.locals_each;
+      below = was.below;
+      locals = All-set L old.slots.here k o fits was.locals;
+      callers = was.callers;
+      blocks = was.blocks;
+      operands_each = was.operands_each;
+      locals_each = was.locals_each;
     } in
-    let P : List (Option pure.Value) → Type 0 = λ xs. Did (goes (At (old.pc + 1) (map (value_of old.texts) rest) xs (blocks_of old)) (world_of old)) old new Local in
-    subst P (map-set (bound_of old.texts) old.slots.here k o) (placed_did (old.pc + 1) (with_operands rest old.operands) slots old.blocks old new h run stacks h.blocks e)
+    let P : List (Option pure.Value) → Type 0 = λ xs. Did (goes (At (old.pc + 1) (map (value_in old) rest) xs (blocks_of old)) (world_of old)) old new Local in
+    subst P (map-set (bound_in old) old.slots.here k o) (placed_did (old.pc + 1) (with_operands rest old.operands) slots old.blocks old new h stacks e)
 
 -- a slot is bound to the topmost operand
-pub store_local_did : (k : ℕ) (v : Value) (rest : List Value) (old new : State) → IsSound old → old.standing ≡ standing.Running → old.operands.here ≡ v ∷ rest → new ≡ record (moved (old.pc + 1) rest old) { slots = record old.slots { here = slice_set old.slots.here k (Some v) } } → Did (line_of (StoreLocal k) old) old new Local
-store_local_did k v rest old new h run top e =
-    let F = Fits (length old.texts) in
-    let A : List Value → Type 0 = λ vs. All F vs in
-    let ops : All F (v ∷ rest) = subst A top h.stacks.here in
+pub store_local_did : (k : ℕ) (v : Value) (rest : List Value) (old new : State) → IsReady old → old.operands.here ≡ v ∷ rest → new ≡ record (moved (old.pc + 1) rest old) { slots = record old.slots { here = slice_set old.slots.here k (Some v) } } → Does (StoreLocal k) old new Local
+store_local_did k v rest old new h top e =
     let P : Line → Type 0 = λ l. Did l old new Local in
-    subst P (sym (ap (line_on (StoreLocal k) old) top)) (local_set k (Some v) rest old new h run (All-head F v rest ops) (All-tail F v rest ops) e)
+    subst P (sym (ap (line_on (StoreLocal k) old) top)) (local_set k (Some v) rest old new h (topmost old h v rest top) (below old h v rest top) e)
 
 -- a slot is unbound
-pub unbind_local_did : (k : ℕ) (old new : State) → IsSound old → old.standing ≡ standing.Running → new ≡ record old { pc = old.pc + 1; slots = record old.slots { here = slice_set old.slots.here k None } } → Did (line_of (UnbindLocal k) old) old new Local
-unbind_local_did k old new h run e = local_set k None old.operands.here old new h run tt h.stacks.here e
+pub unbind_local_did : (k : ℕ) (old new : State) → IsReady old → new ≡ record old { pc = old.pc + 1; slots = record old.slots { here = slice_set old.slots.here k None } } → Does (UnbindLocal k) old new Local
+unbind_local_did k old new h e = local_set k None old.operands.here old new h tt h.sound.stacks.here e
 
 -- ---- calls with an argument by name
 
-pub named_raises : (cause : Cause) (n : ℕ) (f : Value) (old new : State) (r : Step) → IsSound old → drop n old.operands.here ≡ f ∷ drop (n + 1) old.operands.here → ((texts names : List pure.Text) (w : World) → call_by_name (value_of texts f) w ≡ threw names cause w) → IsRaised cause old new r → Did (line_of (CallByName n) old) old new r
-named_raises cause n f old new r h top gives e =
-    let g = value_of old.texts in
+pub named_raises : (cause : Cause) (n : ℕ) (f : Value) (old new : State) (r : Step) → drop n old.operands.here ≡ f ∷ drop (n + 1) old.operands.here → ((texts names : List pure.Text) (w : World) → call_by_name (value_of texts f) w ≡ threw names cause w) → IsRaised cause old new r → Does (CallByName n) old new r
+named_raises cause n f old new r top gives e =
+    let g = value_in old in
     let w = world_of old in
     let rest = drop (n + 1) old.operands.here in
     let P : Line → Type 0 = λ l. Did l old new r in
     let line : line_of (CallByName n) old ≡ yields_on (threw old.table.names cause w) old rest =
     ap (λ vs. on_callee vs (λ u ops. yields (call_by_name u w) (old.pc + 1) ops (slots_of old) (blocks_of old)) (stuck w)) (drop_map g n old.operands.here ∙ ap (map g) top)
     ∙ ap (λ f. yields_on f old rest) (gives old.texts old.table.names w) in
-    subst P (sym line) (raised_did cause rest old new r h e)
+    subst P (sym line) e
 
 -- ---- returns
 
@@ -188,33 +192,42 @@ pub back_slots : (lists : List (List (Option Value))) → 0 < length lists → b
 back_slots [] h = absurd (let no : ⊥ = omega (arith, h) in no)
 back_slots (xs ∷ lists) h = refl
 
--- back in the caller, with a value
-pub back_did : (after : ℕ) (v : Value) (bs : List Block) (old new : State) → IsSound old → old.standing ≡ standing.Running → Fits (length old.texts) v → All (FitsBlock old.texts) bs → calls_in old.blocks ≡ calls_in bs + 1 → new ≡ record (back_at after v old) { blocks = bs } → Did (goes (At after (value_of old.texts v ∷ map (value_of old.texts) (innermost old.operands.below)) (map (bound_of old.texts) (innermost old.slots.below)) (blocks_with old.texts bs (drop 1 old.operands.below) (drop 1 old.slots.below))) (world_of old)) old new Local
-back_did after v bs old new h run fits blocks one e =
-    let F = Fits (length old.texts) in
-    let L = FitsBound (length old.texts) in
-    let k = h.stacks in
-    let ops = callers_left (calls_in bs) old.operands.below (k.operands_each ∙ one) in
-    let locals = callers_left (calls_in bs) old.slots.below (k.locals_each ∙ one) in
-    let new_ops : OperandsSeen = record { here = v ∷ innermost old.operands.below; below = drop 1 old.operands.below } in
-    let new_slots : SlotsSeen = record { here = innermost old.slots.below; below = drop 1 old.slots.below } in
-    let stacks : AreSound (length old.texts) new_ops new_slots bs = record {
-      here = All-cons F v (innermost old.operands.below) fits (All-innermost F old.operands.below k.below);
-      below = All-drop (λ vs. All F vs) 1 old.operands.below k.below;
-      locals = All-innermost L old.slots.below k.callers;
-      callers = All-drop (λ xs. All L xs) 1 old.slots.below k.callers;
-      operands_each = ops.1;
-      locals_each = locals.1;
-    } in
-    let make : OperandsSeen → SlotsSeen → State = λ o x. record old { pc = after; operands = o; slots = x; blocks = bs } in
-    placed_did after new_ops new_slots bs old new h run stacks blocks
-    (e ∙ ap (λ o. make o (back old.slots.below)) (back_operands v old.operands.below ops.0) ∙ ap (make new_ops) (back_slots old.slots.below locals.0))
-
 -- there are callers where a call is under way
 pub caller_there : (s : State) (bs : List Block) → IsSound s → calls_in s.blocks ≡ calls_in bs + 1 → (0 < length s.operands.below) × (0 < length s.slots.below)
 caller_there s bs h one = (omega (arith, h.stacks.operands_each, one), omega (arith, h.stacks.locals_each, one))
 
-pub return_line : (v : Value) (ops : List Value) (s : State) → s.operands.here ≡ v ∷ ops → line_of DoReturn s ≡ goes (leave (Returns (value_of s.texts v)) (world_of s) (slots_of s) (blocks_of s)) (world_of s)
+-- the caller's stacks, without the call that ran
+abbrev pub caller_operands : List Value → OperandsSeen → OperandsSeen
+caller_operands vs ops = record { here = vs; below = drop 1 ops.below }
+
+abbrev pub caller_slots : SlotsSeen → SlotsSeen
+caller_slots slots = record { here = innermost slots.below; below = drop 1 slots.below }
+
+-- they are sound, with operands that fit the heap
+pub caller_sound : (vs : List Value) (bs : List Block) (s : State) → SoundStacks s.texts s.operands s.slots s.blocks → AreThere s vs → calls_in s.blocks ≡ calls_in bs + 1 → All (FitsBlock s.texts) bs → SoundStacks s.texts (caller_operands vs s.operands) (caller_slots s.slots) bs
+caller_sound vs bs s k fits one blocks = record {
+  here = fits;
+  below = All-drop (AreThere s) 1 s.operands.below k.below;
+  locals = All-innermost (FitsBound s.texts) s.slots.below k.callers;
+  callers = All-drop (λ xs. All (FitsBound s.texts) xs) 1 s.slots.below k.callers;
+  blocks = blocks;
+  operands_each = (callers_left (calls_in bs) s.operands.below (k.operands_each ∙ one)).1;
+  locals_each = (callers_left (calls_in bs) s.slots.below (k.locals_each ∙ one)).1;
+}
+
+-- back in the caller, with a value
+pub back_did : (after : ℕ) (v : Value) (bs : List Block) (old new : State) → IsReady old → IsThere old v → All (FitsBlock old.texts) bs → calls_in old.blocks ≡ calls_in bs + 1 → new ≡ record (back_at after v old) { blocks = bs } → Did (placed_line after (caller_operands (v ∷ innermost old.operands.below) old.operands) (caller_slots old.slots) bs old) old new Local
+back_did after v bs old new h fits blocks one e =
+    let k = h.sound.stacks in
+    let there = caller_there old bs h.sound one in
+    let vs = v ∷ innermost old.operands.below in
+    let new_ops = caller_operands vs old.operands in
+    let fit : AreThere old vs = All-cons (IsThere old) v (innermost old.operands.below) fits (All-innermost (IsThere old) old.operands.below k.below) in
+    let make : OperandsSeen → SlotsSeen → State = λ o x. record old { pc = after; operands = o; slots = x; blocks = bs } in
+    placed_did after new_ops (caller_slots old.slots) bs old new h (caller_sound vs bs old k fit one blocks)
+    (e ∙ ap (λ o. make o (back old.slots.below)) (back_operands v old.operands.below there.0) ∙ ap (make new_ops) (back_slots old.slots.below there.1))
+
+pub return_line : (v : Value) (ops : List Value) (s : State) → s.operands.here ≡ v ∷ ops → line_of DoReturn s ≡ goes (leave (Returns (value_in s v)) (world_of s) (slots_of s) (blocks_of s)) (world_of s)
 return_line v ops s top = ap (line_on DoReturn s) top
 
 -- ---- calls of functions
@@ -230,10 +243,10 @@ depth_is texts (block.Handling x ∷ bs) ops slots = depth_is texts bs ops slots
 depth_is texts (block.Frame after ∷ bs) ops slots = ap (λ n. n + 1) (depth_is texts bs (drop 1 ops) (drop 1 slots))
 
 -- the line of a call of a function, by its number's routine
-function_line : (number : ℕ) (name : ℕ) (args : List Value) (o : Option Routine) (s : State) (rest : List Value) → IsSound s → slice_get s.table.routines number ≡ o → calls_on (value.Function number name) args s rest ≡ enters (option_map entry_of o) (nat_lt (length s.operands.below) max_calls) (map (value_of s.texts) args) (s.pc + 1) (map (value_of s.texts) rest) (slots_of s) (blocks_of s) (world_of s)
+function_line : (number : ℕ) (name : ℕ) (args : List Value) (o : Option Routine) (s : State) (rest : List Value) → IsSound s → slice_get s.table.routines number ≡ o → calls_on (value.Function number name) args s rest ≡ enters (option_map entry_of o) (nat_lt (length s.operands.below) max_calls) (map (value_in s) args) (s.pc + 1) (map (value_in s) rest) (slots_of s) (blocks_of s) (world_of s)
 function_line number name args o s rest h is =
-    let vs = map (value_of s.texts) args in
-    let ops = map (value_of s.texts) rest in
+    let vs = map (value_in s) args in
+    let ops = map (value_in s) rest in
     ap (λ e. enters e (nat_lt (depth (blocks_of s)) max_calls) vs (s.pc + 1) ops (slots_of s) (blocks_of s) (world_of s)) (slice_get-map entry_of s.table.routines number ∙ ap (option_map entry_of) is)
     ∙ ap (λ n. enters (option_map entry_of o) (nat_lt n max_calls) vs (s.pc + 1) ops (slots_of s) (blocks_of s) (world_of s)) (depth_is s.texts s.blocks s.operands.below s.slots.below ∙ sym h.stacks.operands_each)
 
@@ -253,33 +266,33 @@ arguments_count n ops f texts top =
     length-map (reverse (take n ops)) (value_of texts) ∙ length-reverse (take n ops) ∙ length-take-le n ops (omega (arith, long))
 
 -- the line of a call of a function, by what fits: the number of arguments, and one call more
-entered_line : (number : ℕ) (name n : ℕ) (f : Routine) (fit room : Bool) (s : State) → IsSound s → drop n s.operands.here ≡ value.Function number name ∷ drop (n + 1) s.operands.here → slice_get s.table.routines number ≡ Some f → nat_eq n f.parameters ≡ fit → nat_lt (length s.operands.below) max_calls ≡ room → line_of (CallTop n) s ≡ choose fit (choose room (goes (At f.at [] (meaning.entered f.locals (map (value_of s.texts) (reverse (take n s.operands.here)))) (machine.Frame (s.pc + 1) (map (value_of s.texts) (drop (n + 1) s.operands.here)) (slots_of s) ∷ blocks_of s)) (world_of s)) (yields_on (too_deep (world_of s)) s (drop (n + 1) s.operands.here))) (yields_on (wrong_arguments (world_of s)) s (drop (n + 1) s.operands.here))
+entered_line : (number : ℕ) (name n : ℕ) (f : Routine) (fit room : Bool) (s : State) → IsSound s → drop n s.operands.here ≡ value.Function number name ∷ drop (n + 1) s.operands.here → slice_get s.table.routines number ≡ Some f → nat_eq n f.parameters ≡ fit → nat_lt (length s.operands.below) max_calls ≡ room → line_of (CallTop n) s ≡ choose fit (choose room (goes (At f.at [] (meaning.entered f.locals (map (value_in s) (reverse (take n s.operands.here)))) (machine.Frame (s.pc + 1) (map (value_in s) (drop (n + 1) s.operands.here)) (slots_of s) ∷ blocks_of s)) (world_of s)) (yields_on (too_deep (world_of s)) s (drop (n + 1) s.operands.here))) (yields_on (wrong_arguments (world_of s)) s (drop (n + 1) s.operands.here))
 entered_line number name n f fit room s h top is fits has =
     let args = reverse (take n s.operands.here) in
-    let vs = map (value_of s.texts) args in
+    let vs = map (value_in s) args in
     let rest = drop (n + 1) s.operands.here in
     let deep = yields_on (too_deep (world_of s)) s rest in
     let wrong = yields_on (wrong_arguments (world_of s)) s rest in
-    let go = goes (At f.at [] (meaning.entered f.locals vs) (machine.Frame (s.pc + 1) (map (value_of s.texts) rest) (slots_of s) ∷ blocks_of s)) (world_of s) in
+    let go = goes (At f.at [] (meaning.entered f.locals vs) (machine.Frame (s.pc + 1) (map (value_in s) rest) (slots_of s) ∷ blocks_of s)) (world_of s) in
     call_line n (value.Function number name) args s top refl
     ∙ function_line number name args (Some f) s rest h is
     ∙ ap (λ m. choose (nat_eq m f.parameters) (choose (nat_lt (length s.operands.below) max_calls) go deep) wrong) (arguments_count n s.operands.here (value.Function number name) s.texts top)
     ∙ ap (λ b. choose b (choose (nat_lt (length s.operands.below) max_calls) go deep) wrong) fits
     ∙ ap (λ b. choose fit (choose b go deep) wrong) has
 
-pub missing_raises : (number n : ℕ) (old new : State) (r : Step) → IsSound old → IsCallee number n old.operands.here → slice_get old.table.routines number ≡ None → IsRaised NotCallable old new r → Did (line_of (CallTop n) old) old new r
+pub missing_raises : (number n : ℕ) (old new : State) (r : Step) → IsReady old → IsCallee number n old.operands.here → slice_get old.table.routines number ≡ None → IsRaised NotCallable old new r → Does (CallTop n) old new r
 missing_raises number n old new r h callee is e =
-    call_refused NotCallable n (value.Function number callee.0) (reverse (take n old.operands.here)) old new r h callee.1 refl (function_line number callee.0 (reverse (take n old.operands.here)) None old (drop (n + 1) old.operands.here) h is) e
+    call_refused NotCallable n (value.Function number callee.0) (reverse (take n old.operands.here)) old new r callee.1 refl (function_line number callee.0 (reverse (take n old.operands.here)) None old (drop (n + 1) old.operands.here) h.sound is) e
 
-pub arguments_raise : (number n : ℕ) (f : Routine) (old new : State) (r : Step) → IsSound old → IsCallee number n old.operands.here → slice_get old.table.routines number ≡ Some f → n ≢ f.parameters → IsRaised WrongArguments old new r → Did (line_of (CallTop n) old) old new r
+pub arguments_raise : (number n : ℕ) (f : Routine) (old new : State) (r : Step) → IsReady old → IsCallee number n old.operands.here → slice_get old.table.routines number ≡ Some f → n ≢ f.parameters → IsRaised WrongArguments old new r → Does (CallTop n) old new r
 arguments_raise number n f old new r h callee is fits e =
     let P : Line → Type 0 = λ l. Did l old new r in
-    subst P (sym (entered_line number callee.0 n f false (nat_lt (length old.operands.below) max_calls) old h callee.1 is (ne_eqb n f.parameters fits) refl)) (raised_did WrongArguments (drop (n + 1) old.operands.here) old new r h e)
+    subst P (sym (entered_line number callee.0 n f false (nat_lt (length old.operands.below) max_calls) old h.sound callee.1 is (ne_eqb n f.parameters fits) refl)) e
 
-pub depth_raises : (number n : ℕ) (f : Routine) (old new : State) (r : Step) → IsSound old → IsCallee number n old.operands.here → slice_get old.table.routines number ≡ Some f → n ≡ f.parameters → max_calls ≤ length old.operands.below → IsRaised TooDeep old new r → Did (line_of (CallTop n) old) old new r
+pub depth_raises : (number n : ℕ) (f : Routine) (old new : State) (r : Step) → IsReady old → IsCallee number n old.operands.here → slice_get old.table.routines number ≡ Some f → n ≡ f.parameters → max_calls ≤ length old.operands.below → IsRaised TooDeep old new r → Does (CallTop n) old new r
 depth_raises number n f old new r h callee is fits has e =
     let P : Line → Type 0 = λ l. Did l old new r in
-    subst P (sym (entered_line number callee.0 n f true false old h callee.1 is (eq-eqb n f.parameters fits) (le-ltb (length old.operands.below) max_calls has))) (raised_did TooDeep (drop (n + 1) old.operands.here) old new r h e)
+    subst P (sym (entered_line number callee.0 n f true false old h.sound callee.1 is (eq-eqb n f.parameters fits) (le-ltb (length old.operands.below) max_calls has))) e
 
 -- the locals of a function as it begins
 unbound_seen : (texts : List pure.Text) (n : ℕ) → map (bound_of texts) (unbound n) ≡ meaning.unbound n
@@ -297,21 +310,21 @@ entered_seen texts locals vs =
     ∙ ap (λ l. meaning.passed (map (value_of texts) vs) ++ l) (unbound_seen texts (locals - length vs))
     ∙ ap (λ n. meaning.passed (map (value_of texts) vs) ++ meaning.unbound (locals - n)) (sym (length-map vs (value_of texts)))
 
-unbound_fit : (n k : ℕ) → All (FitsBound n) (unbound k)
-unbound_fit n zero = All-nil (FitsBound n)
-unbound_fit n (suc k) = All-cons (FitsBound n) None (unbound k) tt (unbound_fit n k)
+unbound_fit : (heap : Heap) (k : ℕ) → All (FitsBound heap) (unbound k)
+unbound_fit heap zero = All-nil (FitsBound heap)
+unbound_fit heap (suc k) = All-cons (FitsBound heap) None (unbound k) tt (unbound_fit heap k)
 
-entered_fit : (n : ℕ) (vs : List Value) (more : ℕ) → All (Fits n) vs → All (FitsBound n) (passed vs ++ unbound more)
-entered_fit n [] more h = unbound_fit n more
-entered_fit n (v ∷ vs) more h = All-cons (FitsBound n) (Some v) (passed vs ++ unbound more) (All-head (Fits n) v vs h) (entered_fit n vs more (All-tail (Fits n) v vs h))
+entered_fit : (heap : Heap) (vs : List Value) (more : ℕ) → All (Fits heap) vs → All (FitsBound heap) (passed vs ++ unbound more)
+entered_fit heap [] more h = unbound_fit heap more
+entered_fit heap (v ∷ vs) more h = All-cons (FitsBound heap) (Some v) (passed vs ++ unbound more) (All-head (Fits heap) v vs h) (entered_fit heap vs more (All-tail (Fits heap) v vs h))
 
-pub entered_did : (number n : ℕ) (f : Routine) (old new : State) (r : Step) → IsSound old → old.standing ≡ standing.Running → IsCallee number n old.operands.here → slice_get old.table.routines number ≡ Some f → n ≡ f.parameters → length old.operands.below < max_calls → IsEntered f n old new r → Did (line_of (CallTop n) old) old new r
-entered_did number n f old new Ended h run callee is fits has e = absurd e
-entered_did number n f old new Starved h run callee is fits has e = starved_did (line_of (CallTop n) old) old new e
-entered_did number n f old new Local h run callee is fits has e =
-    let F = Fits (length old.texts) in
-    let L = FitsBound (length old.texts) in
-    let k = h.stacks in
+pub entered_did : (number n : ℕ) (f : Routine) (old new : State) (r : Step) → IsReady old → IsCallee number n old.operands.here → slice_get old.table.routines number ≡ Some f → n ≡ f.parameters → length old.operands.below < max_calls → IsEntered f n old new r → Does (CallTop n) old new r
+entered_did number n f old new Ended h callee is fits has e = absurd e
+entered_did number n f old new Starved h callee is fits has e = starved_did (line_of (CallTop n) old) old new e
+entered_did number n f old new Local h callee is fits has e =
+    let F = IsThere old in
+    let L = FitsBound old.texts in
+    let k = h.sound.stacks in
     let args = reverse (take n old.operands.here) in
     let rest = drop (n + 1) old.operands.here in
     let ops = entered_operands n old.operands in
@@ -319,16 +332,17 @@ entered_did number n f old new Local h run callee is fits has e =
     let bs = block.Frame (old.pc + 1) ∷ old.blocks in
     let operands_each : suc (length old.operands.below) ≡ calls_in old.blocks + 1 = omega (arith, k.operands_each) in
     let locals_each : suc (length old.slots.below) ≡ calls_in old.blocks + 1 = omega (arith, k.locals_each) in
-    let stacks : AreSound (length old.texts) ops slots bs = record {
+    let stacks : SoundStacks old.texts ops slots bs = record {
       here = All-nil F;
       below = All-cons (λ vs. All F vs) rest old.operands.below (All-drop F (n + 1) old.operands.here k.here) k.below;
-      locals = entered_fit (length old.texts) args (f.locals - length args) (All-reverse F (take n old.operands.here) (All-take F n old.operands.here k.here));
+      locals = entered_fit old.texts args (f.locals - length args) (All-reverse F (take n old.operands.here) (All-take F n old.operands.here k.here));
       callers = All-cons (λ xs. All L xs) old.slots.here old.slots.below k.locals k.callers;
+      blocks = All-cons (FitsBlock old.texts) (block.Frame (old.pc + 1)) old.blocks tt k.blocks;
       operands_each = operands_each;
       locals_each = locals_each;
     } in
     let P : Line → Type 0 = λ l. Did l old new Local in
     let line =
-    entered_line number callee.0 n f true true old h callee.1 is (eq-eqb n f.parameters fits) (lt-ltb (length old.operands.below) max_calls has)
-    ∙ ap (λ xs. goes (At f.at [] xs (machine.Frame (old.pc + 1) (map (value_of old.texts) rest) (slots_of old) ∷ blocks_of old)) (world_of old)) (sym (entered_seen old.texts f.locals args)) in
-    subst P (sym line) (placed_did f.at ops slots bs old new h run stacks (All-cons (FitsBlock old.texts) (block.Frame (old.pc + 1)) old.blocks tt h.blocks) e)
+    entered_line number callee.0 n f true true old h.sound callee.1 is (eq-eqb n f.parameters fits) (lt-ltb (length old.operands.below) max_calls has)
+    ∙ ap (λ xs. goes (At f.at [] xs (machine.Frame (old.pc + 1) (map (value_in old) rest) (slots_of old) ∷ blocks_of old)) (world_of old)) (sym (entered_seen old.texts f.locals args)) in
+    subst P (sym line) (placed_did f.at ops slots bs old new h stacks e)

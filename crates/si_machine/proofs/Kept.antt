@@ -16,13 +16,15 @@ use Rattle.si_machine.specs.declared.step.Step.{Step}
 use Rattle.si_machine.specs.declared.step.Outcome.TheVariants.{Returned}
 use Rattle.si_machine.specs.declared.step.Step.TheVariants.{Local, Ended, Starved}
 use Rattle.std.proofs.lemmas.List.Elements.{All-nil}
-use Rattle.si_code.specs.Contents.{no_code}
-use Rattle.si_machine.specs.Values.{Fits, FitsBound, FitsObject, AreBuiltIn}
-use Rattle.si_machine.specs.Causes.{object_of}
+use Rattle.si_code.specs.Contents.{Contents, no_code}
+use Rattle.si_machine.specs.Values.{FitsBound, FitsObject}
 use Rattle.si_machine.specs.declared.value.Object.{Object}
+use Rattle.si_machine.specs.declared.value.Value.{Value}
+use Rattle.si_machine.proofs.Lines.{no_stacks}
 use Rattle.si_machine.specs.Outcomes.{outcome_of}
 use Rattle.si_machine.specs.Machines.{Seen, moment_of, from_here, IsAt, printed_of, Steps}
-use Rattle.si_machine.specs.States.{AreSound, IsSound, IsKept, IsOpen, Moves, Did, FitsBlock, bytes_of, is_starved, no_operands, no_slots, place_in, place_of, blocks_of, operands_of, slots_of, world_of, next_line, seen}
+use Rattle.si_machine.specs.Sound.{SoundStacks, SoundHeap, SoundCode}
+use Rattle.si_machine.specs.States.{object_in, IsSound, IsKept, IsOpen, Moves, Did, bytes_of, is_starved, no_operands, no_slots, place_in, place_of, blocks_of, operands_of, slots_of, world_of, next_line, seen}
 
 -- ---- courses
 
@@ -79,17 +81,8 @@ open_next s h run e = h.never no_compiler 1 (ap (λ c. c.place) (line_is no_comp
 
 sound_starved : (old new : State) → IsSound old → new ≡ record old { standing = standing.Starved; line = new.line; printed = new.printed; store = new.store } → new.store.items ≡ old.store.items → IsSound new
 sound_starved old new h e same =
-    let S : List Object → Type 0 = λ os. All (FitsObject (length old.texts)) os in
-    subst IsSound (sym e) (record {
-      stacks = h.stacks;
-      blocks = h.blocks;
-      globals = h.globals;
-      store = subst S (sym same) h.store;
-      literals = h.literals;
-      slots = h.slots;
-      built_ins = h.built_ins;
-      short = h.short;
-    })
+    let S : List Object → Type 0 = λ os. SoundHeap old.table.literals old.texts old.globals.items os in
+    subst IsSound (sym e) (record { stacks = h.stacks; heap = subst S (sym same) h.heap; code = h.code })
 
 -- a course whose next line led to a place, with its world
 moment_next : (l : Line) (p : Place) (old new : State) → Moves l p old new → from_here (record (after l (moment_of (seen old))) { place = place_of new }) ≡ moment_of (seen new)
@@ -104,7 +97,7 @@ bytes_printed (Some t) n = ap encode_utf8_all (append-nil t)
 
 starved_seen : (old new : State) → old.standing ≡ standing.Running → Did (next_line old) old new Starved → seen new ≡ record (seen old) { starved = true }
 starved_seen old new run did =
-    let make : Place → List ℕ → List Object → Seen = λ p b os. record (seen old) { place = p; printed = b; starved = true; store = map (object_of old.texts old.table.names) os } in
+    let make : Place → List ℕ → List Object → Seen = λ p b os. record (seen old) { place = p; printed = b; starved = true; store = map (object_in old) os } in
     let here = At old.pc (operands_of old) (slots_of old) (blocks_of old) in
     ap seen did.0
     ∙ ap (λ b. make here b new.store.items) did.1
@@ -161,38 +154,25 @@ keeps old new Starved h run did = record {
 -- it holds of a machine without code
 pub blank_kept : (s : State) → s.standing ≡ standing.Idle → s.table ≡ no_code → s.operands ≡ no_operands → s.slots ≡ no_slots → s.blocks ≡ [] → s.globals.items ≡ [] → s.built_ins.items ≡ [] → s.store.items ≡ [] → IsKept s
 blank_kept s idle code ops slots bs gs vs os =
-    let F = Fits (length s.texts) in
-    let L = FitsBound (length s.texts) in
-    let none : AreSound (length s.texts) no_operands no_slots [] =
-    record { here = All-nil F; below = All-nil (λ vs. All F vs); locals = All-nil L; callers = All-nil (λ xs. All L xs); operands_each = refl; locals_each = refl } in
+    let H : List pure.Text → List (Option Value) → List Object → Type 0 = λ lits cells objects. SoundHeap lits s.texts cells objects in
+    let C : Contents → ℕ → List (Option Value) → Type 0 = λ t n built. SoundCode t n built in
+    let heap : H [] [] [] = record { literals = refl; globals = All-nil (FitsBound s.texts); store = All-nil (FitsObject s.texts) } in
+    let none : C no_code 0 [] = record { slots = refl; built_ins = tt; short = omega arith } in
     record {
       sound = record {
         stacks =
-            subst (λ o. AreSound (length s.texts) o s.slots s.blocks) (sym ops)
-            (subst (λ x. AreSound (length s.texts) no_operands x s.blocks) (sym slots) (subst (λ b. AreSound (length s.texts) no_operands no_slots b) (sym bs) none));
-        blocks = subst (All (FitsBlock s.texts)) (sym bs) (All-nil (FitsBlock s.texts));
-        globals = subst (All (FitsBound (length s.texts))) (sym gs) (All-nil (FitsBound (length s.texts)));
-        store = subst (All (FitsObject (length s.texts))) (sym os) (All-nil (FitsObject (length s.texts)));
-        literals = subst (λ t. take (length t.literals) s.texts ≡ t.literals) (sym code) refl;
-        slots = ap length gs ∙ sym (ap (λ t. length t.names) code);
-        built_ins = subst (λ t. AreBuiltIn t.names s.built_ins.items) (sym code) (subst (AreBuiltIn []) (sym vs) tt);
-        short = subst (λ t. length t.lines < 2 ^ 63) (sym code) (omega arith);
+            subst (λ o. SoundStacks s.texts o s.slots s.blocks) (sym ops)
+            (subst (λ x. SoundStacks s.texts no_operands x s.blocks) (sym slots) (subst (λ b. SoundStacks s.texts no_operands no_slots b) (sym bs) (no_stacks s.texts)));
+        heap =
+            subst (λ t. H t.literals s.globals.items s.store.items) (sym code)
+            (subst (λ cells. H [] cells s.store.items) (sym gs) (subst (λ objects. H [] [] objects) (sym os) heap));
+        code =
+            subst (λ t. C t (length s.globals.items) s.built_ins.items) (sym code)
+            (subst (λ cells. C no_code (length cells) s.built_ins.items) (sym gs) (subst (λ built. C no_code 0 built) (sym vs) none));
       };
       never = never_taking (moment_of (seen s)) refl (idle_waits s idle);
     }
 
 -- and it holds still once the outcome is taken
 pub taken_kept : (s : State) → IsKept s → IsKept (record s { outcome = Returned })
-taken_kept s h = record {
-  sound = record {
-    stacks = h.sound.stacks;
-    blocks = h.sound.blocks;
-    globals = h.sound.globals;
-    store = h.sound.store;
-    literals = h.sound.literals;
-    slots = h.sound.slots;
-    built_ins = h.sound.built_ins;
-    short = h.sound.short;
-  };
-  never = h.never;
-}
+taken_kept s h = record { sound = record { stacks = h.sound.stacks; heap = h.sound.heap; code = h.sound.code }; never = h.never }

@@ -20,13 +20,14 @@ use Rattle.si_machine.specs.declared.state.State.{State}
 use Rattle.si_machine.specs.declared.step.Outcome.TheVariants.{Returned, Raised}
 use Rattle.si_machine.specs.declared.step.Step.{Step}
 use Rattle.si_machine.specs.declared.step.Step.TheVariants.{Local, Ended}
-use Rattle.si_machine.specs.Values.{value_of, bound_of, leaving_of, Fits, FitsBound, FitsLeaving}
+use Rattle.si_machine.specs.Values.{Heap, value_of, bound_of, leaving_of, Fits, FitsLeaving}
 use Rattle.si_machine.specs.Blocks.{concerns, reached, is_handled, active_of, NoFrame, LeavesFrame, IsMet, left_with, left_to, IsPlain}
 use Rattle.si_machine.specs.Stacks.{OperandsSeen, SlotsSeen, back, left_by}
-use Rattle.si_machine.specs.States.{AreSound, IsSound, Did, Unwinds, innermost, blocks_with, slots_of, world_of, line_of, FitsBlock, calls_in, with_operands, at_rest, back_at, leave_line}
+use Rattle.si_machine.specs.Sound.{FitsBlock, calls_in}
+use Rattle.si_machine.specs.States.{value_in, bound_in, IsThere, IsSound, IsReady, Did, Does, Unwinds, innermost, blocks_with, blocks_in, slots_of, world_of, with_operands, at_rest, back_at, leave_line}
 use Rattle.si_machine.proofs.Growth.{All-innermost}
-use Rattle.si_machine.proofs.Lines.{placed_did, finished_did, rest_sound}
-use Rattle.si_machine.proofs.Frames.{return_line, back_did, callers_left, left_operands, back_slots, caller_there}
+use Rattle.si_machine.proofs.Lines.{with_blocks, sound_at, rest_sound, topmost, blocks_did, finished_did}
+use Rattle.si_machine.proofs.Frames.{return_line, caller_operands, caller_slots, caller_sound, back_did, left_operands, back_slots, caller_there}
 
 -- ---- blocks
 
@@ -174,16 +175,16 @@ active_same texts (Frame after ∷ bs) ops slots = active_same texts bs (drop 1 
 -- ---- where leaving comes to
 
 -- where it goes, by what is reached
-reached_line : (q : Leaving) (bs : List Block) (s : State) → reached q s.blocks ≡ bs → leave_line q s ≡ goes (leave (leaving_of s.texts q) (world_of s) (slots_of s) (blocks_with s.texts bs s.operands.below s.slots.below)) (world_of s)
+reached_line : (q : Leaving) (bs : List Block) (s : State) → reached q s.blocks ≡ bs → leave_line q s ≡ goes (leave (leaving_of s.texts q) (world_of s) (slots_of s) (blocks_in s bs)) (world_of s)
 reached_line q bs s is =
     ap (λ p. goes p (world_of s)) (reached_same q s.texts (world_of s) (slots_of s) s.blocks s.operands.below s.slots.below)
-    ∙ ap (λ l. goes (leave (leaving_of s.texts q) (world_of s) (slots_of s) (blocks_with s.texts l s.operands.below s.slots.below)) (world_of s)) is
+    ∙ ap (λ l. goes (leave (leaving_of s.texts q) (world_of s) (slots_of s) (blocks_in s l)) (world_of s)) is
 
 reached_count : (q : Leaving) (bs : List Block) (s : State) → reached q s.blocks ≡ bs → calls_in s.blocks ≡ calls_in bs
 reached_count q bs s is = sym (reached_calls q s.blocks) ∙ ap calls_in is
 
 reached_fit : (q : Leaving) (bs : List Block) (s : State) → IsSound s → reached q s.blocks ≡ bs → All (FitsBlock s.texts) bs
-reached_fit q bs s h is = let P : List Block → Type 0 = λ l. All (FitsBlock s.texts) l in subst P is (reached_all (FitsBlock s.texts) q s.blocks h.blocks)
+reached_fit q bs s h is = let P : List Block → Type 0 = λ l. All (FitsBlock s.texts) l in subst P is (reached_all (FitsBlock s.texts) q s.blocks h.stacks.blocks)
 
 final_place : (q : Leaving) (texts : List pure.Text) (w : World) (here : List (Option pure.Value)) (suite : ℕ) (bs : List machine.Block) → leave (leaving_of texts q) w here (machine.Final suite ∷ bs) ≡ At suite [] here (machine.Pending (Some (leaving_of texts q)) ∷ bs)
 final_place (Raises x) texts w here suite bs = refl
@@ -191,27 +192,13 @@ final_place (Returns v) texts w here suite bs = refl
 final_place Breaks texts w here suite bs = refl
 final_place Continues texts w here suite bs = refl
 
--- with a block in place of the innermost, and no operands
-arrived : (n next : ℕ) (b c : Block) (rest : List Block) (old new : State) → IsSound old → old.standing ≡ standing.Running → calls_in old.blocks ≡ calls_in (c ∷ rest) → FitsBlock old.texts c → All (FitsBlock old.texts) rest → new ≡ record old { pc = next; operands = with_operands [] old.operands; blocks = c ∷ rest } → Did (goes (At next [] (slots_of old) (blocks_with old.texts (c ∷ rest) old.operands.below old.slots.below)) (world_of old)) old new Local
-arrived n next b c rest old new h run count fits below e =
-    let k = h.stacks in
-    let stacks : AreSound (length old.texts) (with_operands [] old.operands) old.slots (c ∷ rest) = record {
-      here = All-nil (Fits (length old.texts));
-      below = k.below;
-      locals = k.locals;
-      callers = k.callers;
-      operands_each = k.operands_each ∙ count;
-      locals_each = k.locals_each ∙ count;
-    } in
-    placed_did next (with_operands [] old.operands) old.slots (c ∷ rest) old new h run stacks (All-cons (FitsBlock old.texts) c rest fits below) e
-
 -- to a finally suite
-pub final_did : (q : Leaving) (suite : ℕ) (rest : List Block) (old new : State) → IsSound old → old.standing ≡ standing.Running → FitsLeaving (length old.texts) q → reached q old.blocks ≡ Final suite ∷ rest → new ≡ record old { pc = suite; operands = with_operands [] old.operands; blocks = Pending (Some q) ∷ rest } → Did (leave_line q old) old new Local
-final_did q suite rest old new h run fits is e =
+pub final_did : (q : Leaving) (suite : ℕ) (rest : List Block) (old new : State) → IsReady old → FitsLeaving old.texts q → reached q old.blocks ≡ Final suite ∷ rest → new ≡ record old { pc = suite; operands = with_operands [] old.operands; blocks = Pending (Some q) ∷ rest } → Did (leave_line q old) old new Local
+final_did q suite rest old new h fits is e =
     let P : Line → Type 0 = λ l. Did l old new Local in
-    let bs = blocks_with old.texts rest old.operands.below old.slots.below in
+    let bs = blocks_in old rest in
     subst P (sym (reached_line q (Final suite ∷ rest) old is ∙ ap (λ p. goes p (world_of old)) (final_place q old.texts (world_of old) (slots_of old) suite bs)))
-    (arrived 0 suite (Final suite) (Pending (Some q)) rest old new h run (reached_count q (Final suite ∷ rest) old is) fits (All-tail (FitsBlock old.texts) (Final suite) rest (reached_fit q (Final suite ∷ rest) old h is)) e)
+    (blocks_did suite [] (Pending (Some q) ∷ rest) old new h (All-nil (IsThere old)) (reached_count q (Final suite ∷ rest) old is) (All-cons (FitsBlock old.texts) (Pending (Some q)) rest fits (All-tail (FitsBlock old.texts) (Final suite) rest (reached_fit q (Final suite ∷ rest) old h.sound is))) e)
 
 loop_place : (q : Leaving) (texts : List pure.Text) (w : World) (here : List (Option pure.Value)) (start after : ℕ) (bs : List machine.Block) → concerns q (Loop start after) ≡ true → leave (leaving_of texts q) w here (machine.Loop start after ∷ bs) ≡ At (left_to q start after) [] here bs
 loop_place (Raises x) texts w here start after bs e = cc
@@ -220,23 +207,13 @@ loop_place Breaks texts w here start after bs e = refl
 loop_place Continues texts w here start after bs e = refl
 
 -- out of a loop, or to its start
-pub loop_did : (q : Leaving) (start after : ℕ) (rest : List Block) (old new : State) → IsSound old → old.standing ≡ standing.Running → reached q old.blocks ≡ Loop start after ∷ rest → new ≡ record old { pc = left_to q start after; operands = with_operands [] old.operands; blocks = rest } → Did (leave_line q old) old new Local
-loop_did q start after rest old new h run is e =
-    let k = h.stacks in
-    let count = reached_count q (Loop start after ∷ rest) old is in
-    let stacks : AreSound (length old.texts) (with_operands [] old.operands) old.slots rest = record {
-      here = All-nil (Fits (length old.texts));
-      below = k.below;
-      locals = k.locals;
-      callers = k.callers;
-      operands_each = k.operands_each ∙ count;
-      locals_each = k.locals_each ∙ count;
-    } in
+pub loop_did : (q : Leaving) (start after : ℕ) (rest : List Block) (old new : State) → IsReady old → reached q old.blocks ≡ Loop start after ∷ rest → new ≡ record old { pc = left_to q start after; operands = with_operands [] old.operands; blocks = rest } → Did (leave_line q old) old new Local
+loop_did q start after rest old new h is e =
     let P : Line → Type 0 = λ l. Did l old new Local in
-    let bs = blocks_with old.texts rest old.operands.below old.slots.below in
+    let bs = blocks_in old rest in
     let top = reached_top q old.blocks (Loop start after) rest is in
     subst P (sym (reached_line q (Loop start after ∷ rest) old is ∙ ap (λ p. goes p (world_of old)) (loop_place q old.texts (world_of old) (slots_of old) start after bs top)))
-    (placed_did (left_to q start after) (with_operands [] old.operands) old.slots rest old new h run stacks (All-tail (FitsBlock old.texts) (Loop start after) rest (reached_fit q (Loop start after ∷ rest) old h is)) e)
+    (blocks_did (left_to q start after) [] rest old new h (All-nil (IsThere old)) (reached_count q (Loop start after ∷ rest) old is) (All-tail (FitsBlock old.texts) (Loop start after) rest (reached_fit q (Loop start after ∷ rest) old h.sound is)) e)
 
 frame_place : (q : Leaving) (texts : List pure.Text) (w : World) (here : List (Option pure.Value)) (after : ℕ) (ops : List pure.Value) (slots : List (Option pure.Value)) (bs : List machine.Block) → IsPlain q → leave (leaving_of texts q) w here (machine.Frame after ops slots ∷ bs) ≡ At after (value_of texts (left_with q) ∷ ops) slots bs
 frame_place (Raises x) texts w here after ops slots bs h = absurd h
@@ -244,21 +221,21 @@ frame_place (Returns v) texts w here after ops slots bs h = refl
 frame_place Breaks texts w here after ops slots bs h = refl
 frame_place Continues texts w here after ops slots bs h = refl
 
-value_fits : (n : ℕ) (q : Leaving) → FitsLeaving n q → Fits n (left_with q)
-value_fits n (Raises x) h = tt
-value_fits n (Returns v) h = h
-value_fits n Breaks h = tt
-value_fits n Continues h = tt
+value_fits : (heap : Heap) (q : Leaving) → FitsLeaving heap q → Fits heap (left_with q)
+value_fits heap (Raises x) h = tt
+value_fits heap (Returns v) h = h
+value_fits heap Breaks h = tt
+value_fits heap Continues h = tt
 
 -- back in the caller
-pub frame_did : (q : Leaving) (after : ℕ) (rest : List Block) (old new : State) → IsSound old → old.standing ≡ standing.Running → IsPlain q → FitsLeaving (length old.texts) q → reached q old.blocks ≡ Frame after ∷ rest → new ≡ record (back_at after (left_with q) old) { blocks = rest } → Did (leave_line q old) old new Local
-frame_did q after rest old new h run plain fits is e =
+pub frame_did : (q : Leaving) (after : ℕ) (rest : List Block) (old new : State) → IsReady old → IsPlain q → FitsLeaving old.texts q → reached q old.blocks ≡ Frame after ∷ rest → new ≡ record (back_at after (left_with q) old) { blocks = rest } → Did (leave_line q old) old new Local
+frame_did q after rest old new h plain fits is e =
     let P : Line → Type 0 = λ l. Did l old new Local in
-    let ops = map (value_of old.texts) (innermost old.operands.below) in
-    let slots = map (bound_of old.texts) (innermost old.slots.below) in
+    let ops = map (value_in old) (innermost old.operands.below) in
+    let slots = map (bound_in old) (innermost old.slots.below) in
     let bs = blocks_with old.texts rest (drop 1 old.operands.below) (drop 1 old.slots.below) in
     subst P (sym (reached_line q (Frame after ∷ rest) old is ∙ ap (λ p. goes p (world_of old)) (frame_place q old.texts (world_of old) (slots_of old) after ops slots bs plain)))
-    (back_did after (left_with q) rest old new h run (value_fits (length old.texts) q fits) (All-tail (FitsBlock old.texts) (Frame after) rest (reached_fit q (Frame after ∷ rest) old h is)) (reached_count q (Frame after ∷ rest) old is) e)
+    (back_did after (left_with q) rest old new h (value_fits old.texts q fits) (All-tail (FitsBlock old.texts) (Frame after) rest (reached_fit q (Frame after ∷ rest) old h.sound is)) (reached_count q (Frame after ∷ rest) old is) e)
 
 pub frame_caller : (q : Leaving) (after : ℕ) (rest : List Block) (s : State) → IsSound s → reached q s.blocks ≡ Frame after ∷ rest → (0 < length s.operands.below) × (0 < length s.slots.below)
 frame_caller q after rest s h is = caller_there s rest h (reached_count q (Frame after ∷ rest) s is)
@@ -270,13 +247,13 @@ end_place Breaks texts w here h = refl
 end_place Continues texts w here h = refl
 
 -- out of the run
-pub end_did : (q : Leaving) (old new : State) → IsSound old → IsPlain q → reached q old.blocks ≡ [] → new ≡ at_rest Returned old → Did (leave_line q old) old new Ended
+pub end_did : (q : Leaving) (old new : State) → IsReady old → IsPlain q → reached q old.blocks ≡ [] → new ≡ at_rest Returned old → Did (leave_line q old) old new Ended
 end_did q old new h plain is e =
     let P : Line → Type 0 = λ l. Did l old new Ended in
     subst P (sym (reached_line q [] old is ∙ ap (λ p. goes p (world_of old)) (end_place q old.texts (world_of old) (slots_of old) plain))) (finished_did old new h e)
 
 -- an exception that nothing handles ends the run
-pub raised_ends : (x : ℕ) (kind : Kind) (text : pure.Text) (old new : State) → IsSound old → is_handled old.blocks ≡ false → kind ≡ life.kind_of (slice_get (world_of old).store x) → text ≡ message_of (str_in (world_of old).store (pure.Address x)) → new ≡ at_rest (Raised kind text) old → Did (leave_line (Raises x) old) old new Ended
+pub raised_ends : (x : ℕ) (kind : Kind) (text : pure.Text) (old new : State) → IsReady old → is_handled old.blocks ≡ false → kind ≡ life.kind_of (slice_get (world_of old).store x) → text ≡ message_of (str_in (world_of old).store (pure.Address x)) → new ≡ at_rest (Raised kind text) old → Did (leave_line (Raises x) old) old new Ended
 raised_ends x kind text old new h none k t e =
     let l = leave_line (Raises x) old in
     let P : State → Type 0 = λ s. Did l old s Ended in
@@ -286,7 +263,7 @@ raised_ends x kind text old new h none k t e =
         world = refl;
         printed = sym (append-nil (string_bytes old.printed));
         code = refl;
-        sound = rest_sound (Raised kind text) old h;
+        sound = rest_sound (Raised kind text) old h.sound;
       },
       refl,
       refl,
@@ -299,39 +276,23 @@ pub unwound_frame : (x : ℕ) (bs : List Block) (first old new : State) → Unwi
 unwound_frame x bs first old new u left e =
     let h = u.sound in
     let k = h.stacks in
-    let F = Fits (length old.texts) in
-    let S = FitsBound (length old.texts) in
     let is : reached (Raises x) old.blocks ≡ Frame left.0 ∷ bs = one_exception x 0 old.blocks ∙ left.1 in
     let one : calls_in old.blocks ≡ calls_in bs + 1 = reached_count (Raises x) (Frame left.0 ∷ bs) old is in
     let there = caller_there old bs h one in
-    let ops = callers_left (calls_in bs) old.operands.below (k.operands_each ∙ one) in
-    let locals = callers_left (calls_in bs) old.slots.below (k.locals_each ∙ one) in
-    let new_ops : OperandsSeen = record { here = innermost old.operands.below; below = drop 1 old.operands.below } in
-    let new_slots : SlotsSeen = record { here = innermost old.slots.below; below = drop 1 old.slots.below } in
-    let stacks : AreSound (length old.texts) new_ops new_slots bs = record {
-      here = All-innermost F old.operands.below k.below;
-      below = All-drop (λ vs. All F vs) 1 old.operands.below k.below;
-      locals = All-innermost S old.slots.below k.callers;
-      callers = All-drop (λ xs. All S xs) 1 old.slots.below k.callers;
-      operands_each = ops.1;
-      locals_each = locals.1;
-    } in
-    let mid : State = record old { operands = new_ops; slots = new_slots; blocks = bs } in
+    let vs = innermost old.operands.below in
+    let new_ops = caller_operands vs old.operands in
+    let new_slots = caller_slots old.slots in
+    let blocks = All-tail (FitsBlock old.texts) (Frame left.0) bs (reached_fit (Raises x) (Frame left.0 ∷ bs) old h is) in
+    let stacks = caller_sound vs bs old k (All-innermost (IsThere old) old.operands.below k.below) one blocks in
     let make : OperandsSeen → SlotsSeen → State = λ o l. record old { operands = o; slots = l; blocks = bs } in
-    let same : new ≡ mid = e ∙ ap (λ o. make o (back old.slots.below)) (left_operands old.operands.below there.0) ∙ ap (make new_ops) (back_slots old.slots.below there.1) in
+    let same : new ≡ make new_ops new_slots = e ∙ ap (λ o. make o (back old.slots.below)) (left_operands old.operands.below there.0) ∙ ap (make new_ops) (back_slots old.slots.below there.1) in
     let P : State → Type 0 = λ s. Unwinds x first s in
     let again : State → State = λ s. record s { operands = new_ops; slots = new_slots; blocks = bs } in
-    let sound : IsSound mid = record {
-      stacks = stacks;
-      blocks = All-tail (FitsBlock old.texts) (Frame left.0) bs (reached_fit (Raises x) (Frame left.0 ∷ bs) old h is);
-      globals = h.globals;
-      store = h.store;
-      literals = h.literals;
-      slots = h.slots;
-      built_ins = h.built_ins;
-      short = h.short;
-    } in
-    subst P (sym same) (record { state = ap again u.state; sound = sound; goes = sym (ap (λ l. l.place) (reached_line (Raises x) (Frame left.0 ∷ bs) old is)) ∙ u.goes })
+    subst P (sym same) (record {
+      state = ap again u.state;
+      sound = sound_at old.pc new_ops new_slots bs old h stacks;
+      goes = sym (ap (λ l. l.place) (reached_line (Raises x) (Frame left.0 ∷ bs) old is)) ∙ u.goes;
+    })
 
 -- up to a block that stops it
 pub unwound_met : (x : ℕ) (bs : List Block) (first old new : State) → Unwinds x first old → is_handled old.blocks ≡ true → LeavesFrame old.blocks bs false → new ≡ record old { blocks = bs } → Unwinds x first new × IsMet new.blocks
@@ -339,26 +300,13 @@ unwound_met x bs first old new u handled left e =
     let h = u.sound in
     let k = h.stacks in
     let is : reached (Raises x) old.blocks ≡ bs = one_exception x 0 old.blocks ∙ sym left.0 in
-    let mid : State = record old { blocks = bs } in
     let again : State → State = λ s. record s { blocks = bs } in
-    let count = reached_count (Raises x) bs old is in
-    let stacks : AreSound (length old.texts) old.operands old.slots bs =
-    record { here = k.here; below = k.below; locals = k.locals; callers = k.callers; operands_each = k.operands_each ∙ count; locals_each = k.locals_each ∙ count } in
-    let sound : IsSound mid = record {
-      stacks = stacks;
-      blocks = reached_fit (Raises x) bs old h is;
-      globals = h.globals;
-      store = h.store;
-      literals = h.literals;
-      slots = h.slots;
-      built_ins = h.built_ins;
-      short = h.short;
-    } in
+    let stacks = with_blocks old.operands.here bs old k k.here (reached_count (Raises x) bs old is) (reached_fit (Raises x) bs old h is) in
     let M : List Block → Type 0 = λ l. IsMet l in
     let N : List Block → Type 0 = λ l. NoFrame l in
     let P : State → Type 0 = λ s. Unwinds x first s × IsMet s.blocks in
     subst P (sym e) (
-      record { state = ap again u.state; sound = sound; goes = sym (ap (λ l. l.place) (reached_line (Raises x) bs old is)) ∙ u.goes },
+      record { state = ap again u.state; sound = sound_at old.pc old.operands old.slots bs old h stacks; goes = sym (ap (λ l. l.place) (reached_line (Raises x) bs old is)) ∙ u.goes },
       subst M is (met_reached x old.blocks handled (subst N (sym is) left.1)),
     )
 
@@ -376,10 +324,7 @@ ended l old new r e h =
 
 -- ---- return
 
-returned_fits : (v : Value) (ops : List Value) (s : State) → IsSound s → s.operands.here ≡ v ∷ ops → Fits (length s.texts) v
-returned_fits v ops s h top = let A : List Value → Type 0 = λ vs. All (Fits (length s.texts)) vs in All-head (Fits (length s.texts)) v ops (subst A top h.stacks.here)
-
-pub return_left : (v : Value) (ops : List Value) (old new : State) (r : Step) → old.operands.here ≡ v ∷ ops → Did (leave_line (Returns v) old) old new r → Did (line_of machine.DoReturn old) old new r
+pub return_left : (v : Value) (ops : List Value) (old new : State) (r : Step) → old.operands.here ≡ v ∷ ops → Did (leave_line (Returns v) old) old new r → Does machine.DoReturn old new r
 return_left v ops old new r top did =
     let P : Line → Type 0 = λ l. Did l old new r in
     subst P (sym (return_line v ops old top)) did
@@ -387,9 +332,9 @@ return_left v ops old new r top did =
 top_reached : (q : Leaving) (b : Block) (rest bs : List Block) → bs ≡ b ∷ rest → concerns q b ≡ true → reached q bs ≡ b ∷ rest
 top_reached q b rest bs top is = ap (reached q) top ∙ ap (λ c. cond c (b ∷ rest) (reached q rest)) is
 
-pub return_back : (after : ℕ) (v : Value) (ops : List Value) (rest : List Block) (old new : State) → IsSound old → old.standing ≡ standing.Running → old.operands.here ≡ v ∷ ops → old.blocks ≡ Frame after ∷ rest → new ≡ record (back_at after v old) { blocks = rest } → Did (line_of machine.DoReturn old) old new Local
-return_back after v ops rest old new h run top is e =
-    return_left v ops old new Local top (frame_did (Returns v) after rest old new h run tt (returned_fits v ops old h top) (top_reached (Returns v) (Frame after) rest old.blocks is refl) e)
+pub return_back : (after : ℕ) (v : Value) (ops : List Value) (rest : List Block) (old new : State) → IsReady old → old.operands.here ≡ v ∷ ops → old.blocks ≡ Frame after ∷ rest → new ≡ record (back_at after v old) { blocks = rest } → Does machine.DoReturn old new Local
+return_back after v ops rest old new h top is e =
+    return_left v ops old new Local top (frame_did (Returns v) after rest old new h tt (topmost old h v ops top) (top_reached (Returns v) (Frame after) rest old.blocks is refl) e)
 
 -- ---- what leaving passes is not reached
 

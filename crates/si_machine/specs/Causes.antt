@@ -15,7 +15,7 @@ use Rattle.si_machine.specs.declared.cause.Fault.TheVariants as fault
 use Rattle.si_machine.specs.declared.value.Value.{Value}
 use Rattle.si_machine.specs.declared.value.Object.{Object}
 use Rattle.si_machine.specs.declared.value.Object.TheVariants.{Caused, Made}
-use Rattle.si_machine.specs.Values.{value_of, Fits}
+use Rattle.si_machine.specs.Values.{Heap, Extends, value_of, Fits}
 
 -- the kind of the exception
 abbrev pub kind_of : Cause → Kind
@@ -54,7 +54,7 @@ abbrev pub threw : List pure.Text → Cause → World → Ran
 threw names cause w = refused (kind_of cause) (message_in names cause) w
 
 -- an operation that takes no memory
-abbrev pub ran : List pure.Text → List pure.Text → World → Result Value Cause → Ran
+abbrev pub ran : List pure.Text → Heap → World → Result Value Cause → Ran
 ran names texts w (Ok v) = gave (value_of texts v) w
 ran names texts w (Err cause) = threw names cause w
 
@@ -69,26 +69,26 @@ compared names w (Ok b) = gave (pure.Truth b) w
 compared names w (Err cause) = threw names cause w
 
 -- a text is there, at a place among the texts, which may have grown
-pub record IsAdded (t : pure.Text) (old new : List pure.Text) (place : ℕ) : Type 0 where
+pub record IsAdded (t : pure.Text) (old new : Heap) (place : ℕ) : Type 0 where
   pub is : text_at new place ≡ t
   pub within : place < length new
-  pub grown : (more : List pure.Text) × (new ≡ old ++ more)
+  pub grown : Extends old new
 
 -- a text is added at the end of the texts, unless it is too long or memory is refused; then they are as they were
-abbrev pub Adds : pure.Text → List pure.Text → List pure.Text → Result ℕ Fault → Type 0
+abbrev pub Adds : pure.Text → Heap → Heap → Result ℕ Fault → Type 0
 Adds t old new (Ok place) = (nat_lt max_length (length t) ≡ false) × (place ≡ length old) × (new ≡ old ++ t ∷ [])
 Adds t old new (Err (fault.Raises cause)) = (nat_lt max_length (length t) ≡ true) × (cause ≡ TooLong) × (new ≡ old)
 Adds t old new (Err fault.NoMemory) = new ≡ old
 
 -- an operation that may add a text: its value, which fits the texts, or the exception, or memory is refused; else the texts are as they were
-abbrev pub Runs : (World → Ran) → List pure.Text → List pure.Text → Result Value Fault → Type 0
-Runs f old new (Ok v) = ((w : World) → f w ≡ gave (value_of new v) w) × Fits (length new) v × ((more : List pure.Text) × (new ≡ old ++ more))
+abbrev pub Runs : (World → Ran) → Heap → Heap → Result Value Fault → Type 0
+Runs f old new (Ok v) = ((w : World) → f w ≡ gave (value_of new v) w) × Fits new v × Extends old new
 Runs f old new (Err (fault.Raises cause)) = ((names : List pure.Text) (w : World) → f w ≡ threw names cause w) × (new ≡ old)
 Runs f old new (Err fault.NoMemory) = new ≡ old
 
 -- the same, in a world with these objects
-abbrev pub RunsIn : List pure.Object → (World → Ran) → List pure.Text → List pure.Text → Result Value Fault → Type 0
-RunsIn objects f old new (Ok v) = ((w : World) → w.store ≡ objects → f w ≡ gave (value_of new v) w) × Fits (length new) v × ((more : List pure.Text) × (new ≡ old ++ more))
+abbrev pub RunsIn : List pure.Object → (World → Ran) → Heap → Heap → Result Value Fault → Type 0
+RunsIn objects f old new (Ok v) = ((w : World) → w.store ≡ objects → f w ≡ gave (value_of new v) w) × Fits new v × Extends old new
 RunsIn objects f old new (Err (fault.Raises cause)) = ((names : List pure.Text) (w : World) → w.store ≡ objects → f w ≡ threw names cause w) × (new ≡ old)
 RunsIn objects f old new (Err fault.NoMemory) = new ≡ old
 
@@ -145,7 +145,7 @@ abbrev pub not_bound_cause : List pure.Text → ℕ → Cause
 not_bound_cause names slot = if nat_lt max_length (length (not_bound (text_at names slot))) then TooLong else NotBound slot
 
 -- an object of the store, with the names of the slots
-abbrev pub object_of : List pure.Text → List pure.Text → Object → pure.Object
+abbrev pub object_of : Heap → List pure.Text → Object → pure.Object
 object_of texts names (Caused cause) = pure.Exception (kind_of cause) (Some (pure.Str (message_in names cause)))
 object_of texts names (Made kind None) = pure.Exception kind None
 object_of texts names (Made kind (Some v)) = pure.Exception kind (Some (value_of texts v))

@@ -4,5 +4,6 @@ pub mod Values
 pub mod Causes
 pub mod Outcomes
 pub mod Machines
+pub mod Sound
 pub mod Firsts
 pub mod States

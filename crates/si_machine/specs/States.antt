@@ -1,5 +1,5 @@
 -- What a machine's state stands for, and what an instruction makes of it.
-use Rattle.std.specs.Prelude.{Bool, true, false, ◌≡◌, ◌≢◌, ℕ, ◌+◌, ◌<◌, ◌^◌, List, [], ◌∷◌, ◌++◌, length, map, take, drop, reverse, Option, Some, None, option_map, All, slice_get, string_bytes, encode_utf8_all}
+use Rattle.std.specs.Prelude.{Bool, true, false, ◌≡◌, ◌≢◌, ℕ, ◌+◌, ◌<◌, ◌^◌, List, [], ◌∷◌, ◌++◌, length, map, take, drop, reverse, Option, Some, None, option_map, All, AllPairs, slice_get, string_bytes, encode_utf8_all}
 use Rattle.si_semantics.specs.Value as pure
 use Rattle.si_semantics.specs.World.{World}
 use Rattle.si_semantics.specs.Machine as machine
@@ -22,23 +22,42 @@ use Rattle.si_machine.specs.declared.state.State.{State}
 use Rattle.si_machine.specs.declared.step.Outcome.{Outcome}
 use Rattle.si_machine.specs.declared.step.Step.{Step}
 use Rattle.si_machine.specs.declared.step.Step.TheVariants.{Local, Ended, Starved}
-use Rattle.si_machine.specs.Values.{value_of, bound_of, items_of, leaving_of, globals_of, Fits, FitsBound, FitsItems, FitsLeaving, FitsObject, AreBuiltIn}
+use Rattle.si_machine.specs.Values.{Heap, value_of, bound_of, items_of, leaving_of, globals_of, Fits}
 use Rattle.si_machine.specs.Causes.{object_of}
+use Rattle.si_machine.specs.Sound.{SoundStacks, SoundHeap, SoundCode}
 use Rattle.si_machine.specs.Outcomes.{outcome_of}
 use Rattle.si_machine.specs.Stacks.{OperandsSeen, SlotsSeen, back_with, back, entered}
 use Rattle.si_machine.specs.Machines.{Seen, moment_of}
 
+-- what a value of a state is, what is bound to a name, and an object: they denote by the state's heap
+abbrev pub value_in : State → Value → pure.Value
+value_in s v = value_of s.texts v
+
+abbrev pub bound_in : State → Option Value → Option pure.Value
+bound_in s v = bound_of s.texts v
+
+abbrev pub object_in : State → Object → pure.Object
+object_in s o = object_of s.texts s.table.names o
+
+-- what a value speaks of is in the state's heap
+abbrev pub IsThere : State → Value → Type 0
+IsThere s v = Fits s.texts v
+
+-- the same of each of these
+abbrev pub AreThere : State → List Value → Type 0
+AreThere s vs = All (Fits s.texts) vs
+
 -- the operands of the call that runs
 abbrev pub operands_of : State → List pure.Value
-operands_of s = map (value_of s.texts) s.operands.here
+operands_of s = map (value_in s) s.operands.here
 
 -- the locals of the call that runs
 abbrev pub slots_of : State → List (Option pure.Value)
-slots_of s = map (bound_of s.texts) s.slots.here
+slots_of s = map (bound_in s) s.slots.here
 
 -- the world: the values of the slots, each under its name, and the objects of the store
 abbrev pub world_of : State → World
-world_of s = record { globals = globals_of s.table.names (map (bound_of s.texts) s.globals.items); store = map (object_of s.texts s.table.names) s.store.items }
+world_of s = record { globals = globals_of s.table.names (map (bound_in s) s.globals.items); store = map (object_in s) s.store.items }
 
 -- the innermost of the callers' lists, where there is one
 abbrev pub innermost : {A : Type 0} → List (List A) → List A
@@ -47,7 +66,7 @@ innermost (xs ∷ rest) = xs
 
 -- blocks, the innermost first, with the operands and the locals of the callers: a call has the innermost of them, and the calls around it
 -- the others
-abbrev pub blocks_with : List pure.Text → List Block → List (List Value) → List (List (Option Value)) → List machine.Block
+abbrev pub blocks_with : Heap → List Block → List (List Value) → List (List (Option Value)) → List machine.Block
 blocks_with texts [] ops slots = []
 blocks_with texts (block.Loop start after ∷ bs) ops slots = Loop start after ∷ blocks_with texts bs ops slots
 blocks_with texts (block.Each items ∷ bs) ops slots = Each (items_of texts items) ∷ blocks_with texts bs ops slots
@@ -58,9 +77,13 @@ blocks_with texts (block.Handling x ∷ bs) ops slots = Handling x ∷ blocks_wi
 blocks_with texts (block.Frame after ∷ bs) ops slots =
     Frame after (map (value_of texts) (innermost ops)) (map (bound_of texts) (innermost slots)) ∷ blocks_with texts bs (drop 1 ops) (drop 1 slots)
 
+-- the same, with the callers of a state
+abbrev pub blocks_in : State → List Block → List machine.Block
+blocks_in s bs = blocks_with s.texts bs s.operands.below s.slots.below
+
 -- what was entered and not left, the innermost first
 abbrev pub blocks_of : State → List machine.Block
-blocks_of s = blocks_with s.texts s.blocks s.operands.below s.slots.below
+blocks_of s = blocks_in s s.blocks
 
 -- where a machine stands; it waits for a text where nothing runs
 abbrev pub place_in : Standing → ℕ → List pure.Value → List (Option pure.Value) → List machine.Block → Place
@@ -82,8 +105,8 @@ seen s = record {
   table = table_of s.table;
   place = place_of s;
   names = s.table.names;
-  values = map (bound_of s.texts) s.globals.items;
-  store = map (object_of s.texts s.table.names) s.store.items;
+  values = map (bound_in s) s.globals.items;
+  store = map (object_in s) s.store.items;
   printed = string_bytes s.printed;
   outcome = outcome_of s.outcome;
   starved = is_starved s.standing;
@@ -102,38 +125,11 @@ line_of i s = act (entries_of s.table) i (s.pc + 1) (operands_of s) (slots_of s)
 abbrev pub next_line : State → Line
 next_line s = fetched (entries_of s.table) (slice_get (code_of s.table) s.pc) s.pc (operands_of s) (slots_of s) (blocks_of s) (world_of s)
 
--- how many calls there are among blocks
-abbrev pub calls_in : List Block → ℕ
-calls_in [] = 0
-calls_in (block.Frame after ∷ bs) = calls_in bs + 1
-calls_in (b ∷ bs) = calls_in bs
-
--- the texts that a block speaks of are there
-abbrev pub FitsBlock : List pure.Text → Block → Type 0
-FitsBlock texts (block.Each items) = FitsItems texts items
-FitsBlock texts (block.Pending (Some leaving)) = FitsLeaving (length texts) leaving
-FitsBlock texts b = Unit {0}
-
--- the text of each value, also of the callers', is one of n, and each call has the operands and the locals of its caller
-pub record AreSound (n : ℕ) (ops : OperandsSeen) (slots : SlotsSeen) (bs : List Block) : Type 0 where
-  pub here : All (Fits n) ops.here
-  pub below : All (λ vs. All (Fits n) vs) ops.below
-  pub locals : All (FitsBound n) slots.here
-  pub callers : All (λ xs. All (FitsBound n) xs) slots.below
-  pub operands_each : length ops.below ≡ calls_in bs
-  pub locals_each : length slots.below ≡ calls_in bs
-
--- the stacks are sound, the texts that blocks, globals and objects speak of are there, the literals come first among the texts, there is a
--- global and a built-in value for each slot, and the code has fewer than 2^63 instructions, so that the place behind any jump is a usize
+-- a state is sound: its stacks, its heap, and its code
 pub record IsSound (s : State) : Type 0 where
-  pub stacks : AreSound (length s.texts) s.operands s.slots s.blocks
-  pub blocks : All (FitsBlock s.texts) s.blocks
-  pub globals : All (FitsBound (length s.texts)) s.globals.items
-  pub store : All (FitsObject (length s.texts)) s.store.items
-  pub literals : take (length s.table.literals) s.texts ≡ s.table.literals
-  pub slots : length s.globals.items ≡ length s.table.names
-  pub built_ins : AreBuiltIn s.table.names s.built_ins.items
-  pub short : length s.table.lines < 2 ^ 63
+  pub stacks : SoundStacks s.texts s.operands s.slots s.blocks
+  pub heap : SoundHeap s.table.literals s.texts s.globals.items s.store.items
+  pub code : SoundCode s.table (length s.globals.items) s.built_ins.items
 
 -- a line leads to where there is more to do, or the run ends: it lacks nothing
 abbrev pub IsOpen : Line → Type 0
@@ -148,6 +144,14 @@ pub record IsKept (s : State) : Type 0 where
 pub record IsReady (s : State) : Type 0 where
   pub running : s.standing ≡ standing.Running
   pub sound : IsSound s
+
+-- what the method of an instruction takes: a run is under way, and its state is sound; its place is one of the code, of which each
+-- global name has one slot; and the line of the instruction leads on
+pub record IsReadyFor (i : Instr) (s : State) : Type 0 where
+  pub state : IsReady s
+  pub place : s.pc < 2 ^ 63
+  pub distinct : AllPairs (λ x y. x ≢ y) s.table.names
+  pub open_line : IsOpen (line_of i s)
 
 -- a line was done, and leads to a place
 pub record Moves (l : Line) (p : Place) (old new : State) : Type 0 where
@@ -166,6 +170,10 @@ Did l old new Starved =
     × (string_bytes new.printed ≡ string_bytes old.printed)
     × (new.store.items ≡ old.store.items)
 
+-- what a step did is what the definition of the machine says of this instruction (`act`)
+abbrev pub Does : Instr → State → State → Step → Type 0
+Does i old new r = Did (line_of i old) old new r
+
 -- no operands, and no callers
 abbrev pub no_operands : OperandsSeen
 no_operands = record { here = []; below = [] }
@@ -182,7 +190,7 @@ at_rest o s = record s { standing = standing.Idle; outcome = o; operands = no_op
 abbrev pub raised_line : Object → State → Line
 raised_line o s =
     let w = world_of s in
-    raises (length w.store, record w { store = w.store ++ object_of s.texts s.table.names o ∷ [] }) (slots_of s) (blocks_of s)
+    raises (length w.store, record w { store = w.store ++ object_in s o ∷ [] }) (slots_of s) (blocks_of s)
 
 -- an operation raises an exception
 abbrev pub IsRaised : Cause → State → State → Step → Type 0

@@ -19,6 +19,14 @@ use Rattle.si_machine.specs.declared.blocks.Leaving.{Leaving}
 use Rattle.si_machine.specs.declared.blocks.Leaving.TheVariants.{Raises, Returns, Breaks, Continues}
 use Rattle.si_machine.specs.declared.value.Object.TheVariants.{Caused, Made}
 
+-- by what values denote: the texts of a machine, each at its place
+abbrev pub Heap : Type 0
+Heap = List pure.Text
+
+-- what was in a heap is there still, as it was and where it was
+abbrev pub Extends : Heap → Heap → Type 0
+Extends old new = (more : Heap) × (new ≡ old ++ more)
+
 abbrev pub built_in_of : BuiltIn → pure.BuiltIn
 built_in_of built.Print = pure.Print
 built_in_of built.Range = pure.MakeRange
@@ -26,7 +34,7 @@ built_in_of built.Str = pure.MakeStr
 built_in_of built.Repr = pure.Repr
 
 -- a value; a str is the text at its place, and a function's name the text at the name's place
-abbrev pub value_of : List pure.Text → Value → pure.Value
+abbrev pub value_of : Heap → Value → pure.Value
 value_of texts value.None = pure.Nothing
 value_of texts (value.Truth b) = pure.Truth b
 value_of texts (value.Int n) = pure.Int n
@@ -38,18 +46,18 @@ value_of texts (value.Kind k) = pure.Class k
 value_of texts (value.Exception x) = pure.Address x
 
 -- a name's value, where it is bound
-abbrev pub bound_of : List pure.Text → Option Value → Option pure.Value
+abbrev pub bound_of : Heap → Option Value → Option pure.Value
 bound_of texts None = None
 bound_of texts (Some v) = Some (value_of texts v)
 
 -- what a `for` still has to give
-abbrev pub items_of : List pure.Text → Items → Iterator
+abbrev pub items_of : Heap → Items → Iterator
 items_of texts (Numbers at stop step) = operations.Numbers at stop step
 items_of texts (Characters place given bytes) = operations.Characters (drop given (text_at texts place))
 items_of texts NoMore = operations.NoMore
 
 -- how a suite is left
-abbrev pub leaving_of : List pure.Text → Leaving → meaning.Leave
+abbrev pub leaving_of : Heap → Leaving → meaning.Leave
 leaving_of texts (Raises x) = meaning.Raises x
 leaving_of texts (Returns v) = meaning.Returns (value_of texts v)
 leaving_of texts Breaks = meaning.Breaks
@@ -61,52 +69,51 @@ globals_of [] cells y = first_world.globals y
 globals_of (x ∷ names) [] y = first_world.globals y
 globals_of (x ∷ names) (c ∷ cells) y = if same_text x y then c else globals_of names cells y
 
--- a str's place, and that of a function's name, is one of n
-abbrev pub Fits : ℕ → Value → Type 0
-Fits n value.None = Unit {0}
-Fits n (value.Truth b) = Unit {0}
-Fits n (value.Int i) = Unit {0}
-Fits n (value.Str place) = place < n
-Fits n (value.BuiltIn b) = Unit {0}
-Fits n (value.Function number name) = name < n
-Fits n (value.Range a b c) = Unit {0}
-Fits n (value.Kind k) = Unit {0}
-Fits n (value.Exception x) = Unit {0}
+-- what a value speaks of is in the heap: the text of a str, and of a function's name
+abbrev pub Fits : Heap → Value → Type 0
+Fits texts value.None = Unit {0}
+Fits texts (value.Truth b) = Unit {0}
+Fits texts (value.Int i) = Unit {0}
+Fits texts (value.Str place) = place < length texts
+Fits texts (value.BuiltIn b) = Unit {0}
+Fits texts (value.Function number name) = name < length texts
+Fits texts (value.Range a b c) = Unit {0}
+Fits texts (value.Kind k) = Unit {0}
+Fits texts (value.Exception x) = Unit {0}
 
--- the texts of a name's value, where it is bound, are there
-abbrev pub FitsBound : ℕ → Option Value → Type 0
-FitsBound n None = Unit {0}
-FitsBound n (Some v) = Fits n v
+-- the same of a name's value, where it is bound
+abbrev pub FitsBound : Heap → Option Value → Type 0
+FitsBound texts None = Unit {0}
+FitsBound texts (Some v) = Fits texts v
 
 -- the text of items is there, and the bytes are those of the characters that were given
-abbrev pub FitsItems : List pure.Text → Items → Type 0
+abbrev pub FitsItems : Heap → Items → Type 0
 FitsItems texts (Numbers at stop step) = Unit {0}
 FitsItems texts (Characters place given bytes) = (place < length texts) × (bytes ≡ length (encode_utf8_all (take given (text_at texts place))))
 FitsItems texts NoMore = Unit {0}
 
 -- the next item, which fits the texts, and what is left, where there is one, with the texts that may have grown
-abbrev pub GivesNext : List pure.Text → List pure.Text → Items → Option (Value × Items) → Type 0
+abbrev pub GivesNext : Heap → Heap → Items → Option (Value × Items) → Type 0
 GivesNext old new items None = ((w : World) → next_item (items_of old items) w ≡ Exhausted) × (new ≡ old)
 GivesNext old new items (Some p) =
-    ((w : World) → next_item (items_of old items) w ≡ Item (value_of new p.0) (items_of new p.1)) × Fits (length new) p.0 × FitsItems new p.1
-    × ((more : List pure.Text) × (new ≡ old ++ more))
+    ((w : World) → next_item (items_of old items) w ≡ Item (value_of new p.0) (items_of new p.1)) × Fits new p.0 × FitsItems new p.1 × Extends old new
 
 -- the same; or memory is refused and the texts are as they were
-abbrev pub GivesItem : {E : Type 0} → List pure.Text → List pure.Text → Items → Result (Option (Value × Items)) E → Type 0
+abbrev pub GivesItem : {E : Type 0} → Heap → Heap → Items → Result (Option (Value × Items)) E → Type 0
 GivesItem old new items (Ok next) = GivesNext old new items next
 GivesItem old new items (Err e) = new ≡ old
 
--- the texts of a value that is returned are there
-abbrev pub FitsLeaving : ℕ → Leaving → Type 0
-FitsLeaving n (Raises x) = Unit {0}
-FitsLeaving n (Returns v) = Fits n v
-FitsLeaving n Breaks = Unit {0}
-FitsLeaving n Continues = Unit {0}
+-- the same of a value that is returned
+abbrev pub FitsLeaving : Heap → Leaving → Type 0
+FitsLeaving texts (Raises x) = Unit {0}
+FitsLeaving texts (Returns v) = Fits texts v
+FitsLeaving texts Breaks = Unit {0}
+FitsLeaving texts Continues = Unit {0}
 
--- the texts of an object's argument are there
-abbrev pub FitsObject : ℕ → Object → Type 0
-FitsObject n (Caused cause) = Unit {0}
-FitsObject n (Made kind v) = FitsBound n v
+-- the same of an object's argument
+abbrev pub FitsObject : Heap → Object → Type 0
+FitsObject texts (Caused cause) = Unit {0}
+FitsObject texts (Made kind v) = FitsBound texts v
 
 -- the built-in values, by the names of the slots
 abbrev pub AreBuiltIn : List pure.Text → List (Option Value) → Type 0

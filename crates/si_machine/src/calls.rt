@@ -6,7 +6,7 @@ ghost use Rattle.si_semantics.specs.Operations as operations;
 ghost use Rattle.si_code.specs.Views.{text_at};
 ghost use Rattle.si_machine.specs.Values.{value_of};
 ghost use Rattle.si_machine.specs.Causes.{threw};
-ghost use Rattle.si_machine.specs.States.{IsReady, IsOpen, IsPrinted, IsCallee, IsEntered, IsMade, Did, line_of, entered_operands};
+ghost use Rattle.si_machine.specs.States.{IsReadyFor, IsPrinted, IsCallee, IsEntered, IsMade, Does, entered_operands};
 
 use crate::blocks::{Block, Leaving};
 use crate::cause::{Cause, Fault};
@@ -22,9 +22,8 @@ use si_plain::{Kind, NoMemory};
 impl State {
     /// Puts the value of a local on the operands, or raises UnboundLocalError.
     pub fn load_local(&mut self, place: u32, slot: u32) -> Step
-        requires next { self.old.pc + 1 < 2 ^ 64 }
-        requires ready { IsReady self.old }
-        ensures { Did (line_of (machine.LoadLocal (text_at self.old.table.names slot) place) self.old) self.old self.new result }
+        requires ready { IsReadyFor (machine.LoadLocal (text_at self.old.table.names slot) place) self.old }
+        ensures { Does (machine.LoadLocal (text_at self.old.table.names slot) place) self.old self.new result }
     {
         match self.slots.get(place) {
             Some(value) => self.push(value),
@@ -34,10 +33,8 @@ impl State {
 
     /// Binds a local to the value on top.
     pub fn store_local(&mut self, place: u32) -> Step
-        requires next { self.old.pc + 1 < 2 ^ 64 }
-        requires ready { IsReady self.old }
-        requires open_line { IsOpen (line_of (machine.StoreLocal place) self.old) }
-        ensures { Did (line_of (machine.StoreLocal place) self.old) self.old self.new result }
+        requires ready { IsReadyFor (machine.StoreLocal place) self.old }
+        ensures { Does (machine.StoreLocal place) self.old self.new result }
     {
         let Some(value) = self.operands.pop() else {
             unreachable!();
@@ -48,9 +45,8 @@ impl State {
 
     /// Unbinds a local.
     pub fn unbind_local(&mut self, place: u32) -> Step
-        requires next { self.old.pc + 1 < 2 ^ 64 }
-        requires ready { IsReady self.old }
-        ensures { Did (line_of (machine.UnbindLocal place) self.old) self.old self.new result }
+        requires ready { IsReadyFor (machine.UnbindLocal place) self.old }
+        ensures { Does (machine.UnbindLocal place) self.old self.new result }
     {
         self.slots.set(place, None);
         self.advance()
@@ -58,10 +54,8 @@ impl State {
 
     /// Calls what lies below so many arguments.
     pub fn call(&mut self, count: u32) -> Step
-        requires next { self.old.pc + 1 < 2 ^ 64 }
-        requires ready { IsReady self.old }
-        requires open_line { IsOpen (line_of (machine.CallTop count) self.old) }
-        ensures { Did (line_of (machine.CallTop count) self.old) self.old self.new result }
+        requires ready { IsReadyFor (machine.CallTop count) self.old }
+        ensures { Does (machine.CallTop count) self.old self.new result }
     {
         let count = count as usize;
         let Some((callee, _)) = self.operands.call(count) else {
@@ -83,10 +77,9 @@ impl State {
     // A call of a built-in.
     #[inline(never)]
     fn call_provided(&mut self, function: BuiltIn, count: usize) -> Step
-        requires next { self.old.pc + 1 < 2 ^ 64 }
-        requires ready { IsReady self.old }
+        requires ready { IsReadyFor (machine.CallTop count) self.old }
         requires callee { drop count self.old.operands.here ≡ Value.BuiltIn function ∷ drop (count + 1) self.old.operands.here }
-        ensures { Did (line_of (machine.CallTop count) self.old) self.old self.new result }
+        ensures { Does (machine.CallTop count) self.old self.new result }
     {
         match function {
             BuiltIn::Print => self.call_print(count),
@@ -99,10 +92,9 @@ impl State {
     // A call of `print`: what it prints is written aside first.
     #[inline(never)]
     fn call_print(&mut self, count: usize) -> Step
-        requires next { self.old.pc + 1 < 2 ^ 64 }
-        requires ready { IsReady self.old }
+        requires ready { IsReadyFor (machine.CallTop count) self.old }
         requires callee { drop count self.old.operands.here ≡ Value.BuiltIn BuiltIn.Print ∷ drop (count + 1) self.old.operands.here }
-        ensures { Did (line_of (machine.CallTop count) self.old) self.old self.new result }
+        ensures { Does (machine.CallTop count) self.old self.new result }
     {
         let Some((_, arguments)) = self.operands.call(count) else {
             unreachable!();
@@ -124,11 +116,10 @@ impl State {
     // A call of any other built-in.
     #[inline(never)]
     fn call_built_in(&mut self, function: BuiltIn, count: usize) -> Step
-        requires next { self.old.pc + 1 < 2 ^ 64 }
-        requires ready { IsReady self.old }
+        requires ready { IsReadyFor (machine.CallTop count) self.old }
         requires other { function ≢ BuiltIn.Print }
         requires callee { drop count self.old.operands.here ≡ Value.BuiltIn function ∷ drop (count + 1) self.old.operands.here }
-        ensures { Did (line_of (machine.CallTop count) self.old) self.old self.new result }
+        ensures { Does (machine.CallTop count) self.old self.new result }
     {
         let Some((_, arguments)) = self.operands.call(count) else {
             unreachable!();
@@ -152,10 +143,9 @@ impl State {
     // A call of a kind: a new exception with an argument, or without one.
     #[inline(never)]
     fn call_kind(&mut self, kind: Kind, count: usize) -> Step
-        requires next { self.old.pc + 1 < 2 ^ 64 }
-        requires ready { IsReady self.old }
+        requires ready { IsReadyFor (machine.CallTop count) self.old }
         requires callee { drop count self.old.operands.here ≡ Value.Kind kind ∷ drop (count + 1) self.old.operands.here }
-        ensures { Did (line_of (machine.CallTop count) self.old) self.old self.new result }
+        ensures { Does (machine.CallTop count) self.old self.new result }
     {
         if count == 0 {
             self.make(Object::Made(kind, None), count)
@@ -189,9 +179,8 @@ impl State {
     /// called.
     #[inline(never)]
     pub fn call_by_name(&mut self, count: u32) -> Step
-        requires ready { IsReady self.old }
-        requires open_line { IsOpen (line_of (machine.CallByName count) self.old) }
-        ensures { Did (line_of (machine.CallByName count) self.old) self.old self.new result }
+        requires ready { IsReadyFor (machine.CallByName count) self.old }
+        ensures { Does (machine.CallByName count) self.old self.new result }
     {
         match self.operands.call(count as usize) {
             Some((callee, _)) => self.raise(cause_by_name(callee)),
@@ -201,9 +190,8 @@ impl State {
 
     /// Leaves the call with the value on top.
     pub fn return_value(&mut self) -> Step
-        requires ready { IsReady self.old }
-        requires open_line { IsOpen (line_of machine.DoReturn self.old) }
-        ensures { Did (line_of machine.DoReturn self.old) self.old self.new result }
+        requires ready { IsReadyFor machine.DoReturn self.old }
+        ensures { Does machine.DoReturn self.old self.new result }
     {
         let Some(value) = self.operands.top() else {
             unreachable!();
@@ -219,10 +207,9 @@ impl State {
 
     // A call of the function of a number, with the topmost operands.
     fn call_function(&mut self, number: u32, count: usize) -> Step
-        requires next { self.old.pc + 1 < 2 ^ 64 }
-        requires ready { IsReady self.old }
+        requires ready { IsReadyFor (machine.CallTop count) self.old }
         requires callee { IsCallee number count self.old.operands.here }
-        ensures { Did (line_of (machine.CallTop count) self.old) self.old self.new result }
+        ensures { Does (machine.CallTop count) self.old self.new result }
     {
         match self.table.routine(number) {
             Some(routine) => {

@@ -38,7 +38,7 @@ impl Items {
     /// What a value gives, where it can be gone over.
     pub fn of(value: Value) -> Option<Items>
         ensures items { (texts : List Characters) (w : World) → option_map (items_of texts) result ≡ iterator_of (value_of texts value) w }
-        ensures fits { IfSome result (λ items. (texts : List Characters) → Fits (length texts) value → FitsItems texts items) }
+        ensures fits { IfSome result (λ items. (texts : List Characters) → Fits texts value → FitsItems texts items) }
     {
         match value {
             Value::Range(at, stop, step) => Some(Items::Numbers { at, stop, step }),

@@ -54,7 +54,7 @@ impl State {
     #[inline(never)]
     pub fn raise_object(&mut self, object: Object) -> Step
         requires ready { IsReady self.old }
-        requires fits { FitsObject (length self.old.texts) object }
+        requires fits { FitsObject self.old.texts object }
         ensures { Did (raised_line object self.old) self.old self.new result }
     {
         let place = self.store.len();
@@ -75,7 +75,7 @@ impl State {
     #[inline(never)]
     pub fn leave_by(&mut self, leaving: Leaving) -> Step
         requires ready { IsReady self.old }
-        requires fits { FitsLeaving (length self.old.texts) leaving }
+        requires fits { FitsLeaving self.old.texts leaving }
         ensures { Did (leave_line leaving self.old) self.old self.new result }
     {
         match leaving {
@@ -130,7 +130,7 @@ impl State {
     pub fn leave_suite(&mut self, leaving: Leaving) -> Step
         requires ready { IsReady self.old }
         requires plain { IsPlain leaving }
-        requires fits { FitsLeaving (length self.old.texts) leaving }
+        requires fits { FitsLeaving self.old.texts leaving }
         ensures { Did (leave_line leaving self.old) self.old self.new result }
     {
         self.blocks.pass(leaving);

@@ -119,7 +119,7 @@ fn repeat(texts: &mut Texts, a: usize, n: i64) -> Result<Value, Fault>
 /// An operator before a value (Python Language Reference 3.14, 6.6; `not`: 6.11).
 pub fn unary(texts: &Texts, operator: UnaryOperator, x: Value) -> Result<Value, Cause>
     ensures value { (names : List Characters) (w : World) → operate_unary (unary_of operator) (value_of texts.now x) w ≡ ran names texts.now w result }
-    ensures fits { IfOk result (λ v. (n : ℕ) → Fits n v) }
+    ensures fits { IfOk result (λ v. (heap : List Characters) → Fits heap v) }
 {
     match operator {
         UnaryOperator::Not => Ok(Value::Truth(!is_true(texts, x))),

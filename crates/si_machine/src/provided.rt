@@ -65,7 +65,7 @@ fn range_between(start: Value, stop: Value, step: Value) -> Result<Value, Fault>
 
 // A range, of integers whose step is not 0.
 fn range_of(start: Value, stop: Value, step: Value) -> Result<Value, Cause>
-    ensures fits { IfOk result (λ v. (n : ℕ) → Fits n v) }
+    ensures fits { IfOk result (λ v. (texts : List Characters) → Fits texts v) }
     ensures value { (names texts : List Characters) (w : World) → operations.range_of (integer_of start) (integer_of stop) (integer_of step) w ≡ ran names texts w result }
 {
     let start = integer_in(start)?;
@@ -107,7 +107,7 @@ fn call_repr(
 /// 3.14, 8.4.1).
 pub fn catches(store: &[Object], clause: Value, place: usize) -> Result<Value, Cause>
     ensures value { (texts names : List Characters) (w : World) → w.store ≡ map (object_of texts names) store.now → operations.catches (value_of texts clause) place w ≡ ran names texts w result }
-    ensures fits { IfOk result (λ v. (n : ℕ) → Fits n v) }
+    ensures fits { IfOk result (λ v. (texts : List Characters) → Fits texts v) }
 {
     match clause {
         Value::Kind(top) => Ok(Value::Truth(is_of(store, top, place))),

@@ -9,15 +9,14 @@ use Rattle.si_machine.proofs.state.State.compare_others.Goals as goal
 
 pub returns-in-Ok : goal.returns-in-Ok
 returns-in-Ok c =
-    let h = c.requires.ready in
+    let h = c.requires.ready.state in
     let old = c.args.self.now in
     let o = comparison_of c.args.operator in
     local (line_of (machine.ApplyComparison o) old) old c.advance.new.self c.advance.result c.advance.ensures.step
-    (comparison_did o c.in-Some.x c.in-Some.y c.in-Ok.truth (drop 2 old.operands.here) old c.advance.new.self h.sound h.running c.in-Some.ensures c.in-Ok.ensures
+    (comparison_did o c.in-Some.x c.in-Some.y c.in-Ok.truth (drop 2 old.operands.here) old c.advance.new.self h c.in-Some.ensures c.in-Ok.ensures
     (c.advance.ensures.state ∙ ap (λ ops. let s : State = record old { pc = old.pc + 1; operands = ops } in s) c.replace.ensures))
 
 pub returns-in-Err : goal.returns-in-Err
 returns-in-Err c =
-    let h = c.requires.ready in
     let old = c.args.self.now in
-    comparison_raises (comparison_of c.args.operator) c.in-Some.x c.in-Some.y (drop 2 old.operands.here) c.in-Err.cause old c.raise.new.self c.raise.result h.sound c.in-Some.ensures c.in-Err.ensures c.raise.ensures.raised
+    comparison_raises (comparison_of c.args.operator) c.in-Some.x c.in-Some.y (drop 2 old.operands.here) c.in-Err.cause old c.raise.new.self c.raise.result c.in-Some.ensures c.in-Err.ensures c.raise.ensures.raised

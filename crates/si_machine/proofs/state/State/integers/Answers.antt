@@ -12,7 +12,7 @@ use Rattle.si_machine.proofs.state.State.integers.Goals as goal
 
 pub returns-in-Ok : goal.returns-in-Ok
 returns-in-Ok c =
-    let h = c.requires.ready in
+    let h = c.requires.ready.state in
     let old = c.args.self.now in
     let o = binary_of c.args.operator in
     let i = c.args.a in
@@ -23,12 +23,11 @@ returns-in-Ok c =
     let n_fits : to_z w64 (of_z w64 n) ≡ n = search rules in
     let gives : operate_integers o i j ≡ Ok n = ap (λ z. operate_integers o z j) i_fits ∙ ap (λ z. operate_integers o (to_z w64 (of_z w64 i)) z) j_fits ∙ sym c.on_integers.ensures ∙ c.in-Ok.is in
     local (line_of (machine.ApplyBinary o) old) old c.advance.new.self c.advance.result c.advance.ensures.step
-    (binary_did o (value.Int i) (value.Int j) (value.Int n) (drop 2 old.operands.here) old.texts old c.advance.new.self h.sound h.running c.requires.top (ints_give o old.texts i j n gives)
+    (binary_did o (value.Int i) (value.Int j) (value.Int n) (drop 2 old.operands.here) old.texts old c.advance.new.self h c.requires.top (ints_give o old.texts i j n gives)
     (c.advance.ensures.state ∙ ap (λ ops. let s : State = record old { pc = old.pc + 1; operands = ops } in s) (c.replace.ensures ∙ ap (λ z. record old.operands { here = value.Int z ∷ drop 2 old.operands.here }) n_fits)))
 
 pub returns-in-Err : goal.returns-in-Err
 returns-in-Err c =
-    let h = c.requires.ready in
     let old = c.args.self.now in
     let o = binary_of c.args.operator in
     let i = c.args.a in
@@ -37,4 +36,4 @@ returns-in-Err c =
     let i_fits : i ≡ to_z w64 (of_z w64 i) = search rules in
     let j_fits : j ≡ to_z w64 (of_z w64 j) = search rules in
     let gives : operate_integers o i j ≡ Err kind = ap (λ z. operate_integers o z j) i_fits ∙ ap (λ z. operate_integers o (to_z w64 (of_z w64 i)) z) j_fits ∙ sym c.on_integers.ensures ∙ c.in-Err.is in
-    binary_raises o (value.Int i) (value.Int j) (drop 2 old.operands.here) (Arithmetic kind) old c.raise.new.self c.raise.result h.sound c.requires.top (ints_raise o i j kind gives) c.raise.ensures.raised
+    binary_raises o (value.Int i) (value.Int j) (drop 2 old.operands.here) (Arithmetic kind) old c.raise.new.self c.raise.result c.requires.top (ints_raise o i j kind gives) c.raise.ensures.raised

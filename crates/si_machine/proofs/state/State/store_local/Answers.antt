@@ -8,11 +8,11 @@ use Rattle.si_machine.proofs.state.State.store_local.Goals as goal
 
 pub returns : goal.returns
 returns c =
-    let h = c.requires.ready in
+    let h = c.requires.ready.state in
     let old = c.args.self.now in
     let v = c.in-Some.value in
     let top = popped v old.operands c.pop.new.self c.in-Some.ensures in
     local (line_of (machine.StoreLocal c.args.place) old) old c.advance.new.self c.advance.result c.advance.ensures.step
-    (store_local_did c.args.place v c.pop.new.self.here old c.advance.new.self h.sound h.running top.0
+    (store_local_did c.args.place v c.pop.new.self.here old c.advance.new.self h top.0
     (c.advance.ensures.state ∙ ap (λ ops. let s : State = record old { pc = old.pc + 1; operands = ops; slots = c.set.new.self } in s) top.1
     ∙ ap (λ slots. let s : State = record old { pc = old.pc + 1; operands = with_operands c.pop.new.self.here old.operands; slots = slots } in s) c.set.ensures))
