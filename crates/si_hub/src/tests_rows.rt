@@ -3,7 +3,7 @@
 use crate::Hub;
 use crate::tests::{act, hub, same, text, x_is_one};
 use si_parcel::{Action, Answer, Ids, Job, Outcome, Parcel};
-use si_plain::{Kind, NoMemory};
+use si_plain::{Kind, NoMemory, Text};
 use std::alloc::Global;
 use std::test::Fail;
 
@@ -14,10 +14,14 @@ fn running(alloc: Global, interpreters: u32) -> Result<Hub, Fail> {
     Ok(hub)
 }
 
-// The str `seven`.
-fn seven(alloc: Global) -> Result<Parcel, NoMemory> {
-    let seven = Parcel::str(text(alloc, "seven")?);
-    Ok(seven.unwrap_or(Parcel::none()))
+// A text that takes memory: it is longer than the 15 bytes that a text has room for in itself.
+fn long(alloc: Global) -> Result<Text, NoMemory> {
+    text(alloc, "more than fifteen bytes")
+}
+
+fn item(alloc: Global) -> Result<Parcel, NoMemory> {
+    let item = Parcel::str(long(alloc)?);
+    Ok(item.unwrap_or(Parcel::none()))
 }
 
 // What interpreter 0 asks of a queue of one item.
@@ -27,12 +31,12 @@ pub(crate) fn queue_asked(alloc: Global, at: u32) -> Result<(u32, Action), NoMem
         1 => (0, Action::CreateQueue(1)),
         2 => (0, Action::Get(0)),
         3 => (0, Action::GetNow(0)),
-        4 => (0, Action::Put(0, seven(alloc)?)),
+        4 => (0, Action::Put(0, item(alloc)?)),
         5 => (0, Action::Put(0, Parcel::none())),
-        6 => (0, Action::PutNow(0, seven(alloc)?)),
+        6 => (0, Action::PutNow(0, item(alloc)?)),
         7 => (0, Action::Size(0)),
         8 => (0, Action::Get(0)),
-        9 => (0, Action::PutNow(0, seven(alloc)?)),
+        9 => (0, Action::PutNow(0, item(alloc)?)),
         10 => (0, Action::GetNow(0)),
         _ => (0, Action::Put(1, Parcel::int(7))),
     })
@@ -48,7 +52,7 @@ pub(crate) fn queue_answered(alloc: Global, at: u32) -> Result<Option<Answer>, N
         5 => None,
         6 => Some(Answer::Full),
         7 => Some(Answer::Count(1)),
-        8 | 10 => Some(Answer::Item(seven(alloc)?)),
+        8 | 10 => Some(Answer::Item(item(alloc)?)),
         9 => Some(Answer::Done),
         _ => None,
     })
@@ -88,7 +92,7 @@ pub(crate) fn closing_asked(alloc: Global, at: u32) -> Result<(u32, Action), NoM
         5 => (0, Action::Close(2)),
         6 => (0, Action::Close(2)),
         7 => (0, Action::Prepare(2, x_is_one(alloc)?)),
-        8 => (0, Action::Start(2, text(alloc, "t")?)),
+        8 => (0, Action::Start(2, long(alloc)?)),
         9 => (0, Action::IsRunning(2)),
         10 => (0, Action::ListAll),
         11 => (2, Action::Take),
@@ -136,8 +140,8 @@ pub(crate) fn run_asked(alloc: Global, at: u32) -> Result<(u32, Action), NoMemor
     Ok(match at {
         0 => (0, Action::Create),
         1 => (0, Action::Prepare(1, x_is_one(alloc)?)),
-        2 => (0, Action::Start(1, text(alloc, "t")?)),
-        3 => (0, Action::Start(1, text(alloc, "t")?)),
+        2 => (0, Action::Start(1, long(alloc)?)),
+        3 => (0, Action::Start(1, long(alloc)?)),
         4 => (0, Action::Prepare(1, x_is_one(alloc)?)),
         5 => (0, Action::Close(1)),
         6 => (1, Action::ListAll),
@@ -153,7 +157,7 @@ pub(crate) fn run_asked(alloc: Global, at: u32) -> Result<(u32, Action), NoMemor
 }
 
 fn raised(alloc: Global) -> Result<Outcome, NoMemory> {
-    let message = text(alloc, "done")?;
+    let message = long(alloc)?;
     Ok(Outcome::Raised(Kind::ValueError, message))
 }
 
@@ -165,7 +169,7 @@ pub(crate) fn run_answered(alloc: Global, at: u32) -> Result<Option<Answer>, NoM
         3..6 => Some(Answer::Running),
         6 => None,
         7 => Some(Answer::Given(Job::Bind(x_is_one(alloc)?))),
-        8 => Some(Answer::Given(Job::Run(1, text(alloc, "t")?))),
+        8 => Some(Answer::Given(Job::Run(1, long(alloc)?))),
         9 => Some(Answer::Main),
         10 => Some(Answer::Truth(true)),
         11 => None,
