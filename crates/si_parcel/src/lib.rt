@@ -32,4 +32,6 @@ pub use refused::{TooLong, TupleFault};
 pub use top::Top;
 
 #[cfg(test)]
+mod refusals;
+#[cfg(test)]
 mod tests;

@@ -18,7 +18,7 @@ fn tuple(items: Vec<Parcel>) -> Result<Parcel, Fail> {
 }
 
 // `('a', (1, None), b'\x00')`
-fn nested(alloc: Global) -> Result<Parcel, Fail> {
+pub(crate) fn nested(alloc: Global) -> Result<Parcel, Fail> {
     let mut inner = Vec::with_capacity(alloc, 2)?;
     inner.push(Parcel::int(1))?;
     inner.push(Parcel::none())?;
@@ -102,18 +102,21 @@ fn as_many_values_as_allowed(rt: HostRuntime) -> Result<(), Fail> {
     Ok(())
 }
 
-fn binds(alloc: Global) -> Result<Binds, Fail> {
+pub(crate) fn binds(alloc: Global) -> Result<Binds, Fail> {
     let mut pairs = Vec::with_capacity(alloc, 1)?;
     pairs.push((Text::from_str(alloc, "x")?, nested(alloc)?))?;
     Ok(Binds::new(pairs))
 }
 
-fn raised(alloc: Global) -> Result<Outcome, Fail> {
-    Ok(Outcome::Raised(Kind::ValueError, Text::from_str(alloc, "wrong value")?))
+pub(crate) fn raised(alloc: Global) -> Result<Outcome, Fail> {
+    Ok(Outcome::Raised(
+        Kind::ValueError,
+        Text::from_str(alloc, "a message that is too long to lie in its text")?,
+    ))
 }
 
 // Each action once, by a number.
-fn action(alloc: Global, at: u32) -> Result<Action, Fail> {
+pub(crate) fn action(alloc: Global, at: u32) -> Result<Action, Fail> {
     Ok(match at {
         0 => Action::Create,
         1 => Action::CreateQueue(2),
@@ -135,7 +138,7 @@ fn action(alloc: Global, at: u32) -> Result<Action, Fail> {
 }
 
 // Each answer once, by a number.
-fn answer(alloc: Global, at: u32) -> Result<Answer, Fail> {
+pub(crate) fn answer(alloc: Global, at: u32) -> Result<Answer, Fail> {
     Ok(match at {
         0 => Answer::Limit,
         1 => Answer::Created(1),
