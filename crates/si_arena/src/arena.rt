@@ -1,9 +1,9 @@
 // The arena of one interpreter.
 
-ghost use Rattle.std.specs.Prelude.{◌≡◌, ◌<◌, ◌∷◌, [], length, slice_get, slice_index, Some, IfOk, OnErr, ◌++◌};
+ghost use Rattle.std.specs.Prelude.{IsOk, ◌+◌, ◌≤◌, ◌≡◌, ◌<◌, ◌∷◌, [], length, slice_get, slice_index, Some, IfOk, OnErr, ◌++◌};
 ghost use Rattle.si_plain.specs.Characters.{characters_of};
 ghost use Rattle.si_semantics.specs.Value as pure;
-ghost use Rattle.si_arena.specs.Texts.{text_of, repeated_text};
+ghost use Rattle.si_arena.specs.Texts.{IsNarrow, GoesOn, size_of, text_of, repeated_text};
 ghost use Rattle.si_arena.specs.Causes.{name_at};
 ghost use Rattle.si_arena.specs.Memory.{value_of, range_of, object_of, ObjectLies, Lies, Placed, PlacesText, IsNamed, IsMade};
 ghost use Rattle.si_arena.specs.Views.{value_in};
@@ -59,13 +59,16 @@ impl Arena {
         self.texts.place(text)
     }
 
-    /// The characters of one str and then those of another (Python Language Reference 3.14, 6.7). Where the first ends
-    /// its row, and the second has room there, only the second is copied. `TooLong` where they are more than those of a
+    /// The characters of one str and then those of another (Python Language Reference 3.14, 6.7). At most 14 of them, all
+    /// below 256, take no memory; where the first ends its row, and the second has room there, only the second is
+    /// copied, and the rows come to no more characters than before and those of the second. `TooLong` where they are more than those of a
     /// str may be; unchanged where it is refused.
     pub fn join(&mut self, left: Ref, right: Ref) -> Result<Ref, Fault>
         requires left { Lies self.old left }
         requires right { Lies self.old right }
-        ensures { PlacesText (text_of self.old.texts left ++ text_of self.old.texts right) self.old self.new result }
+        ensures text { PlacesText (text_of self.old.texts left ++ text_of self.old.texts right) self.old self.new result }
+        ensures short { IsNarrow left → IsNarrow right → length (text_of self.old.texts left) + length (text_of self.old.texts right) ≤ 14 → (self.new ≡ self.old) × IsOk result }
+        ensures in_place { GoesOn self.old.texts left right → size_of self.new.texts ≤ size_of self.old.texts + length (text_of self.old.texts right) }
     {
         self.texts.join(left, right)
     }
