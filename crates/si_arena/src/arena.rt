@@ -52,17 +52,17 @@ impl Arena {
     }
 
     /// The str of these characters. `TooLong` where they are more than those of a str may be; unchanged where it is
-    /// refused. At most 14 characters below 256 take no memory.
+    /// refused.
     pub fn place_text(&mut self, text: &str) -> Result<Ref, Fault>
         ensures { PlacesText (characters_of text.now) self.old self.new result }
     {
         self.texts.place(text)
     }
 
-    /// The characters of one str and then those of another (Python Language Reference 3.14, 6.7). At most 14 of them, all
-    /// below 256, take no memory; where the first ends its row, and the second has room there, only the second is
-    /// copied, and the rows come to no more characters than before and those of the second. `TooLong` where they are more than those of a
-    /// str may be; unchanged where it is refused.
+    /// The characters of one str and then those of another (Python Language Reference 3.14, 6.7). At most 14 of them,
+    /// all below 256, take no memory; where the first ends its row, and the second has room there, only the second is
+    /// copied, and the rows come to no more characters than before and those of the second. `TooLong` where they are
+    /// more than those of a str may be; unchanged where it is refused.
     pub fn join(&mut self, left: Ref, right: Ref) -> Result<Ref, Fault>
         requires left { Lies self.old left }
         requires right { Lies self.old right }
@@ -73,8 +73,8 @@ impl Arena {
         self.texts.join(left, right)
     }
 
-    /// A str so many times (Python Standard Library 3.14, "Built-in Types": common sequence operations); a count below 0
-    /// is as good as 0. `TooLong` where it is longer than a str may be; unchanged where it is refused.
+    /// A str so many times (Python Standard Library 3.14, "Built-in Types": common sequence operations); a count below
+    /// 0 is as good as 0. `TooLong` where it is longer than a str may be; unchanged where it is refused.
     pub fn repeat(&mut self, text: Ref, count: i64) -> Result<Ref, Fault>
         requires { Lies self.old text }
         ensures { PlacesText (repeated_text (text_of self.old.texts text) count) self.old self.new result }

@@ -264,8 +264,8 @@ impl Texts {
         joined
     }
 
-    /// A text so many times, as a text; a count below 0 is as good as 0. `TooLong` where it is longer than a str may be;
-    /// unchanged where it is refused.
+    /// A text so many times, as a text; a count below 0 is as good as 0. `TooLong` where it is longer than a str may
+    /// be; unchanged where it is refused.
     pub fn repeat(&mut self, text: Ref, count: i64) -> Result<Ref, Fault>
         requires { TextLies self.old text }
         ensures { Adds (repeated_text (text_of self.old text) count) self.old self.new result }
@@ -321,8 +321,8 @@ impl Texts {
         }
     }
 
-    /// The characters of `text`, as a text. `TooLong` where they are more than those of a str may be; unchanged where it
-    /// is refused.
+    /// The characters of `text`, as a text. `TooLong` where they are more than those of a str may be; unchanged where
+    /// it is refused.
     pub fn place(&mut self, text: &str) -> Result<Ref, Fault>
         ensures { Adds (characters_of text.now) self.old self.new result }
     {
