@@ -10,7 +10,7 @@ use Rattle.si_arena.specs.declared.cause.Cause.TheVariants as cause
 use Rattle.si_arena.specs.declared.object.Object.{Object}
 use Rattle.si_arena.specs.declared.object.Object.TheVariants.{Bare, Made, Caused}
 use Rattle.si_arena.specs.Causes.{kind_of, message_of, not_defined, not_bound, name_at, CauseLies}
-use Rattle.si_arena.specs.Memory.{Memory, value_of, all_of, object_of, Lies, AllLie, ObjectLies, ObjectsLie, Lasts, Extends, IsMade, IsNamed}
+use Rattle.si_arena.specs.Memory.{Holds, bound_of, Memory, value_of, all_of, object_of, Lies, AllLie, ObjectLies, ObjectsLie, Lasts, Extends, IsMade, IsNamed}
 use Rattle.si_arena.proofs.Rows.{text-grows, text_lies-grows, grows_none}
 
 -- ---- an arena goes on
@@ -69,6 +69,35 @@ lies-extends {old = old} {new = new} (value.Function n x) e h = omega (arith, h,
 lies-extends {old = old} {new = new} (value.Range p) e h = omega (arith, h, ap length e.lasts.ranges.1, length-append old.ranges e.lasts.ranges.0)
 lies-extends (value.Kind k) e h = h
 lies-extends {old = old} {new = new} (value.Object x) e h = omega (arith, h, e.objects)
+
+-- what is at a name is what it was
+pub bound-lasts : {old new : Memory} (r : Ref) → Lasts old new → Holds old r → bound_of new r ≡ bound_of old r
+bound-lasts value.Unbound e h = refl
+bound-lasts value.None e h = refl
+bound-lasts (value.Truth b) e h = refl
+bound-lasts (value.Int n) e h = refl
+bound-lasts (value.Short s) e h = refl
+bound-lasts (value.Narrow n i) e h = ap (λ v. Some v) (value-lasts (value.Narrow n i) e h)
+bound-lasts (value.Wide n i) e h = ap (λ v. Some v) (value-lasts (value.Wide n i) e h)
+bound-lasts (value.BuiltIn b) e h = refl
+bound-lasts (value.Function n x) e h = ap (λ v. Some v) (value-lasts (value.Function n x) e h)
+bound-lasts (value.Range p) e h = ap (λ v. Some v) (value-lasts (value.Range p) e h)
+bound-lasts (value.Kind k) e h = refl
+bound-lasts (value.Object x) e h = refl
+
+pub holds-extends : {old new : Memory} (r : Ref) → Extends old new → Holds old r → Holds new r
+holds-extends value.Unbound e h = h
+holds-extends value.None e h = h
+holds-extends (value.Truth b) e h = h
+holds-extends (value.Int n) e h = h
+holds-extends (value.Short s) e h = h
+holds-extends (value.Narrow n i) e h = lies-extends (value.Narrow n i) e h
+holds-extends (value.Wide n i) e h = lies-extends (value.Wide n i) e h
+holds-extends (value.BuiltIn b) e h = h
+holds-extends (value.Function n x) e h = lies-extends (value.Function n x) e h
+holds-extends (value.Range p) e h = lies-extends (value.Range p) e h
+holds-extends (value.Kind k) e h = h
+holds-extends (value.Object x) e h = lies-extends (value.Object x) e h
 
 -- values denote what they did, and lie where they did
 pub all-lasts : {old new : Memory} (rs : List Ref) → Lasts old new → AllLie old rs → all_of new rs ≡ all_of old rs

@@ -62,6 +62,11 @@ Lies m (value.Range place) = place < length m.ranges
 Lies m (value.Object x) = x < length m.store
 Lies m _ = Unit {0}
 
+-- what is at a name: no value, or one that lies in an arena
+abbrev pub Holds : Memory → Ref → Type 0
+Holds m value.Unbound = Unit {0}
+Holds m r = Lies m r
+
 -- values lie in an arena
 abbrev pub AllLie : Memory → List Ref → Type 0
 AllLie m [] = Unit {0}

@@ -87,6 +87,22 @@ pub record StandsLast (w : Width) (t : List ℕ) (old new : Rows) (start : ℕ) 
   pub within : start ≤ length (row_of w new)
   pub is : drop start (row_of w new) ≡ t
 
+-- a text ends a row
+abbrev pub EndsRow : Width → Rows → Ref → Type 0
+EndsRow width.Narrow rows (Narrow count start) = start + count ≡ length rows.narrow
+EndsRow width.Wide rows (Wide count start) = start + count ≡ length rows.wide
+EndsRow _ rows _ = ⊥
+
+-- a text ends its row, and another has room behind it there
+abbrev pub GoesOn : Rows → Ref → Ref → Type 0
+GoesOn rows (Narrow count start) right = (start + count ≡ length rows.narrow) × IsNarrow right
+GoesOn rows (Wide count start) right = start + count ≡ length rows.wide
+GoesOn rows _ right = ⊥
+
+-- how many characters stand in rows
+abbrev pub size_of : Rows → ℕ
+size_of rows = length rows.narrow + length rows.wide
+
 -- the characters of a part
 abbrev pub characters_in : Characters → List ℕ
 characters_in (part.Narrow s) = s.now

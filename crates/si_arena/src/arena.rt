@@ -1,9 +1,9 @@
 // The arena of one interpreter.
 
-ghost use Rattle.std.specs.Prelude.{◌≡◌, ◌<◌, ◌∷◌, [], length, slice_get, slice_index, Some, IfOk, OnErr, ◌++◌};
+ghost use Rattle.std.specs.Prelude.{IsOk, ◌+◌, ◌≤◌, ◌≡◌, ◌<◌, ◌∷◌, [], length, slice_get, slice_index, Some, IfOk, OnErr, ◌++◌};
 ghost use Rattle.si_plain.specs.Characters.{characters_of};
 ghost use Rattle.si_semantics.specs.Value as pure;
-ghost use Rattle.si_arena.specs.Texts.{text_of, repeated_text};
+ghost use Rattle.si_arena.specs.Texts.{IsNarrow, GoesOn, size_of, text_of, repeated_text};
 ghost use Rattle.si_arena.specs.Causes.{name_at};
 ghost use Rattle.si_arena.specs.Memory.{value_of, range_of, object_of, ObjectLies, Lies, Placed, PlacesText, IsNamed, IsMade};
 ghost use Rattle.si_arena.specs.Views.{value_in};
@@ -52,26 +52,29 @@ impl Arena {
     }
 
     /// The str of these characters. `TooLong` where they are more than those of a str may be; unchanged where it is
-    /// refused. At most 14 characters below 256 take no memory.
+    /// refused.
     pub fn place_text(&mut self, text: &str) -> Result<Ref, Fault>
         ensures { PlacesText (characters_of text.now) self.old self.new result }
     {
         self.texts.place(text)
     }
 
-    /// The characters of one str and then those of another (Python Language Reference 3.14, 6.7). Where the first ends
-    /// its row, and the second has room there, only the second is copied. `TooLong` where they are more than those of a
-    /// str may be; unchanged where it is refused.
+    /// The characters of one str and then those of another (Python Language Reference 3.14, 6.7). At most 14 of them,
+    /// all below 256, take no memory; where the first ends its row, and the second has room there, only the second is
+    /// copied, and the rows come to no more characters than before and those of the second. `TooLong` where they are
+    /// more than those of a str may be; unchanged where it is refused.
     pub fn join(&mut self, left: Ref, right: Ref) -> Result<Ref, Fault>
         requires left { Lies self.old left }
         requires right { Lies self.old right }
-        ensures { PlacesText (text_of self.old.texts left ++ text_of self.old.texts right) self.old self.new result }
+        ensures text { PlacesText (text_of self.old.texts left ++ text_of self.old.texts right) self.old self.new result }
+        ensures short { IsNarrow left → IsNarrow right → length (text_of self.old.texts left) + length (text_of self.old.texts right) ≤ 14 → (self.new ≡ self.old) × IsOk result }
+        ensures in_place { GoesOn self.old.texts left right → size_of self.new.texts ≤ size_of self.old.texts + length (text_of self.old.texts right) }
     {
         self.texts.join(left, right)
     }
 
-    /// A str so many times (Python Standard Library 3.14, "Built-in Types": common sequence operations); a count below 0
-    /// is as good as 0. `TooLong` where it is longer than a str may be; unchanged where it is refused.
+    /// A str so many times (Python Standard Library 3.14, "Built-in Types": common sequence operations); a count below
+    /// 0 is as good as 0. `TooLong` where it is longer than a str may be; unchanged where it is refused.
     pub fn repeat(&mut self, text: Ref, count: i64) -> Result<Ref, Fault>
         requires { Lies self.old text }
         ensures { PlacesText (repeated_text (text_of self.old.texts text) count) self.old self.new result }

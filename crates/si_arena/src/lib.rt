@@ -7,8 +7,9 @@
 // same after anything is placed or made (`proofs/Lying.antt` has these laws for the crates above), and a call that is
 // refused changes nothing.
 //
-// In reading order: `short` (a text in a `Ref`), `value` (`Ref`), `cause` (why an exception was raised), `texts` (the
-// two rows of characters), `view` (what a `Ref` shows) and `arena`.
+// In reading order: `short` (a text in a `Ref`), `value` (`Ref`), `cause` (why an exception was raised, and what it
+// says), `object` (ranges and exceptions), `characters` and `texts` (the two rows of characters), `view` (what a `Ref`
+// shows) and `arena`.
 #![tactic(auto)]
 
 mod arena;

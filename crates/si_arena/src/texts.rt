@@ -1,11 +1,11 @@
 // The rows in which the characters of texts lie.
 
-ghost use Rattle.std.specs.Prelude.{if◌then◌else◌, ◌*◌, IfSome, ◌<◌, ◌^◌, ◌∷◌, slice_index, ◌≡◌, ◌+◌, ◌≤◌, ◌++◌, List, [], take, drop, length, OnOk, OnErr, IfOk};
+ghost use Rattle.std.specs.Prelude.{IsOk, IsSome, if◌then◌else◌, ◌*◌, IfSome, ◌<◌, ◌^◌, ◌∷◌, slice_index, ◌≡◌, ◌+◌, ◌≤◌, ◌++◌, List, [], take, drop, length, OnOk, OnErr, IfOk};
 ghost use Rattle.si_semantics.specs.Operations.{times};
 ghost use Rattle.si_plain.specs.Characters.{characters_of};
 ghost use Rattle.si_arena.specs.Short.{short_text};
 ghost use Rattle.si_arena.specs.declared.value.Width.TheVariants as width;
-ghost use Rattle.si_arena.specs.Texts.{copies_of, text_of, TextLies, IsNarrow, FitsIn, IsAdded, StandsLast, row_of, with_row, slice_in, Adds, characters_in, repeated_text};
+ghost use Rattle.si_arena.specs.Texts.{EndsRow, GoesOn, size_of, copies_of, text_of, TextLies, IsNarrow, FitsIn, IsAdded, StandsLast, row_of, with_row, slice_in, Adds, characters_in, repeated_text};
 
 use crate::cause::{Cause, Fault};
 use crate::characters::Characters;
@@ -162,7 +162,8 @@ impl Texts {
     // Where a text of a row starts, where nothing stands behind it in the row.
     fn last_start(&self, width: Width, text: Ref) -> Option<usize>
         requires { TextLies self.now text }
-        ensures { IfSome result (λ start. (start ≤ length (row_of width self.now)) × (drop start (row_of width self.now) ≡ text_of self.now text)) }
+        ensures is { IfSome result (λ start. (start ≤ length (row_of width self.now)) × (drop start (row_of width self.now) ≡ text_of self.now text)) }
+        ensures there { EndsRow width self.now text → IsSome result }
     {
         let end = self.end(width);
         match (width, text) {
@@ -182,6 +183,7 @@ impl Texts {
         requires lies { TextLies self.old text }
         requires fits { FitsIn width text }
         ensures ok { IfOk result (λ start. StandsLast width (text_of self.old text) self.old self.new start) }
+        ensures there { EndsRow width self.old text → self.new ≡ self.old }
         ensures err { OnErr result (self.new ≡ self.old) }
     {
         if let Some(start) = self.last_start(width, text) {
@@ -198,6 +200,7 @@ impl Texts {
         requires right { TextLies self.old right × FitsIn width right }
         requires count { count ≡ length (text_of self.old left ++ text_of self.old right) }
         ensures ok { IfOk result (λ r. IsAdded (text_of self.old left ++ text_of self.old right) self.old self.new r) }
+        ensures in_place { EndsRow width self.old left → OnOk result (self.new ≡ with_row width (row_of width self.old ++ text_of self.old right) self.old) }
         ensures err { OnErr result (self.new ≡ self.old) }
     {
         let end = self.end(width);
@@ -233,7 +236,9 @@ impl Texts {
     pub fn join(&mut self, left: Ref, right: Ref) -> Result<Ref, Fault>
         requires left { TextLies self.old left }
         requires right { TextLies self.old right }
-        ensures { Adds (text_of self.old left ++ text_of self.old right) self.old self.new result }
+        ensures text { Adds (text_of self.old left ++ text_of self.old right) self.old self.new result }
+        ensures short { IsNarrow left → IsNarrow right → length (text_of self.old left) + length (text_of self.old right) ≤ 14 → (self.new ≡ self.old) × IsOk result }
+        ensures in_place { GoesOn self.old left right → size_of self.new ≤ size_of self.old + length (text_of self.old right) }
     {
         let count = self.length(left) + self.length(right);
         if count > MAX_STR_LENGTH {
@@ -259,8 +264,8 @@ impl Texts {
         joined
     }
 
-    /// A text so many times, as a text; a count below 0 is as good as 0. `TooLong` where it is longer than a str may be;
-    /// unchanged where it is refused.
+    /// A text so many times, as a text; a count below 0 is as good as 0. `TooLong` where it is longer than a str may
+    /// be; unchanged where it is refused.
     pub fn repeat(&mut self, text: Ref, count: i64) -> Result<Ref, Fault>
         requires { TextLies self.old text }
         ensures { Adds (repeated_text (text_of self.old text) count) self.old self.new result }
@@ -316,8 +321,8 @@ impl Texts {
         }
     }
 
-    /// The characters of `text`, as a text. `TooLong` where they are more than those of a str may be; unchanged where it
-    /// is refused.
+    /// The characters of `text`, as a text. `TooLong` where they are more than those of a str may be; unchanged where
+    /// it is refused.
     pub fn place(&mut self, text: &str) -> Result<Ref, Fault>
         ensures { Adds (characters_of text.now) self.old self.new result }
     {
