@@ -1,0 +1,5 @@
+pub mod Temporaries
+pub mod Steps
+pub mod Refusals
+pub mod Operands
+pub mod Exprs

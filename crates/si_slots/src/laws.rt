@@ -1,0 +1,5 @@
+// What code does on the machine with a frame of slots.
+
+/// Nothing yet.
+pub fn nothing()
+{}
