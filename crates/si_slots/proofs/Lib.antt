@@ -3,3 +3,13 @@ pub mod Steps
 pub mod Refusals
 pub mod Operands
 pub mod Exprs
+pub mod Blocks
+pub mod Raising
+pub mod Names
+pub mod Turns
+pub mod Items
+pub mod Finals
+pub mod Excepts
+pub mod Stmts
+pub mod Calls
+pub mod Tables
