@@ -13,3 +13,4 @@ pub mod Excepts
 pub mod Stmts
 pub mod Calls
 pub mod Tables
+pub mod Life
