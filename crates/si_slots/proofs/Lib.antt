@@ -14,3 +14,9 @@ pub mod Stmts
 pub mod Calls
 pub mod Tables
 pub mod Life
+pub mod Courses
+pub mod Unanswered
+pub mod Opened
+pub mod Due
+pub mod Shown
+pub mod Interpreter
