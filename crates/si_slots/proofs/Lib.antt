@@ -20,3 +20,4 @@ pub mod Opened
 pub mod Due
 pub mod Shown
 pub mod Interpreter
+pub mod WorkedCode

@@ -5,3 +5,4 @@ pub mod Correct
 pub mod Shows
 pub mod Laws
 pub mod Interpreter
+pub mod CodeCases

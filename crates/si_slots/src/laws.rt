@@ -1,8 +1,14 @@
 // What the code for slots does, for those who run it, and laws of courses.
 
 ghost use Rattle.si_slots.specs.Correct.{Compiles, KnowsMore, Lives, StaysOpen};
+ghost use Rattle.si_slots.specs.CodeCases.{CodeCases};
 ghost use Rattle.si_slots.specs.Interpreter.{StaysAfter, AfterShows};
 ghost use Rattle.si_slots.specs.Laws.{AnswersWait, OnePieceALine, OneMoment};
+
+/// The worked cases of code: which instructions three functions have.
+pub fn worked_code()
+    ensures { CodeCases }
+{}
 
 /// The code of a text does what its body means, from every state and whatever came before, and takes at most sixteen
 /// lines for each statement, expression, target, turn of a loop and except clause that the meaning visits.
