@@ -1,5 +1,5 @@
 -- A local name that is not bound is refused.
-use Rattle.std.proofs.Common.{ℕ, Bool, true, false, Option, Some, None, length, ◌++◌}
+use Rattle.std.proofs.Common.{Bool, true, false, None, length, ◌++◌}
 use Rattle.std.specs.Prelude.{nat_lt, codes, if◌then◌else◌}
 use Rattle.si_semantics.specs.Value.{Text}
 use Rattle.si_semantics.specs.Text.{max_length}
