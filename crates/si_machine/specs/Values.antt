@@ -1,5 +1,5 @@
 -- What a machine's values and globals stand for.
-use Rattle.std.specs.Prelude.{◌≡◌, ℕ, ℤ, ◌<◌, List, [], ◌∷◌, ◌++◌, take, drop, length, encode_utf8_all, Option, Some, None, Result, Ok, Err, if◌then◌else◌}
+use Rattle.std.specs.Prelude.{◌≡◌, ℤ, ◌<◌, List, [], ◌∷◌, ◌++◌, take, drop, length, encode_utf8_all, Option, Some, None, Result, Ok, Err, if◌then◌else◌}
 use Rattle.si_semantics.specs.Value as pure
 use Rattle.si_semantics.specs.World.{Globals, first_world}
 use Rattle.si_semantics.specs.Text.{same_text}
