@@ -69,7 +69,7 @@ globals_of [] cells y = first_world.globals y
 globals_of (x ∷ names) [] y = first_world.globals y
 globals_of (x ∷ names) (c ∷ cells) y = if same_text x y then c else globals_of names cells y
 
--- what a value speaks of is in the heap: the text of a str, and of a function's name
+-- what a value speaks of is in the heap: the text of a str, and that of a function's name
 abbrev pub Fits : Heap → Value → Type 0
 Fits texts value.None = Unit {0}
 Fits texts (value.Truth b) = Unit {0}
