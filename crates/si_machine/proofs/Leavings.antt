@@ -312,8 +312,8 @@ handled_frame bs rest left h = sym (ap is_handled left.1) ∙ handled_reached 0 
 -- ---- a new exception
 
 -- a step that is known to end the run
-pub ended : (l : Line) (old new : State) (r : Step) → r ≡ Ended → Did l old new Ended → Did l old new r
-ended l old new r e h =
+pub ended : {l : Line} (old new : State) (r : Step) → r ≡ Ended → Did l old new Ended → Did l old new r
+ended {l} old new r e h =
     let P : Step → Type 0 = λ x. Did l old new x in
     subst P (sym e) h
 

@@ -446,8 +446,8 @@ function_did number place old new r h p e =
     pushed_did (pure.Function (text_at old.table.literals place) number) (value.Function number place) old new r h (omega arith) (ap (λ t. pure.Function t number) same) e
 
 -- a step that is known to be local
-pub local : (l : Line) (old new : State) (r : Step) → r ≡ Local → Did l old new Local → Did l old new r
-local l old new r e h =
+pub local : {l : Line} (old new : State) (r : Step) → r ≡ Local → Did l old new Local → Did l old new r
+local {l} old new r e h =
     let P : Step → Type 0 = λ x. Did l old new x in
     subst P (sym e) h
 
