@@ -1,25 +1,24 @@
 -- Branches, chains and loops: which line a step does.
-use Rattle.std.proofs.Common.{◌≡◌, ℕ, ◌+◌, List, [], ◌∷◌, ◌++◌, length, take, drop, map, All, Bool, true, false, refl, sym, ap, subst, ◌∙◌}
-use Rattle.std.proofs.lemmas.List.Elements.{All-nil, All-cons, All-tail, All-head}
+use Rattle.std.proofs.Common.{◌≡◌, ℕ, ◌+◌, List, [], ◌∷◌, ◌++◌, take, drop, map, All, Bool, true, false, refl, ap, subst, ◌∙◌}
+use Rattle.std.proofs.lemmas.List.Elements.{All-nil, All-cons, All-tail}
 use Rattle.si_semantics.specs.Value as pure
 use Rattle.si_semantics.specs.Tree as tree
 use Rattle.si_semantics.specs.World.{World, Ran}
 use Rattle.si_semantics.specs.Meaning.{Breaks, Continues, choose, decides}
 use Rattle.si_semantics.specs.Operations.{is_true, compare, gave}
-use Rattle.si_semantics.specs.Machine.{ApplyComparison, KeepRight, EndChain, JumpOrDiscard, JumpIfFalse, DoBreak, DoContinue, At, Line, goes, leave, yields}
+use Rattle.si_semantics.specs.Machine.{ApplyComparison, KeepRight, EndChain, JumpOrDiscard, JumpIfFalse, DoBreak, DoContinue, At, goes, leave, yields}
 use Rattle.si_machine.specs.declared.blocks.Block.{Block}
 use Rattle.si_machine.specs.declared.blocks.Block.TheVariants as block
 use Rattle.si_machine.specs.declared.cause.Cause.{Cause}
 use Rattle.si_machine.specs.declared.value.Value.{Value}
 use Rattle.si_machine.specs.declared.value.Value.TheVariants as value
-use Rattle.si_machine.specs.declared.state.Standing.TheVariants as standing
 use Rattle.si_machine.specs.declared.state.State.{State}
 use Rattle.si_machine.specs.declared.step.Step.{Step}
 use Rattle.si_machine.specs.declared.step.Step.TheVariants.{Local}
 use Rattle.si_machine.specs.Causes.{threw}
 use Rattle.si_machine.specs.Sound.{FitsBlock, calls_in}
 use Rattle.si_machine.specs.States.{value_in, IsThere, AreThere, IsReady, Did, Does, blocks_in, blocks_of, slots_of, world_of, line_of, with_operands, IsRaised}
-use Rattle.si_machine.proofs.Lines.{line_on, at_line, blocks_line, moved, blocks_did, moved_did, advanced_did, below, topmost, below_two, second}
+use Rattle.si_machine.proofs.Lines.{alike, line_on, at_line, blocks_line, moved, blocks_did, moved_did, advanced_did, below, topmost, below_two, second}
 
 -- ---- comparisons
 
@@ -32,15 +31,13 @@ comparison_line o x y rest s f top gives =
 pub comparison_did : (o : tree.ComparisonOperator) (x y : Value) (b : Bool) (rest : List Value) (old new : State) → IsReady old → old.operands.here ≡ y ∷ x ∷ rest → ((names : List pure.Text) (w : World) → compare o (value_in old x) (value_in old y) w ≡ gave (pure.Truth b) w) → new ≡ moved (old.pc + 1) (value.Truth b ∷ rest) old → Does (ApplyComparison o) old new Local
 comparison_did o x y b rest old new h top gives e =
     let w = world_of old in
-    let P : Line → Type 0 = λ l. Did l old new Local in
-    subst P (sym (comparison_line o x y rest old (gave (pure.Truth b) w) top (gives old.table.names w)))
+    alike old new Local (comparison_line o x y rest old (gave (pure.Truth b) w) top (gives old.table.names w))
     (advanced_did (pure.Truth b) (value.Truth b) rest old new h (below_two old h y x rest top) tt refl e)
 
 pub comparison_raises : (o : tree.ComparisonOperator) (x y : Value) (rest : List Value) (cause : Cause) (old new : State) (r : Step) → old.operands.here ≡ y ∷ x ∷ rest → ((names : List pure.Text) (w : World) → compare o (value_in old x) (value_in old y) w ≡ threw names cause w) → IsRaised cause old new r → Does (ApplyComparison o) old new r
 comparison_raises o x y rest cause old new r top gives e =
     let w = world_of old in
-    let P : Line → Type 0 = λ l. Did l old new r in
-    subst P (sym (comparison_line o x y rest old (threw old.table.names cause w) top (gives old.table.names w))) e
+    alike old new r (comparison_line o x y rest old (threw old.table.names cause w) top (gives old.table.names w)) e
 
 -- ---- chains
 
@@ -48,8 +45,7 @@ pub keep_did : (u v : Value) (rest : List Value) (old new : State) → IsReady o
 keep_did u v rest old new h top e =
     let G = IsThere old in
     let fits : AreThere old (v ∷ u ∷ v ∷ rest) = All-cons G v (u ∷ v ∷ rest) (topmost old h v (u ∷ rest) top) (All-cons G u (v ∷ rest) (second old h v u rest top) (All-cons G v rest (topmost old h v (u ∷ rest) top) (below_two old h v u rest top))) in
-    let P : Line → Type 0 = λ l. Did l old new Local in
-    subst P (sym (ap (line_on KeepRight old) top))
+    alike old new Local (ap (line_on KeepRight old) top)
     (moved_did (old.pc + 1) (v ∷ u ∷ v ∷ rest) old new h fits e)
 
 -- the right operand once more, below the two
@@ -64,15 +60,13 @@ chain_line n u t rest s b top is =
 -- a comparison was true: its right operand stays
 pub chain_goes_on : (n : ℕ) (u t : Value) (rest : List Value) (old new : State) → IsReady old → old.operands.here ≡ t ∷ u ∷ rest → is_true (value_in old t) (world_of old) ≡ true → new ≡ moved (old.pc + 1) (u ∷ rest) old → Does (EndChain n) old new Local
 chain_goes_on n u t rest old new h top is e =
-    let P : Line → Type 0 = λ l. Did l old new Local in
-    subst P (sym (chain_line n u t rest old true top is)) (moved_did (old.pc + 1) (u ∷ rest) old new h (below old h t (u ∷ rest) top) e)
+    alike old new Local (chain_line n u t rest old true top is) (moved_did (old.pc + 1) (u ∷ rest) old new h (below old h t (u ∷ rest) top) e)
 
 -- it was not: its value stays, and the chain ends
 pub chain_ends : (n : ℕ) (u t : Value) (rest : List Value) (old new : State) → IsReady old → old.operands.here ≡ t ∷ u ∷ rest → is_true (value_in old t) (world_of old) ≡ false → new ≡ moved (old.pc + 1 + n) (t ∷ rest) old → Does (EndChain n) old new Local
 chain_ends n u t rest old new h top is e =
     let G = IsThere old in
-    let P : Line → Type 0 = λ l. Did l old new Local in
-    subst P (sym (chain_line n u t rest old false top is)) (moved_did (old.pc + 1 + n) (t ∷ rest) old new h (All-cons G t rest (topmost old h t (u ∷ rest) top) (below_two old h t u rest top)) e)
+    alike old new Local (chain_line n u t rest old false top is) (moved_did (old.pc + 1 + n) (t ∷ rest) old new h (All-cons G t rest (topmost old h t (u ∷ rest) top) (below_two old h t u rest top)) e)
 
 -- ---- branches
 
@@ -84,15 +78,13 @@ word_line o n v rest s b top is =
 -- an operand decides an `and` or an `or`
 pub word_decides : (o : tree.BooleanOperator) (n : ℕ) (v : Value) (rest : List Value) (old new : State) → IsReady old → old.operands.here ≡ v ∷ rest → decides o (value_in old v) (world_of old) ≡ true → new ≡ record old { pc = old.pc + 1 + n } → Does (JumpOrDiscard o n) old new Local
 word_decides o n v rest old new h top is e =
-    let P : Line → Type 0 = λ l. Did l old new Local in
     let Q : List Value → Type 0 = λ vs. Did (goes (At (old.pc + 1 + n) (map (value_in old) vs) (slots_of old) (blocks_of old)) (world_of old)) old new Local in
-    subst P (sym (word_line o n v rest old true top is)) (subst Q top (moved_did (old.pc + 1 + n) old.operands.here old new h h.sound.stacks.here e))
+    alike old new Local (word_line o n v rest old true top is) (subst Q top (moved_did (old.pc + 1 + n) old.operands.here old new h h.sound.stacks.here e))
 
 -- or not: it is taken
 pub word_goes_on : (o : tree.BooleanOperator) (n : ℕ) (v : Value) (rest : List Value) (old new : State) → IsReady old → old.operands.here ≡ v ∷ rest → decides o (value_in old v) (world_of old) ≡ false → new ≡ moved (old.pc + 1) rest old → Does (JumpOrDiscard o n) old new Local
 word_goes_on o n v rest old new h top is e =
-    let P : Line → Type 0 = λ l. Did l old new Local in
-    subst P (sym (word_line o n v rest old false top is)) (moved_did (old.pc + 1) rest old new h (below old h v rest top) e)
+    alike old new Local (word_line o n v rest old false top is) (moved_did (old.pc + 1) rest old new h (below old h v rest top) e)
 
 branch_line : (n : ℕ) (v : Value) (rest : List Value) (s : State) (b : Bool) → s.operands.here ≡ v ∷ rest → is_true (value_in s v) (world_of s) ≡ b → line_of (JumpIfFalse n) s ≡ choose b (at_line (s.pc + 1) rest s) (at_line (s.pc + 1 + n) rest s)
 branch_line n v rest s b top is =
@@ -101,13 +93,11 @@ branch_line n v rest s b top is =
 
 pub branch_goes_on : (n : ℕ) (v : Value) (rest : List Value) (old new : State) → IsReady old → old.operands.here ≡ v ∷ rest → is_true (value_in old v) (world_of old) ≡ true → new ≡ moved (old.pc + 1) rest old → Does (JumpIfFalse n) old new Local
 branch_goes_on n v rest old new h top is e =
-    let P : Line → Type 0 = λ l. Did l old new Local in
-    subst P (sym (branch_line n v rest old true top is)) (moved_did (old.pc + 1) rest old new h (below old h v rest top) e)
+    alike old new Local (branch_line n v rest old true top is) (moved_did (old.pc + 1) rest old new h (below old h v rest top) e)
 
 pub branch_jumps : (n : ℕ) (v : Value) (rest : List Value) (old new : State) → IsReady old → old.operands.here ≡ v ∷ rest → is_true (value_in old v) (world_of old) ≡ false → new ≡ moved (old.pc + 1 + n) rest old → Does (JumpIfFalse n) old new Local
 branch_jumps n v rest old new h top is e =
-    let P : Line → Type 0 = λ l. Did l old new Local in
-    subst P (sym (branch_line n v rest old false top is)) (moved_did (old.pc + 1 + n) rest old new h (below old h v rest top) e)
+    alike old new Local (branch_line n v rest old false top is) (moved_did (old.pc + 1 + n) rest old new h (below old h v rest top) e)
 
 -- ---- loops
 
@@ -119,10 +109,8 @@ left_did start after next rest old new h top e =
 
 pub break_did : (start after : ℕ) (rest : List Block) (old new : State) → IsReady old → old.blocks ≡ block.Loop start after ∷ rest → new ≡ record old { pc = after; operands = with_operands [] old.operands; blocks = rest } → Does DoBreak old new Local
 break_did start after rest old new h top e =
-    let P : Line → Type 0 = λ l. Did l old new Local in
-    subst P (sym (ap (λ bs. goes (leave Breaks (world_of old) (slots_of old) (blocks_in old bs)) (world_of old)) top)) (left_did start after after rest old new h top e)
+    alike old new Local (ap (λ bs. goes (leave Breaks (world_of old) (slots_of old) (blocks_in old bs)) (world_of old)) top) (left_did start after after rest old new h top e)
 
 pub continue_did : (start after : ℕ) (rest : List Block) (old new : State) → IsReady old → old.blocks ≡ block.Loop start after ∷ rest → new ≡ record old { pc = start; operands = with_operands [] old.operands; blocks = rest } → Does DoContinue old new Local
 continue_did start after rest old new h top e =
-    let P : Line → Type 0 = λ l. Did l old new Local in
-    subst P (sym (ap (λ bs. goes (leave Continues (world_of old) (slots_of old) (blocks_in old bs)) (world_of old)) top)) (left_did start after start rest old new h top e)
+    alike old new Local (ap (λ bs. goes (leave Continues (world_of old) (slots_of old) (blocks_in old bs)) (world_of old)) top) (left_did start after start rest old new h top e)

@@ -27,7 +27,7 @@ use Rattle.si_machine.specs.Values.{Heap, value_of, built_in_of, FitsObject}
 use Rattle.si_machine.specs.Outcomes.{outcome_of}
 use Rattle.si_machine.specs.Causes.{threw, RunsIn, IsUnwritten, GoesOn}
 use Rattle.si_machine.specs.States.{value_in, object_in, IsThere, IsReady, Did, Does, Moves, bytes_of, place_of, IsMade, place_in, slots_of, blocks_of, world_of, line_of, IsRaised}
-use Rattle.si_machine.proofs.Lines.{yields_on, moved, with_here, starved_store, grown_did}
+use Rattle.si_machine.proofs.Lines.{alike, yields_on, moved, with_here, starved_store, grown_did}
 use Rattle.si_machine.proofs.Frames.{call_line, call_refused}
 
 -- ---- built-ins
@@ -35,8 +35,7 @@ use Rattle.si_machine.proofs.Frames.{call_line, call_refused}
 pub built_in_did : (n : ℕ) (f : BuiltIn) (v : Value) (args : List Value) (heap : Heap) (old new : State) → IsReady old → drop n old.operands.here ≡ value.BuiltIn f ∷ drop (n + 1) old.operands.here → args ≡ reverse (take n old.operands.here) → RunsIn (world_of old).store (λ w. call_built_in (built_in_of f) (map (value_in old) args) w) old.texts heap (Ok v) → new ≡ record (moved (old.pc + 1) (v ∷ drop (n + 1) old.operands.here) old) { texts = heap } → Does (CallTop n) old new Local
 built_in_did n f v args heap old new h top args_are runs e =
     let rest = drop (n + 1) old.operands.here in
-    let P : Line → Type 0 = λ l. Did l old new Local in
-    subst P (sym (call_line n (value.BuiltIn f) args old top args_are ∙ ap (λ x. yields_on x old rest) (runs.0 (world_of old) refl)))
+    alike old new Local (call_line n (value.BuiltIn f) args old top args_are ∙ ap (λ x. yields_on x old rest) (runs.0 (world_of old) refl))
     (grown_did v rest heap old new h runs.2 (All-drop (IsThere old) (n + 1) old.operands.here h.sound.stacks.here) runs.1 e)
 
 pub built_in_raises : (n : ℕ) (f : BuiltIn) (cause : Cause) (args : List Value) (old new : State) (r : Step) → drop n old.operands.here ≡ value.BuiltIn f ∷ drop (n + 1) old.operands.here → args ≡ reverse (take n old.operands.here) → call_built_in (built_in_of f) (map (value_in old) args) (world_of old) ≡ threw old.table.names cause (world_of old) → IsRaised cause old new r → Does (CallTop n) old new r

@@ -32,7 +32,7 @@ use Rattle.si_machine.specs.Stacks.{OperandsSeen, SlotsSeen, back_with, back, le
 use Rattle.si_machine.specs.Sound.{SoundStacks, FitsBlock, calls_in}
 use Rattle.si_machine.specs.States.{value_in, bound_in, IsThere, AreThere, IsSound, IsReady, Did, Does, place_in, innermost, blocks_with, blocks_of, slots_of, world_of, line_of, with_operands, back_at, IsRaised, IsPrinted, IsCallee, IsEntered, entered_operands, entered_slots}
 use Rattle.si_machine.proofs.Growth.{All-innermost}
-use Rattle.si_machine.proofs.Lines.{line_on, yields_on, placed_line, moved, with_here, below, topmost, starved_did, placed_did}
+use Rattle.si_machine.proofs.Lines.{alike, line_on, yields_on, placed_line, moved, with_here, below, topmost, starved_did, placed_did}
 
 -- a call's line
 drop_map : {A B : Type 0} (f : A → B) (n : ℕ) (xs : List A) → drop n (map f xs) ≡ map f (drop n xs)
@@ -66,8 +66,7 @@ call_line n f args s top args_are =
 -- a call that raises an exception
 pub call_refused : (cause : Cause) (n : ℕ) (f : Value) (args : List Value) (old new : State) (r : Step) → drop n old.operands.here ≡ f ∷ drop (n + 1) old.operands.here → args ≡ reverse (take n old.operands.here) → calls_on f args old (drop (n + 1) old.operands.here) ≡ yields_on (threw old.table.names cause (world_of old)) old (drop (n + 1) old.operands.here) → IsRaised cause old new r → Does (CallTop n) old new r
 call_refused cause n f args old new r top args_are gives e =
-    let P : Line → Type 0 = λ l. Did l old new r in
-    subst P (sym (call_line n f args old top args_are ∙ gives)) e
+    alike old new r (call_line n f args old top args_are ∙ gives) e
 
 pub call_raises : (n : ℕ) (f : Value) (args : List Value) (old new : State) (r : Step) → drop n old.operands.here ≡ f ∷ drop (n + 1) old.operands.here → args ≡ reverse (take n old.operands.here) → ((es : List Entry) (vs : List pure.Value) (next : ℕ) (ops : List pure.Value) (slots : List (Option pure.Value)) (bs : List machine.Block) (w : World) → calls es (value_in old f) vs next ops slots bs w ≡ yields (threw old.table.names NotCallable w) next ops slots bs) → IsRaised NotCallable old new r → Does (CallTop n) old new r
 call_raises n f args old new r top args_are gives e =
@@ -129,8 +128,7 @@ load_unbound names j w = pick (nat_lt max_length (length (not_bound (text_at nam
 pub unbound_local_did : (j k : ℕ) (old new : State) (r : Step) → slot_in k old.slots.here ≡ None → IsRaised (not_bound_cause old.table.names j) old new r → Does (LoadLocal (text_at old.table.names j) k) old new r
 unbound_local_did j k old new r is e =
     let names = old.table.names in
-    let P : Line → Type 0 = λ l. Did l old new r in
-    subst P (sym (load_line (text_at names j) k None old is ∙ ap (λ f. yields_on f old old.operands.here) (load_unbound names j (world_of old)))) e
+    alike old new r (load_line (text_at names j) k None old is ∙ ap (λ f. yields_on f old old.operands.here) (load_unbound names j (world_of old))) e
 
 -- a slot is set, with operands that fit the texts
 local_set : (k : ℕ) (o : Option Value) (rest : List Value) (old new : State) → IsReady old → FitsBound old.texts o → AreThere old rest → new ≡ record (moved (old.pc + 1) rest old) { slots = record old.slots { here = slice_set old.slots.here k o } } → Did (goes (At (old.pc + 1) (map (value_in old) rest) (slice_set (slots_of old) k (bound_in old o)) (blocks_of old)) (world_of old)) old new Local
@@ -153,8 +151,7 @@ local_set k o rest old new h fits below e =
 -- a slot is bound to the topmost operand
 pub store_local_did : (k : ℕ) (v : Value) (rest : List Value) (old new : State) → IsReady old → old.operands.here ≡ v ∷ rest → new ≡ record (moved (old.pc + 1) rest old) { slots = record old.slots { here = slice_set old.slots.here k (Some v) } } → Does (StoreLocal k) old new Local
 store_local_did k v rest old new h top e =
-    let P : Line → Type 0 = λ l. Did l old new Local in
-    subst P (sym (ap (line_on (StoreLocal k) old) top)) (local_set k (Some v) rest old new h (topmost old h v rest top) (below old h v rest top) e)
+    alike old new Local (ap (line_on (StoreLocal k) old) top) (local_set k (Some v) rest old new h (topmost old h v rest top) (below old h v rest top) e)
 
 -- a slot is unbound
 pub unbind_local_did : (k : ℕ) (old new : State) → IsReady old → new ≡ record old { pc = old.pc + 1; slots = record old.slots { here = slice_set old.slots.here k None } } → Does (UnbindLocal k) old new Local
@@ -167,11 +164,10 @@ named_raises cause n f old new r top gives e =
     let g = value_in old in
     let w = world_of old in
     let rest = drop (n + 1) old.operands.here in
-    let P : Line → Type 0 = λ l. Did l old new r in
     let line : line_of (CallByName n) old ≡ yields_on (threw old.table.names cause w) old rest =
     ap (λ vs. on_callee vs (λ u ops. yields (call_by_name u w) (old.pc + 1) ops (slots_of old) (blocks_of old)) (stuck w)) (drop_map g n old.operands.here ∙ ap (map g) top)
     ∙ ap (λ f. yields_on f old rest) (gives old.texts old.table.names w) in
-    subst P (sym line) e
+    alike old new r line e
 
 -- ---- returns
 
@@ -286,13 +282,11 @@ missing_raises number n old new r h callee is e =
 
 pub arguments_raise : (number n : ℕ) (f : Routine) (old new : State) (r : Step) → IsReady old → IsCallee number n old.operands.here → slice_get old.table.routines number ≡ Some f → n ≢ f.parameters → IsRaised WrongArguments old new r → Does (CallTop n) old new r
 arguments_raise number n f old new r h callee is fits e =
-    let P : Line → Type 0 = λ l. Did l old new r in
-    subst P (sym (entered_line number callee.0 n f false (nat_lt (length old.operands.below) max_calls) old h.sound callee.1 is (ne_eqb n f.parameters fits) refl)) e
+    alike old new r (entered_line number callee.0 n f false (nat_lt (length old.operands.below) max_calls) old h.sound callee.1 is (ne_eqb n f.parameters fits) refl) e
 
 pub depth_raises : (number n : ℕ) (f : Routine) (old new : State) (r : Step) → IsReady old → IsCallee number n old.operands.here → slice_get old.table.routines number ≡ Some f → n ≡ f.parameters → max_calls ≤ length old.operands.below → IsRaised TooDeep old new r → Does (CallTop n) old new r
 depth_raises number n f old new r h callee is fits has e =
-    let P : Line → Type 0 = λ l. Did l old new r in
-    subst P (sym (entered_line number callee.0 n f true false old h.sound callee.1 is (eq-eqb n f.parameters fits) (le-ltb (length old.operands.below) max_calls has))) e
+    alike old new r (entered_line number callee.0 n f true false old h.sound callee.1 is (eq-eqb n f.parameters fits) (le-ltb (length old.operands.below) max_calls has)) e
 
 -- the locals of a function as it begins
 unbound_seen : (texts : List pure.Text) (n : ℕ) → map (bound_of texts) (unbound n) ≡ meaning.unbound n
@@ -341,8 +335,7 @@ entered_did number n f old new Local h callee is fits has e =
       operands_each = operands_each;
       locals_each = locals_each;
     } in
-    let P : Line → Type 0 = λ l. Did l old new Local in
     let line =
     entered_line number callee.0 n f true true old h.sound callee.1 is (eq-eqb n f.parameters fits) (lt-ltb (length old.operands.below) max_calls has)
     ∙ ap (λ xs. goes (At f.at [] xs (machine.Frame (old.pc + 1) (map (value_in old) rest) (slots_of old) ∷ blocks_of old)) (world_of old)) (sym (entered_seen old.texts f.locals args)) in
-    subst P (sym line) (placed_did f.at ops slots bs old new h stacks e)
+    alike old new Local line (placed_did f.at ops slots bs old new h stacks e)

@@ -1,5 +1,5 @@
 -- What holds of a machine, call after call.
-use Rattle.std.proofs.Common.{◌≡◌, ◌<◌, ◌^◌, arith, ℕ, zero, suc, List, [], ◌++◌, length, take, map, All, Option, Some, None, true, string_bytes, refl, sym, ap, subst, ◌∙◌, append-nil}
+use Rattle.std.proofs.Common.{◌≡◌, arith, ℕ, zero, suc, List, [], ◌++◌, length, map, Option, Some, None, true, string_bytes, refl, sym, ap, subst, ◌∙◌, append-nil}
 use Rattle.std.specs.Prelude.{encode_utf8_all}
 use Rattle.si_semantics.specs.Value as pure
 use Rattle.si_semantics.specs.World.{World}

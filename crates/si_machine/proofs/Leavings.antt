@@ -1,6 +1,6 @@
 -- Leaving what was entered: which line a step does.
 use Rattle.std.proofs.Common.{◌≡◌, ℕ, ◌+◌, ◌<◌, ◌≤◌, List, [], ◌∷◌, length, map, drop, Option, Some, None, All, string_bytes, refl, sym, ap, subst, ◌∙◌, arith, append-nil, Bool, true, false, cond, slice_get}
-use Rattle.std.proofs.lemmas.List.Elements.{All-nil, All-cons, All-drop, All-tail, All-head}
+use Rattle.std.proofs.lemmas.List.Elements.{All-nil, All-cons, All-tail}
 use Rattle.si_semantics.specs.Value as pure
 use Rattle.si_semantics.specs.World.{World}
 use Rattle.si_semantics.specs.Life as life
@@ -15,7 +15,6 @@ use Rattle.si_machine.specs.declared.blocks.Block.{Block}
 use Rattle.si_machine.specs.declared.blocks.Block.TheVariants.{Loop, Each, Catch, Final, Pending, Handling, Frame}
 use Rattle.si_machine.specs.declared.blocks.Leaving.{Leaving}
 use Rattle.si_machine.specs.declared.blocks.Leaving.TheVariants.{Raises, Returns, Breaks, Continues}
-use Rattle.si_machine.specs.declared.state.Standing.TheVariants as standing
 use Rattle.si_machine.specs.declared.state.State.{State}
 use Rattle.si_machine.specs.declared.step.Outcome.TheVariants.{Returned, Raised}
 use Rattle.si_machine.specs.declared.step.Step.{Step}
@@ -26,7 +25,7 @@ use Rattle.si_machine.specs.Stacks.{OperandsSeen, SlotsSeen, back, left_by}
 use Rattle.si_machine.specs.Sound.{FitsBlock, calls_in}
 use Rattle.si_machine.specs.States.{value_in, bound_in, IsThere, IsSound, IsReady, Did, Does, Unwinds, innermost, blocks_with, blocks_in, slots_of, world_of, with_operands, at_rest, back_at, leave_line}
 use Rattle.si_machine.proofs.Growth.{All-innermost}
-use Rattle.si_machine.proofs.Lines.{with_blocks, sound_at, rest_sound, topmost, blocks_did, finished_did}
+use Rattle.si_machine.proofs.Lines.{alike, with_blocks, sound_at, rest_sound, topmost, blocks_did, finished_did}
 use Rattle.si_machine.proofs.Frames.{return_line, caller_operands, caller_slots, caller_sound, back_did, left_operands, back_slots, caller_there}
 
 -- ---- blocks
@@ -195,9 +194,8 @@ final_place Continues texts w here suite bs = refl
 -- to a finally suite
 pub final_did : (q : Leaving) (suite : ℕ) (rest : List Block) (old new : State) → IsReady old → FitsLeaving old.texts q → reached q old.blocks ≡ Final suite ∷ rest → new ≡ record old { pc = suite; operands = with_operands [] old.operands; blocks = Pending (Some q) ∷ rest } → Did (leave_line q old) old new Local
 final_did q suite rest old new h fits is e =
-    let P : Line → Type 0 = λ l. Did l old new Local in
     let bs = blocks_in old rest in
-    subst P (sym (reached_line q (Final suite ∷ rest) old is ∙ ap (λ p. goes p (world_of old)) (final_place q old.texts (world_of old) (slots_of old) suite bs)))
+    alike old new Local (reached_line q (Final suite ∷ rest) old is ∙ ap (λ p. goes p (world_of old)) (final_place q old.texts (world_of old) (slots_of old) suite bs))
     (blocks_did suite [] (Pending (Some q) ∷ rest) old new h (All-nil (IsThere old)) (reached_count q (Final suite ∷ rest) old is) (All-cons (FitsBlock old.texts) (Pending (Some q)) rest fits (All-tail (FitsBlock old.texts) (Final suite) rest (reached_fit q (Final suite ∷ rest) old h.sound is))) e)
 
 loop_place : (q : Leaving) (texts : List pure.Text) (w : World) (here : List (Option pure.Value)) (start after : ℕ) (bs : List machine.Block) → concerns q (Loop start after) ≡ true → leave (leaving_of texts q) w here (machine.Loop start after ∷ bs) ≡ At (left_to q start after) [] here bs
@@ -209,10 +207,9 @@ loop_place Continues texts w here start after bs e = refl
 -- out of a loop, or to its start
 pub loop_did : (q : Leaving) (start after : ℕ) (rest : List Block) (old new : State) → IsReady old → reached q old.blocks ≡ Loop start after ∷ rest → new ≡ record old { pc = left_to q start after; operands = with_operands [] old.operands; blocks = rest } → Did (leave_line q old) old new Local
 loop_did q start after rest old new h is e =
-    let P : Line → Type 0 = λ l. Did l old new Local in
     let bs = blocks_in old rest in
     let top = reached_top q old.blocks (Loop start after) rest is in
-    subst P (sym (reached_line q (Loop start after ∷ rest) old is ∙ ap (λ p. goes p (world_of old)) (loop_place q old.texts (world_of old) (slots_of old) start after bs top)))
+    alike old new Local (reached_line q (Loop start after ∷ rest) old is ∙ ap (λ p. goes p (world_of old)) (loop_place q old.texts (world_of old) (slots_of old) start after bs top))
     (blocks_did (left_to q start after) [] rest old new h (All-nil (IsThere old)) (reached_count q (Loop start after ∷ rest) old is) (All-tail (FitsBlock old.texts) (Loop start after) rest (reached_fit q (Loop start after ∷ rest) old h.sound is)) e)
 
 frame_place : (q : Leaving) (texts : List pure.Text) (w : World) (here : List (Option pure.Value)) (after : ℕ) (ops : List pure.Value) (slots : List (Option pure.Value)) (bs : List machine.Block) → IsPlain q → leave (leaving_of texts q) w here (machine.Frame after ops slots ∷ bs) ≡ At after (value_of texts (left_with q) ∷ ops) slots bs
@@ -230,11 +227,10 @@ value_fits heap Continues h = tt
 -- back in the caller
 pub frame_did : (q : Leaving) (after : ℕ) (rest : List Block) (old new : State) → IsReady old → IsPlain q → FitsLeaving old.texts q → reached q old.blocks ≡ Frame after ∷ rest → new ≡ record (back_at after (left_with q) old) { blocks = rest } → Did (leave_line q old) old new Local
 frame_did q after rest old new h plain fits is e =
-    let P : Line → Type 0 = λ l. Did l old new Local in
     let ops = map (value_in old) (innermost old.operands.below) in
     let slots = map (bound_in old) (innermost old.slots.below) in
     let bs = blocks_with old.texts rest (drop 1 old.operands.below) (drop 1 old.slots.below) in
-    subst P (sym (reached_line q (Frame after ∷ rest) old is ∙ ap (λ p. goes p (world_of old)) (frame_place q old.texts (world_of old) (slots_of old) after ops slots bs plain)))
+    alike old new Local (reached_line q (Frame after ∷ rest) old is ∙ ap (λ p. goes p (world_of old)) (frame_place q old.texts (world_of old) (slots_of old) after ops slots bs plain))
     (back_did after (left_with q) rest old new h (value_fits old.texts q fits) (All-tail (FitsBlock old.texts) (Frame after) rest (reached_fit q (Frame after ∷ rest) old h.sound is)) (reached_count q (Frame after ∷ rest) old is) e)
 
 pub frame_caller : (q : Leaving) (after : ℕ) (rest : List Block) (s : State) → IsSound s → reached q s.blocks ≡ Frame after ∷ rest → (0 < length s.operands.below) × (0 < length s.slots.below)
@@ -249,8 +245,7 @@ end_place Continues texts w here h = refl
 -- out of the run
 pub end_did : (q : Leaving) (old new : State) → IsReady old → IsPlain q → reached q old.blocks ≡ [] → new ≡ at_rest Returned old → Did (leave_line q old) old new Ended
 end_did q old new h plain is e =
-    let P : Line → Type 0 = λ l. Did l old new Ended in
-    subst P (sym (reached_line q [] old is ∙ ap (λ p. goes p (world_of old)) (end_place q old.texts (world_of old) (slots_of old) plain))) (finished_did old new h e)
+    alike old new Ended (reached_line q [] old is ∙ ap (λ p. goes p (world_of old)) (end_place q old.texts (world_of old) (slots_of old) plain)) (finished_did old new h e)
 
 -- an exception that nothing handles ends the run
 pub raised_ends : (x : ℕ) (kind : Kind) (text : pure.Text) (old new : State) → IsReady old → is_handled old.blocks ≡ false → kind ≡ life.kind_of (slice_get (world_of old).store x) → text ≡ message_of (str_in (world_of old).store (pure.Address x)) → new ≡ at_rest (Raised kind text) old → Did (leave_line (Raises x) old) old new Ended
@@ -317,8 +312,8 @@ handled_frame bs rest left h = sym (ap is_handled left.1) ∙ handled_reached 0 
 -- ---- a new exception
 
 -- a step that is known to end the run
-pub ended : (l : Line) (old new : State) (r : Step) → r ≡ Ended → Did l old new Ended → Did l old new r
-ended l old new r e h =
+pub ended : {l : Line} (old new : State) (r : Step) → r ≡ Ended → Did l old new Ended → Did l old new r
+ended {l} old new r e h =
     let P : Step → Type 0 = λ x. Did l old new x in
     subst P (sym e) h
 
@@ -326,8 +321,7 @@ ended l old new r e h =
 
 pub return_left : (v : Value) (ops : List Value) (old new : State) (r : Step) → old.operands.here ≡ v ∷ ops → Did (leave_line (Returns v) old) old new r → Does machine.DoReturn old new r
 return_left v ops old new r top did =
-    let P : Line → Type 0 = λ l. Did l old new r in
-    subst P (sym (return_line v ops old top)) did
+    alike old new r (return_line v ops old top) did
 
 top_reached : (q : Leaving) (b : Block) (rest bs : List Block) → bs ≡ b ∷ rest → concerns q b ≡ true → reached q bs ≡ b ∷ rest
 top_reached q b rest bs top is = ap (reached q) top ∙ ap (λ c. cond c (b ∷ rest) (reached q rest)) is

@@ -1,11 +1,11 @@
 -- What a step prints, and which line it does.
-use Rattle.std.proofs.Common.{◌≡◌, ◌≢◌, ℕ, zero, suc, ◌+◌, ◌<◌, ◌≤◌, List, [], ◌∷◌, ◌++◌, length, map, take, get_or, Option, Some, None, All, AllPairs, string_bytes, refl, sym, ap, subst, ◌∙◌, arith, append-nil, Bool, true, false, cond, slice_get, slice_set, nat_lt, Ok}
+use Rattle.std.proofs.Common.{◌≡◌, ◌≢◌, ℕ, zero, suc, ◌+◌, ◌<◌, ◌≤◌, List, [], ◌∷◌, length, map, get_or, Option, Some, None, All, AllPairs, string_bytes, refl, sym, ap, subst, ◌∙◌, arith, append-nil, Bool, true, false, cond, slice_get, slice_set, nat_lt, Ok}
 use mathlib.Core.Path.{fun_ext}
-use Rattle.std.proofs.lemmas.List.{get_or-take, take-append-le, length-take, map-set, length-map, length-set}
+use Rattle.std.proofs.lemmas.List.{get_or-take, map-set, length-map, length-set}
 use Rattle.std.specs.Prelude.{codes, option_map}
 use Rattle.si_plain.specs.declared.kind.Kind.{Kind}
 use Rattle.std.proofs.lemmas.Option.{slice_get_within, slice_get-get_or, get_or_from_slice_get}
-use Rattle.std.proofs.lemmas.List.Elements.{All-nil, All-cons, All-tail, All-head, All-weaker, All-set, All-get_or}
+use Rattle.std.proofs.lemmas.List.Elements.{All-nil, All-cons, All-tail, All-head, All-set, All-get_or}
 use Rattle.si_semantics.specs.Value as pure
 use Rattle.si_semantics.specs.Text.{same_text, max_length}
 use Rattle.si_semantics.specs.Tree as tree
@@ -58,6 +58,12 @@ placed_line pc ops slots bs s = goes (At pc (map (value_in s) ops.here) (map (bo
 -- a line that goes on at a place, with these operands and blocks
 abbrev pub blocks_line : ℕ → List Value → List Block → State → Line
 blocks_line pc vs bs s = goes (At pc (map (value_in s) vs) (slots_of s) (blocks_in s bs)) (world_of s)
+
+-- a step did a line, by whichever word for it
+pub alike : {l m : Line} (old new : State) (r : Step) → m ≡ l → Did l old new r → Did m old new r
+alike old new r e did =
+    let P : Line → Type 0 = λ l. Did l old new r in
+    subst P (sym e) did
 
 -- ---- what stays sound
 
@@ -384,8 +390,7 @@ unary_did o x v rest old new h top gives fits e =
     let line : line_of (ApplyUnary o) old ≡ goes (At (old.pc + 1) (value_in old v ∷ map (value_in old) rest) (slots_of old) (blocks_of old)) w =
     ap (line_on (ApplyUnary o) old) top
     ∙ ap (λ f. yields f (old.pc + 1) (map (value_in old) rest) (slots_of old) (blocks_of old)) (gives old.table.names w) in
-    let P : Line → Type 0 = λ l. Did l old new Local in
-    subst P (sym line) (advanced_did (value_in old v) v rest old new h (below old h x rest top) (fits old.texts) refl e)
+    alike old new Local line (advanced_did (value_in old v) v rest old new h (below old h x rest top) (fits old.texts) refl e)
 
 pub unary_raises : (o : tree.UnaryOperator) (x : Value) (rest : List Value) (cause : Cause) (old new : State) (r : Step) → old.operands.here ≡ x ∷ rest → ((names : List pure.Text) (w : World) → operate_unary o (value_in old x) w ≡ threw names cause w) → IsRaised cause old new r → Does (ApplyUnary o) old new r
 unary_raises o x rest cause old new r top gives e =
@@ -393,8 +398,7 @@ unary_raises o x rest cause old new r top gives e =
     let line : line_of (ApplyUnary o) old ≡ yields (threw old.table.names cause w) (old.pc + 1) (map (value_in old) rest) (slots_of old) (blocks_of old) =
     ap (line_on (ApplyUnary o) old) top
     ∙ ap (λ f. yields f (old.pc + 1) (map (value_in old) rest) (slots_of old) (blocks_of old)) (gives old.table.names w) in
-    let P : Line → Type 0 = λ l. Did l old new r in
-    subst P (sym line) e
+    alike old new r line e
 
 -- two operands give way to what an operator gives for them
 binary_line : (o : tree.BinaryOperator) (x y : Value) (rest : List Value) (s : State) (f : Ran) → s.operands.here ≡ y ∷ x ∷ rest → operate o (value_in s x) (value_in s y) (world_of s) ≡ f → line_of (ApplyBinary o) s ≡ yields f (s.pc + 1) (map (value_in s) rest) (slots_of s) (blocks_of s)
@@ -404,24 +408,20 @@ binary_line o x y rest s f top gives =
 
 pub binary_did : (o : tree.BinaryOperator) (x y v : Value) (rest : List Value) (texts : Heap) (old new : State) → IsReady old → old.operands.here ≡ y ∷ x ∷ rest → Runs (λ w. operate o (value_in old x) (value_in old y) w) old.texts texts (Ok v) → new ≡ record (moved (old.pc + 1) (v ∷ rest) old) { texts = texts } → Does (ApplyBinary o) old new Local
 binary_did o x y v rest texts old new h top runs e =
-    let P : Line → Type 0 = λ l. Did l old new Local in
-    subst P (sym (binary_line o x y rest old (gave (value_of texts v) (world_of old)) top (runs.0 (world_of old)))) (grown_did v rest texts old new h runs.2 (below_two old h y x rest top) runs.1 e)
+    alike old new Local (binary_line o x y rest old (gave (value_of texts v) (world_of old)) top (runs.0 (world_of old))) (grown_did v rest texts old new h runs.2 (below_two old h y x rest top) runs.1 e)
 
 pub binary_raises : (o : tree.BinaryOperator) (x y : Value) (rest : List Value) (cause : Cause) (old new : State) (r : Step) → old.operands.here ≡ y ∷ x ∷ rest → ((names : List pure.Text) (w : World) → operate o (value_in old x) (value_in old y) w ≡ threw names cause w) → IsRaised cause old new r → Does (ApplyBinary o) old new r
 binary_raises o x y rest cause old new r top gives e =
     let w = world_of old in
-    let P : Line → Type 0 = λ l. Did l old new r in
-    subst P (sym (binary_line o x y rest old (threw old.table.names cause w) top (gives old.table.names w))) e
+    alike old new r (binary_line o x y rest old (threw old.table.names cause w) top (gives old.table.names w)) e
 
 pub discard_did : (v : Value) (rest : List Value) (old new : State) → IsReady old → old.operands.here ≡ v ∷ rest → new ≡ moved (old.pc + 1) rest old → Does Discard old new Local
 discard_did v rest old new h top e =
-    let P : Line → Type 0 = λ l. Did l old new Local in
-    subst P (sym (ap (line_on Discard old) top)) (discarded_did v rest old new h top e)
+    alike old new Local (ap (line_on Discard old) top) (discarded_did v rest old new h top e)
 
 pub store_did : (k : ℕ) (v : Value) (rest : List Value) (old new : State) → IsReady old → AllPairs (λ x y. x ≢ y) old.table.names → k < length old.globals.items → old.operands.here ≡ v ∷ rest → new.globals.items ≡ slice_set old.globals.items k (Some v) → new ≡ record (moved (old.pc + 1) rest old) { globals = new.globals } → Does (StoreGlobal (text_at old.table.names k)) old new Local
 store_did k v rest old new h d p top items e =
-    let P : Line → Type 0 = λ l. Did l old new Local in
-    subst P (sym (ap (line_on (StoreGlobal (text_at old.table.names k)) old) top)) (rebound_did k (Some v) rest old new h d p (topmost old h v rest top) (below old h v rest top) items e)
+    alike old new Local (ap (line_on (StoreGlobal (text_at old.table.names k)) old) top) (rebound_did k (Some v) rest old new h d p (topmost old h v rest top) (below old h v rest top) items e)
 
 pub unbind_did : (k : ℕ) (old new : State) → IsReady old → AllPairs (λ x y. x ≢ y) old.table.names → k < length old.globals.items → new.globals.items ≡ slice_set old.globals.items k None → new ≡ record old { pc = old.pc + 1; globals = new.globals } → Does (UnbindGlobal (text_at old.table.names k)) old new Local
 unbind_did k old new h d p items e = rebound_did k None old.operands.here old new h d p tt h.sound.stacks.here items e
@@ -446,8 +446,8 @@ function_did number place old new r h p e =
     pushed_did (pure.Function (text_at old.table.literals place) number) (value.Function number place) old new r h (omega arith) (ap (λ t. pure.Function t number) same) e
 
 -- a step that is known to be local
-pub local : (l : Line) (old new : State) (r : Step) → r ≡ Local → Did l old new Local → Did l old new r
-local l old new r e h =
+pub local : {l : Line} (old new : State) (r : Step) → r ≡ Local → Did l old new Local → Did l old new r
+local {l} old new r e h =
     let P : Step → Type 0 = λ x. Did l old new x in
     subst P (sym e) h
 

@@ -1,8 +1,8 @@
 -- `try`, `raise` and `for`: which line a step does.
-use Rattle.std.proofs.Common.{◌≡◌, ℕ, ◌+◌, List, ◌∷◌, ◌++◌, length, map, Option, Some, None, All, refl, sym, ap, subst, ◌∙◌, Ok, Err, Result, OnOk, false}
+use Rattle.std.proofs.Common.{◌≡◌, ℕ, ◌+◌, List, ◌∷◌, map, Option, Some, None, All, refl, sym, ap, subst, ◌∙◌, Ok, Err, Result, OnOk, false}
 use Rattle.std.specs.Result.{is_err}
 use Rattle.std.proofs.lemmas.Bool.{false≢true}
-use Rattle.std.proofs.lemmas.List.Elements.{All-cons, All-tail, All-head}
+use Rattle.std.proofs.lemmas.List.Elements.{All-cons, All-tail}
 use Rattle.si_semantics.specs.Value as pure
 use Rattle.si_semantics.specs.World.{Ran}
 use Rattle.si_semantics.specs.Operations.{gave, raised_again, Iterator, iterator_of, Next, Item, Exhausted, next_item, catches}
@@ -16,7 +16,6 @@ use Rattle.si_machine.specs.declared.cause.Cause.TheVariants.{NoneActive}
 use Rattle.si_machine.specs.declared.blocks.Block.{Block}
 use Rattle.si_machine.specs.declared.blocks.Block.TheVariants.{Each, Handling}
 use Rattle.si_machine.specs.declared.blocks.Leaving.TheVariants.{Raises}
-use Rattle.si_machine.specs.declared.state.Standing.TheVariants as standing
 use Rattle.si_machine.specs.declared.state.State.{State}
 use Rattle.si_machine.specs.declared.step.Step.{Step}
 use Rattle.si_machine.specs.declared.step.Step.TheVariants.{Local}
@@ -26,7 +25,7 @@ use Rattle.si_machine.specs.Blocks.{active_of}
 use Rattle.si_machine.specs.Sound.{FitsBlock, calls_in}
 use Rattle.si_machine.specs.States.{value_in, IsReady, Did, Does, blocks_in, blocks_of, operands_of, slots_of, world_of, line_of, with_operands, IsRaised, leave_line}
 use Rattle.si_machine.proofs.Growth.{blocks_stay}
-use Rattle.si_machine.proofs.Lines.{line_on, moved, blocks_did, below, advanced_did, grown_with}
+use Rattle.si_machine.proofs.Lines.{alike, line_on, moved, blocks_did, below, advanced_did, grown_with}
 use Rattle.si_machine.proofs.Leavings.{active_same}
 
 -- the line of an instruction with these blocks
@@ -43,27 +42,23 @@ test_line x v ops rest f s top inside is =
 
 pub tested : (x : ℕ) (v u : Value) (ops : List Value) (rest : List Block) (old new : State) → IsReady old → old.operands.here ≡ v ∷ ops → old.blocks ≡ Handling x ∷ rest → catches (value_in old v) x (world_of old) ≡ gave (value_in old u) (world_of old) → ((heap : Heap) → Fits heap u) → new ≡ moved (old.pc + 1) (u ∷ ops) old → Does TestClause old new Local
 tested x v u ops rest old new h top inside is fits e =
-    let P : Line → Type 0 = λ l. Did l old new Local in
-    subst P (sym (test_line x v ops rest (gave (value_in old u) (world_of old)) old top inside is))
+    alike old new Local (test_line x v ops rest (gave (value_in old u) (world_of old)) old top inside is)
     (advanced_did (value_in old u) u ops old new h (below old h v ops top) (fits old.texts) refl e)
 
 pub test_raises : (x : ℕ) (v : Value) (ops : List Value) (rest : List Block) (cause : Cause) (old new : State) (r : Step) → old.operands.here ≡ v ∷ ops → old.blocks ≡ Handling x ∷ rest → catches (value_in old v) x (world_of old) ≡ threw old.table.names cause (world_of old) → IsRaised cause old new r → Does TestClause old new r
 test_raises x v ops rest cause old new r top inside is e =
-    let P : Line → Type 0 = λ l. Did l old new r in
-    subst P (sym (test_line x v ops rest (threw old.table.names cause (world_of old)) old top inside is)) e
+    alike old new r (test_line x v ops rest (threw old.table.names cause (world_of old)) old top inside is) e
 
 again_line : (o : Option ℕ) (s : State) → active_of s.blocks ≡ o → line_of DoRaiseAgain s ≡ raises (raised_again o (world_of s)) (slots_of s) (blocks_of s)
 again_line o s is = ap (λ a. raises (raised_again a (world_of s)) (slots_of s) (blocks_of s)) (active_same s.texts s.blocks s.operands.below s.slots.below ∙ is)
 
 pub raised_anew : (x : ℕ) (old new : State) (r : Step) → active_of old.blocks ≡ Some x → Did (leave_line (Raises x) old) old new r → Does DoRaiseAgain old new r
 raised_anew x old new r is did =
-    let P : Line → Type 0 = λ l. Did l old new r in
-    subst P (sym (again_line (Some x) old is)) did
+    alike old new r (again_line (Some x) old is) did
 
 pub none_active : (old new : State) (r : Step) → active_of old.blocks ≡ None → IsRaised NoneActive old new r → Does DoRaiseAgain old new r
 none_active old new r is did =
-    let P : Line → Type 0 = λ l. Did l old new r in
-    subst P (sym (again_line None old is)) did
+    alike old new r (again_line None old is) did
 
 -- for
 for_line : (v : Value) (ops : List Value) (o : Option Iterator) (s : State) → s.operands.here ≡ v ∷ ops → iterator_of (value_in s v) (world_of s) ≡ o → line_of StartFor s ≡ starts_for o (s.pc + 1) (map (value_in s) ops) (slots_of s) (blocks_of s) (world_of s)
@@ -71,8 +66,7 @@ for_line v ops o s top is = ap (line_on StartFor s) top ∙ ap (λ i. starts_for
 
 pub for_started : (v : Value) (ops : List Value) (items : Items) (old new : State) → IsReady old → old.operands.here ≡ v ∷ ops → Some (items_of old.texts items) ≡ iterator_of (value_in old v) (world_of old) → FitsItems old.texts items → new ≡ record old { pc = old.pc + 1; operands = with_operands ops old.operands; blocks = Each items ∷ old.blocks } → Does StartFor old new Local
 for_started v ops items old new h top is fits e =
-    let P : Line → Type 0 = λ l. Did l old new Local in
-    subst P (sym (for_line v ops (Some (items_of old.texts items)) old top (sym is)))
+    alike old new Local (for_line v ops (Some (items_of old.texts items)) old top (sym is))
     (blocks_did (old.pc + 1) ops (Each items ∷ old.blocks) old new h (below old h v ops top) refl (All-cons (FitsBlock old.texts) (Each items) old.blocks fits h.sound.stacks.blocks) e)
 
 item_line : (n : ℕ) (items : Items) (rest : List Block) (o : Next) (s : State) → s.blocks ≡ Each items ∷ rest → o ≡ next_item (items_of s.texts items) (world_of s) → line_of (NextItem n) s ≡ gives_item o (s.pc + 1) (s.pc + 1 + n) (operands_of s) (slots_of s) (blocks_in s rest) (world_of s)
@@ -85,9 +79,8 @@ item_given n items more_items item rest heap old new h top gives e =
     let k = h.sound.stacks in
     let B : List Block → Type 0 = λ l. All (FitsBlock old.texts) l in
     let below : All (FitsBlock old.texts) rest = All-tail (FitsBlock old.texts) (Each items) rest (subst B top k.blocks) in
-    let P : Line → Type 0 = λ l. Did l old new Local in
     let O : List machine.Block → Type 0 = λ l. Did (goes (At (old.pc + 1) (value_of heap item ∷ operands_of old) (slots_of old) (machine.Each (items_of heap more_items) ∷ l)) (world_of old)) old new Local in
-    subst P (sym (item_line n items rest (Item (value_of heap item) (items_of heap more_items)) old top (sym (gives.0 (world_of old)))))
+    alike old new Local (item_line n items rest (Item (value_of heap item) (items_of heap more_items)) old top (sym (gives.0 (world_of old))))
     (subst O (blocks_stay old.texts heap gives.3 rest old.operands.below old.slots.below below k.below k.callers)
     (grown_with item old.operands.here heap (Each more_items) rest old new h gives.3 k.here gives.1 gives.2 below (ap calls_in top) e))
 
@@ -99,6 +92,5 @@ where_room (Err x) has h = absurd (false≢true (sym has))
 pub items_ended : (n : ℕ) (items : Items) (rest : List Block) (old new : State) → IsReady old → old.blocks ≡ Each items ∷ rest → next_item (items_of old.texts items) (world_of old) ≡ Exhausted → new ≡ record old { pc = old.pc + 1 + n; blocks = rest } → Does (NextItem n) old new Local
 items_ended n items rest old new h top is e =
     let B : List Block → Type 0 = λ l. All (FitsBlock old.texts) l in
-    let P : Line → Type 0 = λ l. Did l old new Local in
-    subst P (sym (item_line n items rest Exhausted old top (sym is)))
+    alike old new Local (item_line n items rest Exhausted old top (sym is))
     (blocks_did (old.pc + 1 + n) old.operands.here rest old new h h.sound.stacks.here (ap calls_in top) (All-tail (FitsBlock old.texts) (Each items) rest (subst B top h.sound.stacks.blocks)) e)

@@ -125,7 +125,7 @@ line_of i s = act (entries_of s.table) i (s.pc + 1) (operands_of s) (slots_of s)
 abbrev pub next_line : State → Line
 next_line s = fetched (entries_of s.table) (slice_get (code_of s.table) s.pc) s.pc (operands_of s) (slots_of s) (blocks_of s) (world_of s)
 
--- a state is sound: its stacks, its heap, and its code
+-- a state is sound: its stacks, its heap, and its code are, each by itself
 pub record IsSound (s : State) : Type 0 where
   pub stacks : SoundStacks s.texts s.operands s.slots s.blocks
   pub heap : SoundHeap s.table.literals s.texts s.globals.items s.store.items
@@ -145,8 +145,8 @@ pub record IsReady (s : State) : Type 0 where
   pub running : s.standing ≡ standing.Running
   pub sound : IsSound s
 
--- what the method of an instruction takes: a run is under way, and its state is sound; its place is one of the code, of which each
--- global name has one slot; and the line of the instruction leads on
+-- what the method of an instruction takes: a run is under way, and its state is sound; it stands at a place below 2^63, as each of the
+-- code is; no two slots have one name; and the line of the instruction leads on
 pub record IsReadyFor (i : Instr) (s : State) : Type 0 where
   pub state : IsReady s
   pub place : s.pc < 2 ^ 63

@@ -1,5 +1,5 @@
 -- What a machine's values and globals stand for.
-use Rattle.std.specs.Prelude.{◌≡◌, ℕ, ℤ, ◌<◌, List, [], ◌∷◌, ◌++◌, take, drop, length, encode_utf8_all, Option, Some, None, Result, Ok, Err, if◌then◌else◌}
+use Rattle.std.specs.Prelude.{◌≡◌, ℤ, ◌<◌, List, [], ◌∷◌, ◌++◌, take, drop, length, encode_utf8_all, Option, Some, None, Result, Ok, Err, if◌then◌else◌}
 use Rattle.si_semantics.specs.Value as pure
 use Rattle.si_semantics.specs.World.{World, Globals, first_world}
 use Rattle.si_semantics.specs.Text.{same_text}
@@ -69,7 +69,7 @@ globals_of [] cells y = first_world.globals y
 globals_of (x ∷ names) [] y = first_world.globals y
 globals_of (x ∷ names) (c ∷ cells) y = if same_text x y then c else globals_of names cells y
 
--- what a value speaks of is in the heap: the text of a str, and of a function's name
+-- what a value speaks of is in the heap: the text of a str, and that of a function's name
 abbrev pub Fits : Heap → Value → Type 0
 Fits texts value.None = Unit {0}
 Fits texts (value.Truth b) = Unit {0}

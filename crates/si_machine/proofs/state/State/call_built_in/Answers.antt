@@ -1,11 +1,10 @@
 use Rattle.std.proofs.Common.{◌+◌, ℕ, List, Ok, map, subst, sym, ap, ◌∙◌}
-use Rattle.si_semantics.specs.Machine as machine
 use Rattle.si_semantics.specs.Operations.{call_built_in}
 use Rattle.si_machine.specs.declared.value.Object.{Object}
 use Rattle.si_machine.specs.declared.state.State.{State}
 use Rattle.si_machine.specs.Values.{built_in_of}
 use Rattle.si_machine.specs.Causes.{RunsIn}
-use Rattle.si_machine.specs.States.{object_in, value_in, world_of, line_of, IsRaised}
+use Rattle.si_machine.specs.States.{object_in, value_in, world_of, IsRaised}
 use Rattle.si_machine.proofs.Lines.{local}
 use Rattle.si_machine.proofs.CallLines.{built_in_did, built_in_raises, raised_in}
 use Rattle.si_machine.proofs.state.State.call_built_in.Goals as goal
@@ -18,7 +17,7 @@ returns-in-Ok c =
     let args = c.in-Some.arguments.now in
     let texts = c.call_built_in.new.texts in
     let P : List Object → Type 0 = λ os. RunsIn (map (object_in old) os) (λ w. call_built_in (built_in_of c.args.function) (map (value_in old) args) w) old.texts texts (Ok c.in-Ok.value) in
-    local (line_of (machine.CallTop n) old) old c.advance.new.self c.advance.result c.advance.ensures.step
+    local old c.advance.new.self c.advance.result c.advance.ensures.step
     (built_in_did n c.args.function c.in-Ok.value args texts old c.advance.new.self h c.requires.callee c.in-Some.ensures.1 (subst P c.deref.ensures.value c.in-Ok.ensures)
     (c.advance.ensures.state ∙ ap (λ ops. let s : State = record old { pc = old.pc + 1; operands = ops; texts = texts } in s) c.replace.ensures))
 

@@ -1,6 +1,6 @@
 use Rattle.std.proofs.Common.{[], ◌∷◌, drop, sym, ap, ◌∙◌}
 use Rattle.si_machine.specs.declared.state.State.{State}
-use Rattle.si_machine.specs.States.{leave_line, with_operands, back_at}
+use Rattle.si_machine.specs.States.{with_operands, back_at}
 use Rattle.si_machine.specs.Blocks.{left_with, left_to}
 use Rattle.si_machine.proofs.Lines.{local}
 use Rattle.si_machine.proofs.Leavings.{final_did, loop_did, frame_did, frame_caller, end_did, ended, each_reached, catch_reached, pending_reached, handling_reached}
@@ -24,7 +24,7 @@ returns-in-Some-Final c =
     let old = c.args.self.now in
     let k = c.in-Some-Final in
     let bs = drop 1 c.pass.new.self in
-    local (leave_line c.args.leaving old) old c.arrive.new.self c.arrive.result c.arrive.ensures.step
+    local old c.arrive.new.self c.arrive.result c.arrive.ensures.step
     (final_did c.args.leaving k.suite bs old c.arrive.new.self h c.requires.fits (sym c.pass.ensures ∙ k.ensures ∙ ap (λ b. b ∷ bs) k.field-0-is) c.arrive.ensures.state)
 
 pub returns-in-Some-Loop : goal.returns-in-Some-Loop
@@ -33,7 +33,7 @@ returns-in-Some-Loop c =
     let old = c.args.self.now in
     let k = c.in-Some-Loop in
     let bs = drop 1 c.pass.new.self in
-    local (leave_line c.args.leaving old) old c.go_to.new.self c.go_to.result c.go_to.ensures.step
+    local old c.go_to.new.self c.go_to.result c.go_to.ensures.step
     (loop_did c.args.leaving k.start k.after bs old c.go_to.new.self h (sym c.pass.ensures ∙ k.ensures ∙ ap (λ b. b ∷ bs) k.field-0-is)
     (c.go_to.ensures.state ∙ ap (λ n. let s : State = record old { pc = n; operands = with_operands [] old.operands; blocks = c.discard.new.self } in s) c.place.ensures
     ∙ ap (λ l. let s : State = record old { pc = left_to c.args.leaving k.start k.after; operands = with_operands [] old.operands; blocks = l } in s) c.discard.ensures))
@@ -44,7 +44,7 @@ returns-in-Some-Frame c =
     let old = c.args.self.now in
     let k = c.in-Some-Frame in
     let bs = drop 1 c.pass.new.self in
-    local (leave_line c.args.leaving old) old c.back.new.self c.back.result c.back.ensures.step
+    local old c.back.new.self c.back.result c.back.ensures.step
     (frame_did c.args.leaving k.after bs old c.back.new.self h c.requires.plain c.requires.fits (sym c.pass.ensures ∙ k.ensures ∙ ap (λ b. b ∷ bs) k.field-0-is)
     (c.back.ensures.state ∙ ap (λ v. let s : State = record (back_at k.after v old) { blocks = c.discard-in-Some-Frame.new.self } in s) c.value.ensures
     ∙ ap (λ l. let s : State = record (back_at k.after (left_with c.args.leaving) old) { blocks = l } in s) c.discard-in-Some-Frame.ensures))
@@ -52,7 +52,7 @@ returns-in-Some-Frame c =
 pub returns-in-None : goal.returns-in-None
 returns-in-None c =
     let old = c.args.self.now in
-    ended (leave_line c.args.leaving old) old c.end.new.self c.end.result c.end.ensures.step
+    ended old c.end.new.self c.end.result c.end.ensures.step
     (end_did c.args.leaving old c.end.new.self c.requires.ready c.requires.plain (sym c.pass.ensures ∙ c.in-None.ensures) c.end.ensures.state)
 
 pub unreachable-requires : goal.unreachable-requires

@@ -1,9 +1,7 @@
 use Rattle.std.proofs.Common.{◌+◌, sym, ap, ◌∙◌, arith}
 use Rattle.si_code.specs.Views.{text_at}
-use Rattle.si_semantics.specs.Machine as machine
 use Rattle.si_machine.specs.declared.state.State.{State}
 use Rattle.si_machine.proofs.Lines.{local, popped, store_did, store_lacks, slot_there}
-use Rattle.si_machine.specs.States.{line_of}
 use Rattle.si_machine.proofs.state.State.store_global.Goals as goal
 
 pub returns : goal.returns
@@ -13,7 +11,7 @@ returns c =
     let lt = slot_there old c.args.slot h.sound c.requires.slot in
     let is = c.advance.ensures.state in
     let top = popped c.in-Some.value old.operands c.pop.new.self c.in-Some.ensures in
-    local (line_of (machine.StoreGlobal (text_at old.table.names c.args.slot)) old) old c.advance.new.self c.advance.result c.advance.ensures.step
+    local old c.advance.new.self c.advance.result c.advance.ensures.step
     (store_did c.args.slot c.in-Some.value c.pop.new.self.here old c.advance.new.self h c.requires.ready.distinct lt top.0
     (ap (λ (s : State). s.globals.items) is)
     (is ∙ ap (λ g. let s : State = record old { pc = old.pc + 1; operands = c.pop.new.self; globals = g } in s) (sym (ap (λ (s : State). s.globals) is))

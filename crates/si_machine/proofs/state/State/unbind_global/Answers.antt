@@ -1,9 +1,6 @@
 use Rattle.std.proofs.Common.{◌+◌, sym, ap, ◌∙◌, arith}
-use Rattle.si_code.specs.Views.{text_at}
-use Rattle.si_semantics.specs.Machine as machine
 use Rattle.si_machine.specs.declared.state.State.{State}
 use Rattle.si_machine.proofs.Lines.{local, unbind_did, slot_there}
-use Rattle.si_machine.specs.States.{line_of}
 use Rattle.si_machine.proofs.state.State.unbind_global.Goals as goal
 
 pub returns : goal.returns
@@ -11,7 +8,7 @@ returns c =
     let h = c.requires.ready.state in
     let old = c.args.self.now in
     let is = c.advance.ensures.state in
-    local (line_of (machine.UnbindGlobal (text_at old.table.names c.args.slot)) old) old c.advance.new.self c.advance.result c.advance.ensures.step
+    local old c.advance.new.self c.advance.result c.advance.ensures.step
     (unbind_did c.args.slot old c.advance.new.self h c.requires.ready.distinct (slot_there old c.args.slot h.sound c.requires.slot)
     (ap (λ (s : State). s.globals.items) is)
     (is ∙ ap (λ g. let s : State = record old { pc = old.pc + 1; globals = g } in s) (sym (ap (λ (s : State). s.globals) is))))
