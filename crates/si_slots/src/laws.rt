@@ -16,7 +16,8 @@ pub fn compiles()
     ensures { Compiles }
 {}
 
-/// A table that knows the functions that were read before a text knows that text's functions too, once its code is added.
+/// A table that knows the functions that were read before a text knows that text's functions too, once its code is
+/// added.
 pub fn knows_more()
     ensures { KnowsMore }
 {}
