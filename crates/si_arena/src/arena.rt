@@ -3,6 +3,7 @@
 ghost use Rattle.std.specs.Prelude.{IsOk, ◌+◌, ◌≤◌, ◌≡◌, ◌<◌, ◌∷◌, [], length, slice_get, slice_index, Some, IfOk, OnErr, ◌++◌};
 ghost use Rattle.si_plain.specs.Characters.{characters_of};
 ghost use Rattle.si_semantics.specs.Value as pure;
+ghost use Rattle.si_arena.specs.Short.{FitsShort};
 ghost use Rattle.si_arena.specs.Texts.{IsNarrow, GoesOn, size_of, text_of, repeated_text};
 ghost use Rattle.si_arena.specs.Causes.{name_at};
 ghost use Rattle.si_arena.specs.Memory.{value_of, range_of, object_of, ObjectLies, Lies, Placed, PlacesText, IsNamed, IsMade};
@@ -51,10 +52,11 @@ impl Arena {
         }
     }
 
-    /// The str of these characters. `TooLong` where they are more than those of a str may be; unchanged where it is
+    /// The str of these characters; at most 14 of them, all below 256, take no memory. `TooLong` where they are more than those of a str may be; unchanged where it is
     /// refused.
     pub fn place_text(&mut self, text: &str) -> Result<Ref, Fault>
-        ensures { PlacesText (characters_of text.now) self.old self.new result }
+        ensures text { PlacesText (characters_of text.now) self.old self.new result }
+        ensures short { FitsShort (characters_of text.now) → (self.new ≡ self.old) × IsOk result }
     {
         self.texts.place(text)
     }

@@ -11,9 +11,9 @@ pub struct Short {
 }
 
 impl Short {
-    ghost use Rattle.std.specs.Prelude.{◌≡◌, ◌+◌, ◌<◌, ◌≤◌, ◌++◌, ◌∷◌, [], length, IfSome};
+    ghost use Rattle.std.specs.Prelude.{◌≡◌, ◌+◌, ◌<◌, ◌≤◌, ◌++◌, ◌∷◌, [], length, MatchOption};
     ghost use Rattle.si_plain.specs.Characters.{characters_of};
-    ghost use Rattle.si_arena.specs.Short.{short_text};
+    ghost use Rattle.si_arena.specs.Short.{short_text, FitsShort};
 
     /// The most characters that it has.
     pub const CAPACITY: usize = 14;
@@ -39,11 +39,14 @@ impl Short {
 
     /// The characters of `text`, where they are few enough and each is below 256.
     pub fn from_str(text: &str) -> Option<Short>
-        ensures { IfSome result (λ s. short_text s ≡ characters_of text.now) }
+        ensures { MatchOption result (¬ FitsShort (characters_of text.now)) (λ s. short_text s ≡ characters_of text.now) }
     {
         let mut short = Short::new();
         for c in text.chars() {
-            if c > '\u{ff}' || short.as_slice().len() == Short::CAPACITY {
+            if c > '\u{ff}' {
+                return None;
+            }
+            if short.as_slice().len() == Short::CAPACITY {
                 return None;
             }
             short.push(c as u8);

@@ -3,7 +3,7 @@
 ghost use Rattle.std.specs.Prelude.{IsOk, IsSome, if◌then◌else◌, ◌*◌, IfSome, ◌<◌, ◌^◌, ◌∷◌, slice_index, ◌≡◌, ◌+◌, ◌≤◌, ◌++◌, List, [], take, drop, length, OnOk, OnErr, IfOk};
 ghost use Rattle.si_semantics.specs.Operations.{times};
 ghost use Rattle.si_plain.specs.Characters.{characters_of};
-ghost use Rattle.si_arena.specs.Short.{short_text};
+ghost use Rattle.si_arena.specs.Short.{short_text, FitsShort};
 ghost use Rattle.si_arena.specs.declared.value.Width.TheVariants as width;
 ghost use Rattle.si_arena.specs.Texts.{EndsRow, GoesOn, size_of, copies_of, text_of, TextLies, IsNarrow, FitsIn, IsAdded, StandsLast, row_of, with_row, slice_in, Adds, characters_in, repeated_text};
 
@@ -324,7 +324,8 @@ impl Texts {
     /// The characters of `text`, as a text. `TooLong` where they are more than those of a str may be; unchanged where
     /// it is refused.
     pub fn place(&mut self, text: &str) -> Result<Ref, Fault>
-        ensures { Adds (characters_of text.now) self.old self.new result }
+        ensures text { Adds (characters_of text.now) self.old self.new result }
+        ensures short { FitsShort (characters_of text.now) → (self.new ≡ self.old) × IsOk result }
     {
         if let Some(short) = Short::from_str(text) {
             return Ok(Ref::Short(short));

@@ -1,7 +1,21 @@
-use Rattle.std.proofs.Common.{◌∙◌, sym, map-id}
+use Rattle.std.proofs.Common.{length, ap, ◌∙◌, sym, map-id, arith}
+use Rattle.std.proofs.lemmas.List.{get_or_default}
 use Rattle.std.proofs.lemmas.Iterator.{YieldsList-from_chars}
-use Rattle.std.proofs.lemmas.Iterator.Consumers.{YieldsList-end}
+use Rattle.std.proofs.lemmas.Iterator.Consumers.{YieldsList-end, YieldsList-turn}
+use Rattle.si_plain.specs.Characters.{characters_of}
 use Rattle.si_arena.proofs.short.Short.from_str.Goals as goal
+
+-- a character past 255 is one of the text
+pub returns-then-c-gt255 : goal.returns-then-c-gt255
+returns-then-c-gt255 c = λ h.
+    let t = YieldsList-turn (YieldsList-from_chars c.args.text.now c.utf8.text cc) c.loop-c.yielded _ c.loop-c.yielded_by _ _ _ c.in-Some.is c.next.ensures.steps in
+    omega (arith, t.1, get_or_default (characters_of c.args.text.now) (length c.loop-c.yielded) c.in-Some.c 0 t.0, h.1 (length c.loop-c.yielded) t.0)
+
+-- a character behind fourteen
+pub returns-then-as_slice-eq-CAPACITY : goal.returns-then-as_slice-eq-CAPACITY
+returns-then-as_slice-eq-CAPACITY c = λ h.
+    let t = YieldsList-turn (YieldsList-from_chars c.args.text.now c.utf8.text cc) c.loop-c.yielded _ c.loop-c.yielded_by _ _ _ c.in-Some.is c.next.ensures.steps in
+    omega (arith, t.0, h.0, ap length c.loop-c.invariant, ap length c.as_slice.ensures)
 
 pub returns : goal.returns
 returns c =

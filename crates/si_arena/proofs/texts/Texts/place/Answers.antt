@@ -6,8 +6,8 @@ use Rattle.si_arena.specs.declared.value.Width.TheVariants as width
 use Rattle.si_arena.proofs.Rows.{pushed_stands, stands_added}
 use Rattle.si_arena.proofs.texts.Texts.place.Goals as goal
 
-pub returns-then-branch : goal.returns-then-branch
-returns-then-branch c =
+pub returns-then-branch-clause-text : goal.returns-then-branch-clause-text
+returns-then-branch-clause-text c =
     let t = characters_of c.args.text.now in
     let within : length t ≤ max_length = omega (arith, c.count_of-count.ensures) in
     let old = c.args.self.now in
@@ -15,8 +15,8 @@ returns-then-branch c =
     let stands = pushed_stands width.Narrow t _ _ _ all c.end-start.ensures in
     (within, rw c.slice.ensures (stands_added _ _ _ _ _ _ stands c.count_of-count.ensures))
 
-pub returns : goal.returns
-returns c =
+pub returns-clause-text : goal.returns-clause-text
+returns-clause-text c =
     let t = characters_of c.args.text.now in
     let within : length t ≤ max_length = omega (arith, c.count_of-count.ensures) in
     let old = c.args.self.now in
