@@ -40,7 +40,7 @@ pub(crate) fn same(told: &Option<Answer>, wanted: &Option<Answer>) -> bool {
         None => wanted.is_none(),
         Some(told) => match wanted {
             None => false,
-            Some(wanted) => told.same(wanted),
+            Some(wanted) => *told == *wanted,
         },
     }
 }

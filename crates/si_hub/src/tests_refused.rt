@@ -19,7 +19,7 @@ fn once_more(
     refused: NotActed,
     copy: &Action,
 ) -> Result<Option<Answer>, Fail> {
-    if !refused.action.same(copy) {
+    if refused.action != *copy {
         return Err("another action came back".into());
     }
     match hub.act(by, refused.action) {

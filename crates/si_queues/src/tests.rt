@@ -21,7 +21,7 @@ fn gets(queues: &mut Queues, id: u32, int: i64) -> bool {
     }
     match queues.get(id) {
         None => false,
-        Some(item) => item.same(&Parcel::int(int)),
+        Some(item) => item == Parcel::int(int),
     }
 }
 
@@ -29,7 +29,7 @@ fn gets(queues: &mut Queues, id: u32, int: i64) -> bool {
 fn holds(queue: &Queue, at: usize, int: i64) -> bool {
     match queue.item(at) {
         None => false,
-        Some(item) => item.same(&Parcel::int(int)),
+        Some(item) => *item == Parcel::int(int),
     }
 }
 

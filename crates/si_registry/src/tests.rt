@@ -54,7 +54,7 @@ fn a_run_from_start_to_end(rt: HostRuntime) -> Result<(), Fail> {
     assert_eq!(rt; standing(&registry, 1), Some(Standing::Running(0)));
     assert_eq!(rt; taken_run(&registry, 1), None);
     let job = take(&mut registry, 1).ok_or("no job")?;
-    assert!(rt; job.same(&Job::Run(0, Text::from_str(alloc, "t")?)));
+    assert!(rt; job == Job::Run(0, Text::from_str(alloc, "t")?));
     assert_eq!(rt; taken_run(&registry, 1), Some(0));
     Ok(())
 }
@@ -68,7 +68,8 @@ fn an_outcome_is_kept(rt: HostRuntime) -> Result<(), Fail> {
     }
     assert_eq!(rt; standing(&registry, 1), Some(Standing::Idle));
     let run = registry.run(0).ok_or("no run")?;
-    assert!(rt; run.outcome().ok_or("no outcome")?.same(&Outcome::Returned));
+    let outcome = run.outcome().ok_or("no outcome")?;
+    assert!(rt; *outcome == Outcome::Returned);
     Ok(())
 }
 
@@ -80,6 +81,7 @@ fn a_closed_one_is_not_open(rt: HostRuntime) -> Result<(), Fail> {
         registry.close(1)?;
     }
     assert_eq!(rt; registry.open()?.as_slice(), [0].as_slice());
-    assert!(rt; take(&mut registry, 1).ok_or("no job")?.same(&Job::Closing));
+    let job = take(&mut registry, 1).ok_or("no job")?;
+    assert!(rt; job == Job::Closing);
     Ok(())
 }
