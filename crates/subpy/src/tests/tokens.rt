@@ -212,6 +212,10 @@ fn texts(rt: HostRuntime) {
         "'a\\\r\nb\\\nc\\\r'",
         &[(Str, "'a\\\r\nb\\\nc\\\r'"), (Newline, ""), (End, "")],
     );
+}
+
+#[test]
+fn literals_with_escapes(rt: HostRuntime) {
     for literal in [
         r"'\377'",
         r"'\x41'",
@@ -267,7 +271,7 @@ fn values_of_numbers(rt: HostRuntime) {
 }
 
 #[test]
-fn refused(rt: HostRuntime) {
+fn numbers_refused(rt: HostRuntime) {
     for text in [
         "1a",
         "1.",
@@ -283,6 +287,14 @@ fn refused(rt: HostRuntime) {
         "0x1g",
         "0x8000_0000_0000_0000",
         "9223372036854775808",
+    ] {
+        expect_refused(&rt, text, 1);
+    }
+}
+
+#[test]
+fn literals_refused(rt: HostRuntime) {
+    for text in [
         "'a",
         "'a\n'",
         "'a\\",
@@ -307,25 +319,23 @@ fn refused(rt: HostRuntime) {
         "'\\N{a}'",
         "'a\\n\\400'",
         "\"\"\"",
-        "!",
-        "$",
-        "?",
-        "`",
-        "\\",
-        "/",
-        "a/=1",
-        "\u{0}",
-        "#\u{0}",
-        "'\u{0}'",
-        "é",
-        "x\u{c}",
-        "\tx",
-        "  \tx",
-        "\t  x",
-        "1é",
     ] {
         expect_refused(&rt, text, 1);
     }
+}
+
+#[test]
+fn other_texts_refused(rt: HostRuntime) {
+    for text in [
+        "!", "$", "?", "`", "\\", "/", "a/=1", "\u{0}", "#\u{0}", "'\u{0}'", "é", "x\u{c}", "\tx",
+        "  \tx", "\t  x", "1é",
+    ] {
+        expect_refused(&rt, text, 1);
+    }
+}
+
+#[test]
+fn refused_in_a_later_line(rt: HostRuntime) {
     expect_refused(&rt, "x\r\n#\r \ty", 3);
     expect_refused(&rt, "(\n\n$)", 3);
     // a line at the column of no open block
