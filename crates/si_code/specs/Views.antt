@@ -3,7 +3,6 @@ use Rattle.std.specs.Prelude.{◌≡◌, ℕ, List, [], ◌++◌, Option, Some, 
 use Rattle.std.specs.List.{filter_map}
 use Rattle.si_semantics.specs.Value.{Text, Nothing, Truth, Int, Str, Function}
 use Rattle.si_semantics.specs.Machine as machine
-use Rattle.si_syntax.specs.Trees.{binary_of, unary_of, comparison_of, boolean_of}
 use Rattle.si_code.specs.declared.instr.Instr.{Instr}
 use Rattle.si_code.specs.declared.instr.Instr.TheVariants.{PushInt, PushNone, PushTruth, PushLiteral, LoadGlobal, StoreGlobal, LoadLocal, StoreLocal, PushFunction, Unary, Binary, Compare, KeepRight, EndChain, JumpOrDiscard, JumpIfFalse, Jump, EnterLoop, StartFor, NextItem, EnterTry, EnterFinally, LeaveBlock, StartFinally, EndFinally, TestClause, PushException, UnbindGlobal, UnbindLocal, Raise, RaiseAgain, Break, Continue, Call, CallByName, Return, Discard, Finish}
 use Rattle.si_code.specs.declared.routine.Routine.{Routine}
@@ -25,12 +24,12 @@ instr_of literals names (StoreGlobal slot) = machine.StoreGlobal (text_at names 
 instr_of literals names (LoadLocal place slot) = machine.LoadLocal (text_at names slot) place
 instr_of literals names (StoreLocal place) = machine.StoreLocal place
 instr_of literals names (PushFunction number place) = machine.Push (Function (text_at literals place) number)
-instr_of literals names (Unary o) = machine.ApplyUnary (unary_of o)
-instr_of literals names (Binary o) = machine.ApplyBinary (binary_of o)
-instr_of literals names (Compare o) = machine.ApplyComparison (comparison_of o)
+instr_of literals names (Unary o) = machine.ApplyUnary o
+instr_of literals names (Binary o) = machine.ApplyBinary o
+instr_of literals names (Compare o) = machine.ApplyComparison o
 instr_of literals names KeepRight = machine.KeepRight
 instr_of literals names (EndChain n) = machine.EndChain n
-instr_of literals names (JumpOrDiscard o n) = machine.JumpOrDiscard (boolean_of o) n
+instr_of literals names (JumpOrDiscard o n) = machine.JumpOrDiscard o n
 instr_of literals names (JumpIfFalse n) = machine.JumpIfFalse n
 instr_of literals names (Jump n) = machine.Jump n
 instr_of literals names (EnterLoop back ahead) = machine.EnterLoop back ahead

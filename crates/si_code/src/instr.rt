@@ -4,7 +4,7 @@ ghost use Rattle.si_code.specs.Contents.{Resolves};
 ghost use Rattle.si_code.specs.Views.{instr_of};
 ghost use Rattle.si_code.specs.Jumps.{aimed};
 
-use si_syntax::{BinaryOperator, BooleanOperator, ComparisonOperator, UnaryOperator};
+use si_plain::{BinaryOperator, BooleanOperator, ComparisonOperator, UnaryOperator};
 
 /// One instruction. A machine takes values from the top of its operands and puts values there; literals and globals are
 /// told by their places and slots in the `CodeTable`. A jump leads to the instruction that follows it, and so many

@@ -6,15 +6,15 @@ use Rattle.si_semantics.specs.Tree as tree
 use Rattle.si_semantics.specs.Tree.{functions_of, functions_in}
 use Rattle.si_semantics.specs.Machine as machine
 use Rattle.si_semantics.specs.Grammar.{exprs_of}
-use Rattle.si_syntax.specs.declared.operators.BinaryOperator.{BinaryOperator}
-use Rattle.si_syntax.specs.declared.operators.UnaryOperator.{UnaryOperator}
+use Rattle.si_plain.specs.declared.operators.BinaryOperator.{BinaryOperator}
+use Rattle.si_plain.specs.declared.operators.UnaryOperator.{UnaryOperator}
 use Rattle.si_syntax.specs.declared.expr.Expr.{Expr}
 use Rattle.si_syntax.specs.declared.expr.Expr.TheFolds.{fold-roll-Expr}
 use Rattle.si_syntax.specs.declared.expr.Expr.TheOpen.{Expr-F}
 use Rattle.si_syntax.specs.declared.expr.Expr.TheVariants.{rolls-Unary, rolls-Binary, rolls-Call}
 use Rattle.si_syntax.specs.declared.expr.Expr.TheViews as views
 use Rattle.si_syntax.specs.declared.stmt.Stmt.{Stmt}
-use Rattle.si_syntax.specs.Trees.{binary_of, unary_of, expr_of, stmt_of, body_of, view_step}
+use Rattle.si_syntax.specs.Trees.{expr_of, stmt_of, body_of, view_step}
 use Rattle.si_syntax.proofs.Rows.{rest_is}
 use Rattle.si_compile.specs.Code.{count, call_code, expr_code, exprs_code, stmt_code, stmts_code}
 use Rattle.si_code.specs.Contents.{Contents}
@@ -26,10 +26,10 @@ use Rattle.si_code.proofs.Codes.{Gains-nil, Gains-append}
 abbrev pub Code : List Text → Expr → List machine.Instr
 Code ls e = expr_code ls (expr_of e)
 
-unary_is : (o : UnaryOperator) (a : Box Expr Global) → expr_of (views.Unary o a) ≡ tree.Unary (unary_of o) (expr_of a.value)
+unary_is : (o : UnaryOperator) (a : Box Expr Global) → expr_of (views.Unary o a) ≡ tree.Unary o (expr_of a.value)
 unary_is o a = ap expr_of (sym (rolls-Unary o a)) ∙ fold-roll-Expr tree.Expr view_step (Expr-F.Unary o a)
 
-binary_is : (o : BinaryOperator) (a b : Box Expr Global) → expr_of (views.Binary o a b) ≡ tree.Binary (binary_of o) (expr_of a.value) (expr_of b.value)
+binary_is : (o : BinaryOperator) (a b : Box Expr Global) → expr_of (views.Binary o a b) ≡ tree.Binary o (expr_of a.value) (expr_of b.value)
 binary_is o a b = ap expr_of (sym (rolls-Binary o a b)) ∙ fold-roll-Expr tree.Expr view_step (Expr-F.Binary o a b)
 
 -- as many arguments as there are trees of them
@@ -48,13 +48,13 @@ module _ (ls : List Text) where
   pub at_tree : {a b : Contents} (e view : Expr) (t : tree.Expr) → e ≡ view → expr_of view ≡ t → Gains a b (expr_code ls t) → Gains a b (Code ls e)
   at_tree {a} {b} e view t is sees h = subst (λ c. Gains a b (expr_code ls c)) (sym (ap expr_of is ∙ sees)) h
 
-  pub unary_gains : {t0 t1 t2 : Contents} (o : UnaryOperator) (a : Box Expr Global) (x e : Expr) → e ≡ views.Unary o a → x ≡ a.value → Gains t0 t1 (Code ls x) → Gains t1 t2 (machine.ApplyUnary (unary_of o) ∷ []) → Gains t0 t2 (Code ls e)
+  pub unary_gains : {t0 t1 t2 : Contents} (o : UnaryOperator) (a : Box Expr Global) (x e : Expr) → e ≡ views.Unary o a → x ≡ a.value → Gains t0 t1 (Code ls x) → Gains t1 t2 (machine.ApplyUnary o ∷ []) → Gains t0 t2 (Code ls e)
   unary_gains {t0} {t1} {t2} o a x e is at h k =
-      at_tree e (views.Unary o a) (tree.Unary (unary_of o) (expr_of a.value)) is (unary_is o a) (Gains-append t0 t1 t2 _ _ (at_value x a.value at h) k)
+      at_tree e (views.Unary o a) (tree.Unary o (expr_of a.value)) is (unary_is o a) (Gains-append t0 t1 t2 _ _ (at_value x a.value at h) k)
 
-  pub binary_gains : {t0 t1 t2 t3 : Contents} (o : BinaryOperator) (a b : Box Expr Global) (x y e : Expr) → e ≡ views.Binary o a b → x ≡ a.value → y ≡ b.value → Gains t0 t1 (Code ls x) → Gains t1 t2 (Code ls y) → Gains t2 t3 (machine.ApplyBinary (binary_of o) ∷ []) → Gains t0 t3 (Code ls e)
+  pub binary_gains : {t0 t1 t2 t3 : Contents} (o : BinaryOperator) (a b : Box Expr Global) (x y e : Expr) → e ≡ views.Binary o a b → x ≡ a.value → y ≡ b.value → Gains t0 t1 (Code ls x) → Gains t1 t2 (Code ls y) → Gains t2 t3 (machine.ApplyBinary o ∷ []) → Gains t0 t3 (Code ls e)
   binary_gains {t0} {t1} {t2} {t3} o a b x y e is at_left at_right h k l =
-      at_tree e (views.Binary o a b) (tree.Binary (binary_of o) (expr_of a.value) (expr_of b.value)) is (binary_is o a b)
+      at_tree e (views.Binary o a b) (tree.Binary o (expr_of a.value) (expr_of b.value)) is (binary_is o a b)
       (Gains-append t0 t1 t3 _ _ (at_value x a.value at_left h) (Gains-append t1 t2 t3 _ _ (at_value y b.value at_right k) l))
 
   pub call_gains : {t0 t1 t2 t3 : Contents} (f : Box Expr Global) (args : Vec Expr Global) (names : Vec (String Global) Global) (x e : Expr) (es : List Expr) (by_name : List (String Global)) (n : ℕ) (call : machine.Instr)

@@ -7,15 +7,15 @@ use Rattle.si_semantics.specs.Tree as tree
 use Rattle.si_semantics.specs.Tree.{functions_of, functions_in}
 use Rattle.si_semantics.specs.Machine as machine
 use Rattle.si_semantics.specs.Grammar.{exprs_of, chain_of, elifs_of, Branch}
-use Rattle.si_syntax.specs.declared.operators.BooleanOperator.{BooleanOperator}
-use Rattle.si_syntax.specs.declared.operators.ComparisonOperator.{ComparisonOperator}
+use Rattle.si_plain.specs.declared.operators.BooleanOperator.{BooleanOperator}
+use Rattle.si_plain.specs.declared.operators.ComparisonOperator.{ComparisonOperator}
 use Rattle.si_syntax.specs.declared.expr.Expr.{Expr}
 use Rattle.si_syntax.specs.declared.expr.Expr.TheFolds.{fold-roll-Expr}
 use Rattle.si_syntax.specs.declared.expr.Expr.TheOpen.{Expr-F}
 use Rattle.si_syntax.specs.declared.expr.Expr.TheVariants.{rolls-Boolean, rolls-Compare, rolls-Conditional}
 use Rattle.si_syntax.specs.declared.expr.Expr.TheViews as views
 use Rattle.si_syntax.specs.declared.stmt.Stmt.{Stmt}
-use Rattle.si_syntax.specs.Trees.{boolean_of, body_of, comparison_of, expr_of, view_step, link_of, elif_of}
+use Rattle.si_syntax.specs.Trees.{body_of, expr_of, view_step, link_of, elif_of}
 use Rattle.si_compile.specs.Code.{expr_code, operands_code, chain_code, stmt_code, stmts_code, bind_code}
 use Rattle.si_code.specs.Contents.{Contents, Extends}
 use Rattle.si_code.specs.Jumps.{Due, Aims}
@@ -32,27 +32,22 @@ use Rattle.si_compile.proofs.Branches.{MakesAll, MakesAll-end, Elifs, branch_gai
 
 -- ---- expressions
 
-boolean_is : (o : BooleanOperator) (a : Box Expr Global) (es : Vec Expr Global) → expr_of (views.Boolean o a es) ≡ tree.Boolean (boolean_of o) (expr_of a.value) (exprs_of (map expr_of es.items))
+boolean_is : (o : BooleanOperator) (a : Box Expr Global) (es : Vec Expr Global) → expr_of (views.Boolean o a es) ≡ tree.Boolean o (expr_of a.value) (exprs_of (map expr_of es.items))
 boolean_is o a es = ap expr_of (sym (rolls-Boolean o a es)) ∙ fold-roll-Expr tree.Expr view_step (Expr-F.Boolean o a es)
-
-links_are : (links : List (ComparisonOperator × Expr)) → map {A = ComparisonOperator × tree.Expr} (λ l. (comparison_of l.0, l.1)) (map {A = ComparisonOperator × Expr} (λ l. (l.0, expr_of l.1)) links) ≡ map link_of links
-links_are [] = refl
-links_are (l ∷ links) = ap (λ r. link_of l ∷ r) (links_are links)
 
 compare_is : (a : Box Expr Global) (links : Vec (ComparisonOperator × Expr) Global) → expr_of (views.Compare a links) ≡ tree.Compare (expr_of a.value) (chain_of (map link_of links.items))
 compare_is a links =
     ap expr_of (sym (rolls-Compare a links)) ∙ fold-roll-Expr tree.Expr view_step (Expr-F.Compare a links)
-    ∙ ap (λ l. tree.Compare (expr_of a.value) (chain_of l)) (links_are links.items)
 
 conditional_is : (a b c : Box Expr Global) → expr_of (views.Conditional a b c) ≡ tree.Conditional (expr_of a.value) (expr_of b.value) (expr_of c.value)
 conditional_is a b c = ap expr_of (sym (rolls-Conditional a b c)) ∙ fold-roll-Expr tree.Expr view_step (Expr-F.Conditional a b c)
 
 module _ (ls : List Text) where
   pub boolean_gains : {t0 t1 t2 : Contents} (o : BooleanOperator) (a : Box Expr Global) (others : Vec Expr Global) (x e : Expr) (es : List Expr) → e ≡ views.Boolean o a others → x ≡ a.value → es ≡ others.items
-      → Gains t0 t1 (Code ls x) → Gains t1 t2 (operands_code ls (boolean_of o) (exprs_of (map expr_of es))) → Gains t0 t2 (Code ls e)
+      → Gains t0 t1 (Code ls x) → Gains t1 t2 (operands_code ls o (exprs_of (map expr_of es))) → Gains t0 t2 (Code ls e)
   boolean_gains {t0} {t1} {t2} o a others x e es is at all h k =
-      at_tree ls e (views.Boolean o a others) (tree.Boolean (boolean_of o) (expr_of a.value) (exprs_of (map expr_of others.items))) is (boolean_is o a others)
-      (Gains-append t0 t1 t2 _ _ (at_value ls x a.value at h) (subst (λ l. Gains t1 t2 (operands_code ls (boolean_of o) (exprs_of (map expr_of l)))) all k))
+      at_tree ls e (views.Boolean o a others) (tree.Boolean o (expr_of a.value) (exprs_of (map expr_of others.items))) is (boolean_is o a others)
+      (Gains-append t0 t1 t2 _ _ (at_value ls x a.value at h) (subst (λ l. Gains t1 t2 (operands_code ls o (exprs_of (map expr_of l)))) all k))
 
   pub compare_gains : {t0 t1 t2 : Contents} (a : Box Expr Global) (others : Vec (ComparisonOperator × Expr) Global) (x e : Expr) (links : List (ComparisonOperator × Expr)) → e ≡ views.Compare a others → x ≡ a.value → links ≡ others.items
       → Gains t0 t1 (Code ls x) → Gains t1 t2 (chain_code ls (chain_of (map link_of links))) → Gains t0 t2 (Code ls e)

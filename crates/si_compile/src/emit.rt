@@ -5,7 +5,7 @@ ghost use Rattle.si_semantics.specs.Machine as machine;
 ghost use Rattle.si_semantics.specs.Scope.{place_of};
 ghost use Rattle.si_semantics.specs.Tree.{functions_in, functions_of};
 ghost use Rattle.si_semantics.specs.Value.{Function, Nothing};
-ghost use Rattle.si_syntax.specs.Trees.{binary_of, body_of, expr_of, stmt_of, target_of};
+ghost use Rattle.si_syntax.specs.Trees.{body_of, expr_of, stmt_of, target_of};
 ghost use Rattle.si_compile.specs.Code.{bind_code, expr_code, raise_code, return_code, stmt_code, stmts_code, store_code, target_code, unbind_code};
 ghost use Rattle.si_code.specs.Contents.{Extends};
 ghost use Rattle.si_compile.specs.Jumps.{branch_front, only_if};
@@ -15,8 +15,8 @@ use crate::expression::{emit_expr, emit_load};
 use crate::handlers::{emit_finally, emit_try};
 use crate::loops::{emit_for, emit_while};
 use si_code::{CodeTable, Instr};
-use si_plain::{Names, NoMemory};
-use si_syntax::{BinaryOperator, Expr, Stmt, Target};
+use si_plain::{BinaryOperator, Names, NoMemory};
+use si_syntax::{Expr, Stmt, Target};
 use std::alloc::AllocError;
 
 /// Statements one after another, where these names are local. The functions that they define are numbered from `next`
@@ -102,7 +102,7 @@ fn emit_augment(
     expr: &Expr,
 ) -> Result<(), NoMemory>
     ensures ok { OnOk result (Gains table.old table.new
-        (target_code locals.now (target_of target.now) ++ (expr_code locals.now (expr_of expr.now) ++ (machine.ApplyBinary (binary_of operator) ∷ bind_code locals.now (target_of target.now))))) }
+        (target_code locals.now (target_of target.now) ++ (expr_code locals.now (expr_of expr.now) ++ (machine.ApplyBinary operator ∷ bind_code locals.now (target_of target.now))))) }
     ensures extends { Extends table.old table.new }
 {
     emit_target(table, locals, target)?;

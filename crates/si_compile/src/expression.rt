@@ -2,14 +2,14 @@
 ghost use Rattle.std.specs.Prelude.{◌≡◌, [], ◌∷◌, map, string_bytes, OnOk};
 ghost use Rattle.si_semantics.specs.Grammar.{chain_of, exprs_of};
 ghost use Rattle.si_semantics.specs.Scope.{place_of};
-ghost use Rattle.si_syntax.specs.Trees.{boolean_of, expr_of, link_of};
+ghost use Rattle.si_syntax.specs.Trees.{expr_of, link_of};
 ghost use Rattle.si_compile.specs.Code.{call_code, chain_code, expr_code, exprs_code, load_code, operands_code};
 ghost use Rattle.si_code.specs.Contents.{Extends, Resolves};
 ghost use Rattle.si_code.specs.Views.{Gains, instr_of};
 
 use si_code::{CodeTable, Instr};
-use si_plain::{Names, NoMemory};
-use si_syntax::{BooleanOperator, ComparisonOperator, Expr};
+use si_plain::{BooleanOperator, ComparisonOperator, Names, NoMemory};
+use si_syntax::Expr;
 use std::alloc::AllocError;
 
 /// A name that is read: one of the local ones, or else it is global.
@@ -104,7 +104,7 @@ fn emit_operands(
     operator: BooleanOperator,
     operands: &[Expr],
 ) -> Result<(), NoMemory>
-    ensures ok { OnOk result (Gains table.old table.new (operands_code locals.now (boolean_of operator) (exprs_of (map expr_of operands.now)))) }
+    ensures ok { OnOk result (Gains table.old table.new (operands_code locals.now operator (exprs_of (map expr_of operands.now)))) }
     ensures extends { Extends table.old table.new }
 {
     let mut jumps = Vec::new(table.allocator());

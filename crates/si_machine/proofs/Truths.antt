@@ -10,9 +10,8 @@ use Rattle.si_semantics.specs.Tree as tree
 use Rattle.si_semantics.specs.Text.{same_text}
 use Rattle.si_semantics.specs.World.{World, Ran}
 use Rattle.si_semantics.specs.Operations.{integer, int_of_truth, operate_integers, operate_truths, operate, is_before}
-use Rattle.si_syntax.specs.declared.operators.BinaryOperator.{BinaryOperator}
-use Rattle.si_syntax.specs.declared.operators.BinaryOperator.TheVariants as binary
-use Rattle.si_syntax.specs.Trees.{binary_of}
+use Rattle.si_plain.specs.declared.operators.BinaryOperator.{BinaryOperator}
+use Rattle.si_plain.specs.declared.operators.BinaryOperator.TheVariants as binary
 use Rattle.si_machine.specs.declared.cause.Fault.{Fault}
 use Rattle.si_machine.specs.declared.cause.Fault.TheVariants as fault
 use Rattle.si_machine.specs.declared.value.Value.{Value}
@@ -33,7 +32,7 @@ pub counted : (b : Bool) (i : ℤ) → i ≡ int_of_truth b → int_of_truth b �
 counted b i e = sym (ap (λ z. to_z w64 (of_z w64 z)) e ∙ count_fits b)
 
 -- any other operator than `|`, `^` and `&` takes truths as integers
-pub truths_count : (o : BinaryOperator) (a b : Bool) (w : World) → o ≢ binary.BitOr → o ≢ binary.BitXor → o ≢ binary.BitAnd → operate_truths (binary_of o) a b w ≡ integer (operate_integers (binary_of o) (int_of_truth a) (int_of_truth b)) w
+pub truths_count : (o : BinaryOperator) (a b : Bool) (w : World) → o ≢ binary.BitOr → o ≢ binary.BitXor → o ≢ binary.BitAnd → operate_truths o a b w ≡ integer (operate_integers o (int_of_truth a) (int_of_truth b)) w
 truths_count binary.BitOr a b w f g h = absurd (f refl)
 truths_count binary.BitXor a b w f g h = absurd (g refl)
 truths_count binary.BitAnd a b w f g h = absurd (h refl)

@@ -6,7 +6,6 @@ ghost use Rattle.si_semantics.specs.Meaning as meaning;
 ghost use Rattle.si_semantics.specs.Operations as operations;
 ghost use Rattle.si_semantics.specs.Text.{same_text};
 ghost use Rattle.si_code.specs.Views.{text_at};
-ghost use Rattle.si_syntax.specs.Trees.{comparison_of, boolean_of};
 ghost use Rattle.si_machine.specs.Values.{value_of, built_in_of};
 ghost use Rattle.si_machine.specs.Causes.{compared, answer_of};
 
@@ -14,7 +13,7 @@ use crate::cause::Cause;
 use crate::ranges::{is_item, is_same_range};
 use crate::texts::Texts;
 use crate::value::{BuiltIn, Value};
-use si_syntax::{BooleanOperator, ComparisonOperator};
+use si_plain::{BooleanOperator, ComparisonOperator};
 
 /// True counts as 1 and False as 0 (Python Language Reference 3.14, 3.2).
 pub fn int_of_truth(truth: bool) -> i64
@@ -42,7 +41,7 @@ pub fn is_true(texts: &Texts, value: Value) -> bool
 
 /// Whether an operand decides the `and` or the `or` (Python Language Reference 3.14, 6.11).
 pub fn decides(texts: &Texts, operator: BooleanOperator, value: Value) -> bool
-    ensures { (w : World) → result ≡ meaning.decides (boolean_of operator) (value_of texts.now value) w }
+    ensures { (w : World) → result ≡ meaning.decides operator (value_of texts.now value) w }
 {
     match operator {
         BooleanOperator::And => !is_true(texts, value),
@@ -57,7 +56,7 @@ pub fn compare(
     x: Value,
     y: Value,
 ) -> Result<bool, Cause>
-    ensures { (names : List Characters) (w : World) → operations.compare (comparison_of operator) (value_of texts.now x) (value_of texts.now y) w ≡ compared names w result }
+    ensures { (names : List Characters) (w : World) → operations.compare operator (value_of texts.now x) (value_of texts.now y) w ≡ compared names w result }
 {
     match operator {
         ComparisonOperator::Less => answered(is_less(texts, x, y)),
@@ -73,7 +72,7 @@ pub fn compare(
 
 /// A comparison of two integers, which no exception leaves (Python Language Reference 3.14, 6.10.1).
 pub fn compare_integers(operator: ComparisonOperator, a: i64, b: i64) -> bool
-    ensures { (w : World) → operations.compare (comparison_of operator) (Int a) (Int b) w ≡ operations.gave (Truth result) w }
+    ensures { (w : World) → operations.compare operator (Int a) (Int b) w ≡ operations.gave (Truth result) w }
 {
     match operator {
         ComparisonOperator::Less => a < b,

@@ -4,7 +4,6 @@ ghost use Rattle.si_semantics.specs.World.{World};
 ghost use Rattle.si_semantics.specs.Value.{Text as Characters, Int, Str};
 ghost use Rattle.si_semantics.specs.Operations.{integer, operate_integers, operate_truths, operate, operate_unary, within, repeated};
 ghost use Rattle.si_code.specs.Views.{text_at};
-ghost use Rattle.si_syntax.specs.Trees.{binary_of, unary_of};
 ghost use Rattle.si_machine.specs.Values.{value_of, Fits, integer_of};
 ghost use Rattle.si_machine.specs.Causes.{ran, Runs};
 ghost use Rattle.si_machine.specs.declared.cause.Cause.TheVariants.{WrongType};
@@ -14,14 +13,14 @@ use crate::comparisons::{int_of_truth, is_true};
 use crate::texts::Texts;
 use crate::value::Value;
 use si_plain::{
-    Kind, add, bit_and, bit_or, bit_xor, floordiv, invert, modulo, mul, neg, power, shl, shr, sub,
+    BinaryOperator, Kind, UnaryOperator, add, bit_and, bit_or, bit_xor, floordiv, invert, modulo,
+    mul, neg, power, shl, shr, sub,
 };
-use si_syntax::{BinaryOperator, UnaryOperator};
 
 /// An operator between two integers (Python Language Reference 3.14, 6.5 and 6.7 to 6.9).
 #[inline(always)]
 pub fn on_integers(operator: BinaryOperator, x: i64, y: i64) -> Result<i64, Kind>
-    ensures { result ≡ operate_integers (binary_of operator) x y }
+    ensures { result ≡ operate_integers operator x y }
 {
     match operator {
         BinaryOperator::Add => add(x, y),
@@ -40,7 +39,7 @@ pub fn on_integers(operator: BinaryOperator, x: i64, y: i64) -> Result<i64, Kind
 
 // The value of an operator between two integers.
 fn integers(operator: BinaryOperator, x: i64, y: i64) -> Result<Value, Fault>
-    ensures { (texts : List Characters) → Runs (λ w. integer (operate_integers (binary_of operator) x y) w) texts texts result }
+    ensures { (texts : List Characters) → Runs (λ w. integer (operate_integers operator x y) w) texts texts result }
 {
     match on_integers(operator, x, y) {
         Ok(n) => Ok(Value::Int(n)),
@@ -50,7 +49,7 @@ fn integers(operator: BinaryOperator, x: i64, y: i64) -> Result<Value, Fault>
 
 // An operator between two of True and False: `|`, `^` and `&` give one of them (Python Language Reference 3.14, 6.9).
 fn truths(operator: BinaryOperator, x: bool, y: bool) -> Result<Value, Fault>
-    ensures { (texts : List Characters) → Runs (λ w. operate_truths (binary_of operator) x y w) texts texts result }
+    ensures { (texts : List Characters) → Runs (λ w. operate_truths operator x y w) texts texts result }
 {
     match operator {
         BinaryOperator::BitOr => Ok(Value::Truth(x || y)),
@@ -67,7 +66,7 @@ pub fn binary(
     x: Value,
     y: Value,
 ) -> Result<Value, Fault>
-    ensures { Runs (λ w. operate (binary_of operator) (value_of texts.old x) (value_of texts.old y) w) texts.old texts.new result }
+    ensures { Runs (λ w. operate operator (value_of texts.old x) (value_of texts.old y) w) texts.old texts.new result }
 {
     match (x, y) {
         (Value::Int(a), Value::Int(b)) => integers(operator, a, b),
@@ -88,7 +87,7 @@ pub fn binary(
 
 // An operator between a text and an integer, of which `*` alone gives a value.
 fn copies(texts: &mut Texts, operator: BinaryOperator, a: usize, n: i64) -> Result<Value, Fault>
-    ensures { Runs (λ w. operate (binary_of operator) (Str (text_at texts.old a)) (Int n) w) texts.old texts.new result }
+    ensures { Runs (λ w. operate operator (Str (text_at texts.old a)) (Int n) w) texts.old texts.new result }
 {
     match operator {
         BinaryOperator::Multiply => repeat(texts, a, n),
@@ -118,7 +117,7 @@ fn repeat(texts: &mut Texts, a: usize, n: i64) -> Result<Value, Fault>
 
 /// An operator before a value (Python Language Reference 3.14, 6.6; `not`: 6.11).
 pub fn unary(texts: &Texts, operator: UnaryOperator, x: Value) -> Result<Value, Cause>
-    ensures value { (names : List Characters) (w : World) → operate_unary (unary_of operator) (value_of texts.now x) w ≡ ran names texts.now w result }
+    ensures value { (names : List Characters) (w : World) → operate_unary operator (value_of texts.now x) w ≡ ran names texts.now w result }
     ensures fits { IfOk result (λ v. (heap : List Characters) → Fits heap v) }
 {
     match operator {

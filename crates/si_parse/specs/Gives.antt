@@ -10,7 +10,7 @@ use Rattle.si_parse.specs.declared.fault.ParseFault.TheVariants.{Syntax, NoMemor
 use Rattle.si_parse.specs.declared.precedence.Continuation.{Continuation as Rust}
 use Rattle.si_parse.specs.declared.precedence.Continuation.TheVariants as variant
 use Rattle.si_token.specs.Views.{token_of}
-use Rattle.si_syntax.specs.Trees.{binary_of, boolean_of, expr_of}
+use Rattle.si_syntax.specs.Trees.{expr_of}
 use Rattle.si_parse.specs.declared.lookahead.Header.{Header as Word}
 use Rattle.si_parse.specs.declared.lookahead.Header.TheVariants as header
 use Rattle.si_parse.specs.declared.argument.Argument.{Argument}
@@ -32,10 +32,10 @@ Gives view (Ok x) read = read ≡ Some (view x)
 Gives view (Err e) read = Fails e read
 
 abbrev pub continuation_view : Rust → Continuation
-continuation_view (variant.Operator op) = operator (binary_of op)
+continuation_view (variant.Operator op) = operator op
 continuation_view variant.Arguments = arguments
 continuation_view variant.Comparison = comparison
-continuation_view (variant.Boolean op) = boolean (boolean_of op)
+continuation_view (variant.Boolean op) = boolean op
 continuation_view variant.Condition = condition
 continuation_view variant.Nothing = nothing
 

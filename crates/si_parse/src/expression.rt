@@ -2,7 +2,7 @@
 
 ghost use Rattle.std.specs.Prelude.{◌≡◌, ℕ, ◌+◌, ◌-◌, ◌*◌, ◌<◌, ◌≤◌, [], map, length, option_map, IfOk};
 ghost use Rattle.si_semantics.specs.Grammar.{is_identity};
-ghost use Rattle.si_syntax.specs.Trees.{binary_of, unary_of, boolean_of, comparison_of, expr_of, link_of};
+ghost use Rattle.si_syntax.specs.Trees.{expr_of, link_of};
 ghost use Rattle.si_parse.specs.Reading.{rest_of, within, strings_by, str_by, is_singleton, compared_by, operand_by, atom_by, unary_by, bracketed_by, continued_by, binary_by, call_by, compare_by, boolean_by, conditional_by, extended_by, argument_by, arguments_by, operands_by, links_by, expression_at};
 ghost use Rattle.si_parse.specs.Gives.{Gives, from, continuation_view, argument_of};
 
@@ -14,9 +14,9 @@ use crate::precedence::{
     ANY, COMPARED, Continuation, DISJUNCTION, comparison_at, item_level, prefix_at, prefix_level,
     right_level, strength, what_follows,
 };
-use si_plain::Text;
+use si_plain::{BinaryOperator, BooleanOperator, ComparisonOperator, Text, UnaryOperator};
 use si_plain::limits::MAX_STR_LENGTH;
-use si_syntax::{BinaryOperator, BooleanOperator, ComparisonOperator, Expr, UnaryOperator};
+use si_syntax::Expr;
 use si_token::{Keyword, Symbol, Token, TokenKind, int_value};
 use std::alloc::Global;
 
@@ -137,7 +137,7 @@ fn unary(
     at: usize,
 ) -> Read
     requires { parts < 999 }
-    ensures reads { Gives (λ x. (expr_of x.0, x.1, from tokens.now x.2)) result (unary_by (expression_at parts) level (unary_of operator) (from tokens.now at)) }
+    ensures reads { Gives (λ x. (expr_of x.0, x.1, from tokens.now x.2)) result (unary_by (expression_at parts) level operator (from tokens.now at)) }
     ensures shallow { IfOk result (λ x. x.1 ≤ parts + 1) }
 {
     if prefix_level(operator) < level {
@@ -243,7 +243,7 @@ fn binary(
 ) -> Read
     requires limit { parts < 999 }
     requires shallow { depth ≤ parts + 1 }
-    ensures reads { Gives (λ x. (expr_of x.0, x.1, from tokens.now x.2)) result (binary_by (expression_at parts) (parts + 1) (expr_of left) depth (binary_of operator) (from tokens.now at)) }
+    ensures reads { Gives (λ x. (expr_of x.0, x.1, from tokens.now x.2)) result (binary_by (expression_at parts) (parts + 1) (expr_of left) depth operator (from tokens.now at)) }
     ensures shallow { IfOk result (λ x. x.1 ≤ parts + 1) }
 {
     let (right, right_depth, at) = expression(alloc, parts, right_level(operator), tokens, at)?;
@@ -292,7 +292,7 @@ fn boolean(
 ) -> Read
     requires limit { parts < 999 }
     requires shallow { depth ≤ parts + 1 }
-    ensures reads { Gives (λ x. (expr_of x.0, x.1, from tokens.now x.2)) result (boolean_by (expression_at parts) (parts + 1) (expr_of left) depth (boolean_of operator) (from tokens.now at)) }
+    ensures reads { Gives (λ x. (expr_of x.0, x.1, from tokens.now x.2)) result (boolean_by (expression_at parts) (parts + 1) (expr_of left) depth operator (from tokens.now at)) }
     ensures shallow { IfOk result (λ x. x.1 ≤ parts + 1) }
 {
     let (others, others_depth, at) = operands(alloc, parts, operator, tokens, at)?;
@@ -407,7 +407,7 @@ fn operands(
     start: usize,
 ) -> Result<(Vec<Expr>, u32, usize), ParseFault>
     requires { parts < 999 }
-    ensures reads { Gives (λ x. ((map expr_of x.0.items, x.1), from tokens.now x.2)) result (operands_by (expression_at parts) (boolean_of operator) (from tokens.now start)) }
+    ensures reads { Gives (λ x. ((map expr_of x.0.items, x.1), from tokens.now x.2)) result (operands_by (expression_at parts) operator (from tokens.now start)) }
     ensures shallow { IfOk result (λ x. x.1 ≤ parts) }
 {
     let mut others = Vec::new(alloc);
@@ -451,7 +451,7 @@ fn compared(
     at: usize,
 ) -> Read
     requires { parts < 999 }
-    ensures reads { Gives (λ x. (expr_of x.0, x.1, from tokens.now x.2)) result (compared_by (expression_at parts) (comparison_of operator) (from tokens.now at)) }
+    ensures reads { Gives (λ x. (expr_of x.0, x.1, from tokens.now x.2)) result (compared_by (expression_at parts) operator (from tokens.now at)) }
     ensures shallow { IfOk result (λ x. x.1 ≤ parts) }
 {
     let (tree, depth, end) = expression(alloc, parts, COMPARED, tokens, at)?;

@@ -4,11 +4,10 @@ ghost use Rattle.std.specs.Prelude.{◌≡◌, ℕ, ◌+◌, ◌<◌, ◌≤◌,
 ghost use Rattle.si_semantics.specs.Grammar.{terminal_of, Sign, Word, NEWLINE, INDENT, DEDENT};
 ghost use Rattle.si_semantics.specs.Tokens as token;
 ghost use Rattle.si_token.specs.Views.{keyword_of, symbol_of, token_of};
-ghost use Rattle.si_syntax.specs.Trees.{boolean_of};
 ghost use Rattle.si_parse.specs.Reading.{after, after_boolean, after_catch, closing, ends_small, header_at};
 ghost use Rattle.si_parse.specs.Gives.{from, header_view};
 
-use si_syntax::BooleanOperator;
+use si_plain::BooleanOperator;
 use si_token::{Keyword, Symbol, Token, TokenKind};
 
 // The word with which a compound statement begins.
@@ -100,7 +99,7 @@ pub(crate) fn after_dedent(tokens: &[Token], at: usize) -> Option<usize>
 
 // The place behind the word of the operator, where it stands at the place.
 pub(crate) fn after_boolean(operator: BooleanOperator, tokens: &[Token], at: usize) -> Option<usize>
-    ensures { option_map (from tokens.now) result ≡ after_boolean (boolean_of operator) (from tokens.now at) }
+    ensures { option_map (from tokens.now) result ≡ after_boolean operator (from tokens.now at) }
 {
     match operator {
         BooleanOperator::And => after_word(tokens, at, Keyword::And),

@@ -3,12 +3,11 @@
 ghost use Rattle.std.specs.Prelude.{◌≡◌, option_map, IfSome};
 ghost use Rattle.si_semantics.specs.Grammar.{left_level, right_level, prefix_level, item_level};
 ghost use Rattle.si_token.specs.Views.{symbol_of, keyword_of};
-ghost use Rattle.si_syntax.specs.Trees.{binary_of, unary_of, comparison_of, boolean_of};
 ghost use Rattle.si_parse.specs.Reading.{role_of, word_role, continuation_at, strength_of, rest_of, prefix_at, comparison_symbol, comparison_at};
 ghost use Rattle.si_parse.specs.Gives.{from, continuation_view};
 
 use crate::lookahead::{after_word, token_at};
-use si_syntax::{BinaryOperator, BooleanOperator, ComparisonOperator, UnaryOperator};
+use si_plain::{BinaryOperator, BooleanOperator, ComparisonOperator, UnaryOperator};
 use si_token::{Keyword, Symbol, Token, TokenKind};
 
 // The level of any expression, and of operands: of a conditional expression's value and test, of `or`, of `and`, of a
@@ -41,7 +40,7 @@ pub(crate) enum Continuation {
 
 // The level that the left operand of an operator has at least.
 fn left_level(operator: BinaryOperator) -> u32
-    ensures { result ≡ left_level (binary_of operator) }
+    ensures { result ≡ left_level operator }
 {
     match operator {
         BinaryOperator::BitOr => 10,
@@ -56,7 +55,7 @@ fn left_level(operator: BinaryOperator) -> u32
 
 // The level that its right operand has at least.
 pub(crate) fn right_level(operator: BinaryOperator) -> u32
-    ensures { result ≡ right_level (binary_of operator) }
+    ensures { result ≡ right_level operator }
 {
     match operator {
         BinaryOperator::BitOr => 11,
@@ -71,7 +70,7 @@ pub(crate) fn right_level(operator: BinaryOperator) -> u32
 
 // The level of an operator before its operand, which has the same level at least.
 pub(crate) fn prefix_level(operator: UnaryOperator) -> u32
-    ensures { result ≡ prefix_level (unary_of operator) }
+    ensures { result ≡ prefix_level operator }
 {
     match operator {
         UnaryOperator::Plus | UnaryOperator::Minus | UnaryOperator::Invert => FACTOR,
@@ -81,7 +80,7 @@ pub(crate) fn prefix_level(operator: UnaryOperator) -> u32
 
 // The level that each operand of `and`, or of `or`, has at least.
 pub(crate) fn item_level(operator: BooleanOperator) -> u32
-    ensures { result ≡ item_level (boolean_of operator) }
+    ensures { result ≡ item_level operator }
 {
     match operator {
         BooleanOperator::Or => CONJUNCTION,
@@ -158,7 +157,7 @@ pub(crate) fn strength(continuation: Continuation) -> u32
 
 // The operator before an operand, where one stands at the place, and the place behind it.
 pub(crate) fn prefix_at(tokens: &[Token], at: usize) -> Option<(UnaryOperator, usize)>
-    ensures operator { option_map (λ x. unary_of x.0) result ≡ prefix_at (from tokens.now at) }
+    ensures operator { option_map (λ x. x.0) result ≡ prefix_at (from tokens.now at) }
     ensures behind { IfSome result (λ x. from tokens.now x.1 ≡ rest_of (from tokens.now at)) }
 {
     let token = token_at(tokens, at)?;
@@ -173,7 +172,7 @@ pub(crate) fn prefix_at(tokens: &[Token], at: usize) -> Option<(UnaryOperator, u
 
 // The operator of a comparison that a symbol is.
 fn comparison_symbol(symbol: Symbol) -> Option<ComparisonOperator>
-    ensures { option_map comparison_of result ≡ comparison_symbol (symbol_of symbol) }
+    ensures { result ≡ comparison_symbol (symbol_of symbol) }
 {
     match symbol {
         Symbol::Less => Some(ComparisonOperator::Less),
@@ -188,7 +187,7 @@ fn comparison_symbol(symbol: Symbol) -> Option<ComparisonOperator>
 
 // The operator of a comparison, where one stands at the place, and the place behind it.
 pub(crate) fn comparison_at(tokens: &[Token], at: usize) -> Option<(ComparisonOperator, usize)>
-    ensures { option_map (λ x. (comparison_of x.0, from tokens.now x.1)) result ≡ comparison_at (from tokens.now at) }
+    ensures { option_map (λ x. (x.0, from tokens.now x.1)) result ≡ comparison_at (from tokens.now at) }
 {
     let token = token_at(tokens, at)?;
     match token.kind {

@@ -3,7 +3,7 @@
 ghost use Rattle.std.specs.Prelude.{◌≡◌, ℕ, ◌+◌, ◌-◌, length, map, option_map, IfSome};
 ghost use Rattle.si_token.specs.Views.{symbol_of};
 ghost use Rattle.si_semantics.specs.Grammar.{max_depth};
-ghost use Rattle.si_syntax.specs.Trees.{binary_of, expr_of, stmt_of};
+ghost use Rattle.si_syntax.specs.Trees.{expr_of, stmt_of};
 ghost use Rattle.si_parse.specs.Reading.{assignment_symbol, assignment_at, word_statement, rest_of, expression_at, spelled_by, value_by, returned_by, raised_by, global_by, statement_by, line_by, is_end, module_by};
 ghost use Rattle.si_parse.specs.Gives.{Gives, from};
 
@@ -15,13 +15,14 @@ use crate::name::names;
 use crate::precedence::ANY;
 use crate::target::as_target;
 use si_plain::limits::MAX_EXPRESSION_DEPTH;
-use si_syntax::{BinaryOperator, Expr, Stmt};
+use si_plain::BinaryOperator;
+use si_syntax::{Expr, Stmt};
 use si_token::{Keyword, Symbol, Token, TokenKind};
 use std::alloc::Global;
 
 // The assignment that a sign is: a plain one, or an augmented one with its operator.
 fn assignment_symbol(symbol: Symbol) -> Option<Option<BinaryOperator>>
-    ensures { option_map (option_map binary_of) result ≡ assignment_symbol (symbol_of symbol) }
+    ensures { result ≡ assignment_symbol (symbol_of symbol) }
 {
     match symbol {
         Symbol::Equal => Some(None),
@@ -42,7 +43,7 @@ fn assignment_symbol(symbol: Symbol) -> Option<Option<BinaryOperator>>
 
 // The assignment whose sign stands at the place, and the place behind it.
 fn assignment_at(tokens: &[Token], at: usize) -> Option<(Option<BinaryOperator>, usize)>
-    ensures { option_map (λ x. (option_map binary_of x.0, from tokens.now x.1)) result ≡ assignment_at (from tokens.now at) }
+    ensures { option_map (λ x. (x.0, from tokens.now x.1)) result ≡ assignment_at (from tokens.now at) }
 {
     let token = token_at(tokens, at)?;
     match token.kind {

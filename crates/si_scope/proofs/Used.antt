@@ -5,15 +5,15 @@ use Rattle.si_semantics.specs.Tree as tree
 use Rattle.si_semantics.specs.Value.{Text}
 use Rattle.si_semantics.specs.Grammar.{exprs_of, chain_of}
 use Rattle.si_semantics.specs.Scope.{names_of, names_of_all, names_of_chain}
-use Rattle.si_syntax.specs.declared.operators.BinaryOperator.{BinaryOperator}
-use Rattle.si_syntax.specs.declared.operators.BooleanOperator.{BooleanOperator}
-use Rattle.si_syntax.specs.declared.operators.ComparisonOperator.{ComparisonOperator}
+use Rattle.si_plain.specs.declared.operators.BinaryOperator.{BinaryOperator}
+use Rattle.si_plain.specs.declared.operators.BooleanOperator.{BooleanOperator}
+use Rattle.si_plain.specs.declared.operators.ComparisonOperator.{ComparisonOperator}
 use Rattle.si_syntax.specs.declared.expr.Expr.{Expr}
 use Rattle.si_syntax.specs.declared.expr.Expr.TheFolds.{fold-roll-Expr}
 use Rattle.si_syntax.specs.declared.expr.Expr.TheOpen.{Expr-F}
 use Rattle.si_syntax.specs.declared.expr.Expr.TheVariants.{rolls-Binary, rolls-Call, rolls-Boolean, rolls-Conditional}
 use Rattle.si_syntax.specs.declared.expr.Expr.TheViews as views
-use Rattle.si_syntax.specs.Trees.{binary_of, boolean_of, expr_of, link_of, view_step}
+use Rattle.si_syntax.specs.Trees.{expr_of, link_of, view_step}
 use Rattle.si_syntax.proofs.Forms.{compare_is}
 use Rattle.si_syntax.proofs.Rows.{rest_is}
 use Rattle.si_scope.specs.Walk.{with_names}
@@ -24,13 +24,13 @@ use Rattle.si_scope.proofs.Sets.{with_names-append}
 names_are : (e view : Expr) (t : tree.Expr) → e ≡ view → expr_of view ≡ t → names_of (expr_of e) ≡ names_of t
 names_are e view t is sees = ap (λ x. names_of (expr_of x)) is ∙ ap names_of sees
 
-binary_is : (o : BinaryOperator) (a b : Box Expr Global) → expr_of (views.Binary o a b) ≡ tree.Binary (binary_of o) (expr_of a.value) (expr_of b.value)
+binary_is : (o : BinaryOperator) (a b : Box Expr Global) → expr_of (views.Binary o a b) ≡ tree.Binary o (expr_of a.value) (expr_of b.value)
 binary_is o a b = ap expr_of (sym (rolls-Binary o a b)) ∙ fold-roll-Expr tree.Expr view_step (Expr-F.Binary o a b)
 
 call_is : (f : Box Expr Global) (args : Vec Expr Global) (names : Vec (String Global) Global) → expr_of (views.Call f args names) ≡ tree.Call (expr_of f.value) (exprs_of (map expr_of args.items)) (map string_bytes names.items)
 call_is f args names = ap expr_of (sym (rolls-Call f args names)) ∙ fold-roll-Expr tree.Expr view_step (Expr-F.Call f args names)
 
-boolean_is : (o : BooleanOperator) (a : Box Expr Global) (more : Vec Expr Global) → expr_of (views.Boolean o a more) ≡ tree.Boolean (boolean_of o) (expr_of a.value) (exprs_of (map expr_of more.items))
+boolean_is : (o : BooleanOperator) (a : Box Expr Global) (more : Vec Expr Global) → expr_of (views.Boolean o a more) ≡ tree.Boolean o (expr_of a.value) (exprs_of (map expr_of more.items))
 boolean_is o a more = ap expr_of (sym (rolls-Boolean o a more)) ∙ fold-roll-Expr tree.Expr view_step (Expr-F.Boolean o a more)
 
 conditional_is : (a b c : Box Expr Global) → expr_of (views.Conditional a b c) ≡ tree.Conditional (expr_of a.value) (expr_of b.value) (expr_of c.value)

@@ -5,8 +5,8 @@ ghost use Rattle.si_semantics.specs.Scope.{names_of, names_of_all, names_of_chai
 ghost use Rattle.si_syntax.specs.Trees.{expr_of, link_of};
 ghost use Rattle.si_scope.specs.Walk.{with_names};
 
-use si_plain::{Names, NoMemory};
-use si_syntax::{ComparisonOperator, Expr};
+use si_plain::{ComparisonOperator, Names, NoMemory};
+use si_syntax::Expr;
 
 // With the names that an expression uses.
 #[cycle(expression)]

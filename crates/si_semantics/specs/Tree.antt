@@ -1,44 +1,16 @@
 -- Syntax trees (Python Language Reference 3.14, 6 to 8).
 use Rattle.std.specs.Prelude.{List, [], ◌∷◌, ◌++◌, Option}
 use Rattle.si_semantics.specs.Value.{Text, Value}
-
--- an operator between two operands
-pub data BinaryOperator : Type 0 where
-  Add : BinaryOperator
-  Subtract : BinaryOperator
-  Multiply : BinaryOperator
-  FloorDivide : BinaryOperator
-  Modulo : BinaryOperator
-  Power : BinaryOperator
-  BitOr : BinaryOperator
-  BitXor : BinaryOperator
-  BitAnd : BinaryOperator
-  ShiftLeft : BinaryOperator
-  ShiftRight : BinaryOperator
-
--- an operator before its operand
-pub data UnaryOperator : Type 0 where
-  Plus : UnaryOperator
-  Minus : UnaryOperator
-  -- `~`
-  Invert : UnaryOperator
-  Not : UnaryOperator
-
--- an operator of a comparison
-pub data ComparisonOperator : Type 0 where
-  Less : ComparisonOperator
-  Greater : ComparisonOperator
-  LessEqual : ComparisonOperator
-  GreaterEqual : ComparisonOperator
-  Equal : ComparisonOperator
-  NotEqual : ComparisonOperator
-  Is : ComparisonOperator
-  IsNot : ComparisonOperator
-
--- the word between operands of which not each is evaluated
-pub data BooleanOperator : Type 0 where
-  And : BooleanOperator
-  Or : BooleanOperator
+-- the operators: between two operands (6.5, 6.7 to 6.9), before one (6.6, 6.11), of a comparison (6.10), and `and` and `or`
+-- (6.11)
+pub use Rattle.si_plain.specs.declared.operators.BinaryOperator.{BinaryOperator}
+pub use Rattle.si_plain.specs.declared.operators.BinaryOperator.TheVariants.{Add, Subtract, Multiply, FloorDivide, Modulo, Power, BitOr, BitXor, BitAnd, ShiftLeft, ShiftRight}
+pub use Rattle.si_plain.specs.declared.operators.UnaryOperator.{UnaryOperator}
+pub use Rattle.si_plain.specs.declared.operators.UnaryOperator.TheVariants.{Plus, Minus, Invert, Not}
+pub use Rattle.si_plain.specs.declared.operators.ComparisonOperator.{ComparisonOperator}
+pub use Rattle.si_plain.specs.declared.operators.ComparisonOperator.TheVariants.{Less, Greater, LessEqual, GreaterEqual, Equal, NotEqual, Is, IsNot}
+pub use Rattle.si_plain.specs.declared.operators.BooleanOperator.{BooleanOperator}
+pub use Rattle.si_plain.specs.declared.operators.BooleanOperator.TheVariants.{And, Or}
 
 mutual
   pub data Expr : Type 0 where

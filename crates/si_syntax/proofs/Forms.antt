@@ -2,7 +2,7 @@
 use Rattle.std.proofs.Common.{◌≡◌, List, [], ◌∷◌, Option, Some, None, String, string_bytes, option_map, map, Box, Vec, Global, refl, sym, ap, ◌∙◌}
 use Rattle.si_semantics.specs.Tree as tree
 use Rattle.si_semantics.specs.Grammar.{chain_of, Branch, stmts_of, elifs_of, Clause, clauses_of}
-use Rattle.si_syntax.specs.declared.operators.ComparisonOperator.{ComparisonOperator}
+use Rattle.si_plain.specs.declared.operators.ComparisonOperator.{ComparisonOperator}
 use Rattle.si_syntax.specs.declared.expr.Expr.{Expr}
 use Rattle.si_syntax.specs.declared.expr.Expr.TheFolds.{fold-roll-Expr}
 use Rattle.si_syntax.specs.declared.expr.Expr.TheOpen.{Expr-F}
@@ -14,15 +14,11 @@ use Rattle.si_syntax.specs.declared.stmt.Stmt.TheShapes.{former-Stmt-If-2-at-3, 
 use Rattle.si_syntax.specs.declared.stmt.Stmt.TheOpen.{Stmt-F}
 use Rattle.si_syntax.specs.declared.stmt.Stmt.TheVariants.{rolls-If, rolls-Try, rolls-Finally}
 use Rattle.si_syntax.specs.declared.stmt.Stmt.TheViews as stmts
-use Rattle.si_syntax.specs.Trees.{comparison_of, expr_of, view_step, link_of, stmt_of, stmt_step, branch_of, clause_step, clause_of}
-
-links_are : (ls : List (ComparisonOperator × Expr)) → map {A = ComparisonOperator × tree.Expr} {B = tree.ComparisonOperator × tree.Expr} (λ l. (comparison_of l.0, l.1)) (map {B = ComparisonOperator × tree.Expr} (λ l. (l.0, expr_of l.1)) ls) ≡ map link_of ls
-links_are [] = refl
-links_are (l ∷ ls) = ap (λ r. link_of l ∷ r) (links_are ls)
+use Rattle.si_syntax.specs.Trees.{expr_of, view_step, link_of, stmt_of, stmt_step, branch_of, clause_step, clause_of}
 
 pub compare_is : (a : Box Expr Global) (ls : Vec (ComparisonOperator × Expr) Global) → expr_of (views.Compare a ls) ≡ tree.Compare (expr_of a.value) (chain_of (map link_of ls.items))
 compare_is a ls =
-    ap expr_of (sym (rolls-Compare a ls)) ∙ fold-roll-Expr tree.Expr view_step (Expr-F.Compare a ls) ∙ ap (λ l. tree.Compare (expr_of a.value) (chain_of l)) (links_are ls.items)
+    ap expr_of (sym (rolls-Compare a ls)) ∙ fold-roll-Expr tree.Expr view_step (Expr-F.Compare a ls)
 
 abbrev branch_seen : Expr × Vec Stmt Global → Branch
 branch_seen b = branch_of b.0 b.1.items

@@ -5,53 +5,16 @@ use Rattle.std.specs.Option.{option_map}
 use Rattle.si_semantics.specs.Value.{Nothing, Truth, Int, Str}
 use Rattle.si_semantics.specs.Tree as tree
 use Rattle.si_semantics.specs.Grammar.{exprs_of, chain_of, stmts_of, Branch, elifs_of, Clause, clauses_of}
-use Rattle.si_syntax.specs.declared.operators.BinaryOperator.{BinaryOperator}
-use Rattle.si_syntax.specs.declared.operators.BinaryOperator.TheVariants as binary
-use Rattle.si_syntax.specs.declared.operators.UnaryOperator.{UnaryOperator}
-use Rattle.si_syntax.specs.declared.operators.UnaryOperator.TheVariants as unary
-use Rattle.si_syntax.specs.declared.operators.ComparisonOperator.{ComparisonOperator}
-use Rattle.si_syntax.specs.declared.operators.ComparisonOperator.TheVariants as comparison
-use Rattle.si_syntax.specs.declared.operators.BooleanOperator.{BooleanOperator}
-use Rattle.si_syntax.specs.declared.operators.BooleanOperator.TheVariants as boolean
+use Rattle.si_plain.specs.declared.operators.BinaryOperator.{BinaryOperator}
+use Rattle.si_plain.specs.declared.operators.UnaryOperator.{UnaryOperator}
+use Rattle.si_plain.specs.declared.operators.ComparisonOperator.{ComparisonOperator}
+use Rattle.si_plain.specs.declared.operators.BooleanOperator.{BooleanOperator}
 use Rattle.si_syntax.specs.declared.expr.Expr.{Expr, fold-Expr}
 use Rattle.si_syntax.specs.declared.expr.Expr.TheOpen.{Expr-F}
 use Rattle.si_syntax.specs.declared.target.Target.{Target}
 use Rattle.si_syntax.specs.declared.target.Target.TheVariants as target
 use Rattle.si_syntax.specs.declared.stmt.Stmt.{Stmt, fold-Stmt}
 use Rattle.si_syntax.specs.declared.stmt.Stmt.TheOpen.{Stmt-F}
-
-abbrev pub binary_of : BinaryOperator → tree.BinaryOperator
-binary_of binary.Add = tree.Add
-binary_of binary.Subtract = tree.Subtract
-binary_of binary.Multiply = tree.Multiply
-binary_of binary.FloorDivide = tree.FloorDivide
-binary_of binary.Modulo = tree.Modulo
-binary_of binary.Power = tree.Power
-binary_of binary.BitOr = tree.BitOr
-binary_of binary.BitXor = tree.BitXor
-binary_of binary.BitAnd = tree.BitAnd
-binary_of binary.ShiftLeft = tree.ShiftLeft
-binary_of binary.ShiftRight = tree.ShiftRight
-
-abbrev pub unary_of : UnaryOperator → tree.UnaryOperator
-unary_of unary.Plus = tree.Plus
-unary_of unary.Minus = tree.Minus
-unary_of unary.Invert = tree.Invert
-unary_of unary.Not = tree.Not
-
-abbrev pub comparison_of : ComparisonOperator → tree.ComparisonOperator
-comparison_of comparison.Less = tree.Less
-comparison_of comparison.Greater = tree.Greater
-comparison_of comparison.LessEqual = tree.LessEqual
-comparison_of comparison.GreaterEqual = tree.GreaterEqual
-comparison_of comparison.Equal = tree.Equal
-comparison_of comparison.NotEqual = tree.NotEqual
-comparison_of comparison.Is = tree.Is
-comparison_of comparison.IsNot = tree.IsNot
-
-abbrev pub boolean_of : BooleanOperator → tree.BooleanOperator
-boolean_of boolean.And = tree.And
-boolean_of boolean.Or = tree.Or
 
 -- one level, with each part already seen as its tree
 abbrev pub view_step : Expr-F tree.Expr → tree.Expr
@@ -60,19 +23,19 @@ view_step (Expr-F.Int n) = tree.Constant (Int n)
 view_step (Expr-F.Str t) = tree.Constant (Str t)
 view_step Expr-F.Nothing = tree.Constant Nothing
 view_step (Expr-F.Truth b) = tree.Constant (Truth b)
-view_step (Expr-F.Unary op a) = tree.Unary (unary_of op) a.value
-view_step (Expr-F.Binary op a b) = tree.Binary (binary_of op) a.value b.value
+view_step (Expr-F.Unary op a) = tree.Unary op a.value
+view_step (Expr-F.Binary op a b) = tree.Binary op a.value b.value
 view_step (Expr-F.Call a args names) = tree.Call a.value (exprs_of args.items) (map string_bytes names.items)
-view_step (Expr-F.Boolean op a others) = tree.Boolean (boolean_of op) a.value (exprs_of others.items)
-view_step (Expr-F.Compare a links) = tree.Compare a.value (chain_of (map (λ l. (comparison_of l.0, l.1)) links.items))
+view_step (Expr-F.Boolean op a others) = tree.Boolean op a.value (exprs_of others.items)
+view_step (Expr-F.Compare a links) = tree.Compare a.value (chain_of links.items)
 view_step (Expr-F.Conditional test value other) = tree.Conditional test.value value.value other.value
 
 abbrev pub expr_of : Expr → tree.Expr
 expr_of = fold-Expr tree.Expr view_step
 
 -- an operator of a comparison with the operand behind it
-abbrev pub link_of : ComparisonOperator × Expr → tree.ComparisonOperator × tree.Expr
-link_of l = (comparison_of l.0, expr_of l.1)
+abbrev pub link_of : ComparisonOperator × Expr → ComparisonOperator × tree.Expr
+link_of l = (l.0, expr_of l.1)
 
 abbrev pub target_of : Target → tree.Target
 target_of (target.Named x) = tree.Named (string_bytes x)
@@ -85,7 +48,7 @@ clause_step c = (option_map expr_of c.0, option_map string_bytes c.1, stmts_of c
 abbrev pub stmt_step : Stmt-F tree.Stmt → tree.Stmt
 stmt_step (Stmt-F.Evaluate e) = tree.Evaluate (expr_of e)
 stmt_step (Stmt-F.Assign t e) = tree.Assign (target_of t) (expr_of e)
-stmt_step (Stmt-F.Augment t op e) = tree.Augment (target_of t) (binary_of op) (expr_of e)
+stmt_step (Stmt-F.Augment t op e) = tree.Augment (target_of t) op (expr_of e)
 stmt_step Stmt-F.Pass = tree.Pass
 stmt_step (Stmt-F.If test body elifs last) =
     tree.If (expr_of test) (stmts_of body.items) (elifs_of (map (λ b. (expr_of b.0, stmts_of b.1.items)) elifs.items) (stmts_of last.items))

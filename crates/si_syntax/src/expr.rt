@@ -1,7 +1,6 @@
 // Expressions.
 
-use crate::operators::{BinaryOperator, BooleanOperator, ComparisonOperator, UnaryOperator};
-use si_plain::Text;
+use si_plain::{BinaryOperator, BooleanOperator, ComparisonOperator, Text, UnaryOperator};
 
 /// An expression.
 #[derive(Debug, Drop)]

@@ -3,18 +3,16 @@
 // Each value stands for one tree of `si_semantics`: specs/Trees.antt says which, and specs/Modules.antt for a whole
 // script. The type of a whole script keeps that its tree is within the limits.
 //
-// In reading order: `operators`, `expr` (expressions), `target` (targets), `stmt` (statements), and `modules` (whole
+// In reading order: `expr` (expressions), `target` (targets), `stmt` (statements), and `modules` (whole
 // scripts).
 #![tactic(auto)]
 
 pub mod expr;
 pub mod modules;
-pub mod operators;
 pub mod stmt;
 pub mod target;
 
 pub use expr::Expr;
 pub use modules::Module;
-pub use operators::{BinaryOperator, BooleanOperator, ComparisonOperator, UnaryOperator};
 pub use stmt::{Clause, Line, Stmt};
 pub use target::Target;

@@ -1,7 +1,7 @@
 // Statements.
 
 use crate::expr::Expr;
-use crate::operators::BinaryOperator;
+use si_plain::BinaryOperator;
 use crate::target::Target;
 
 /// The line in which a statement begins, counted from 1. It is a hint for people: no tree depends on it.

@@ -4,7 +4,7 @@ use si_code::{CodeTable, Entry, Instr, Routine};
 use si_compile::compile;
 use si_parse::parse;
 use si_scope::{Scoped, resolve};
-use si_syntax::{BinaryOperator, UnaryOperator};
+use si_plain::{BinaryOperator, UnaryOperator};
 use std::alloc::Global;
 use std::test::Fail;
 

@@ -1,7 +1,6 @@
 use Rattle.std.proofs.Common.{◌≡◌, ◌≤◌, length, sym, subst, arith}
 use Rattle.std.specs.List.{AllByRecursion}
 use Rattle.std.proofs.lemmas.Result.{on_ok_weaker}
-use Rattle.si_syntax.specs.Trees.{boolean_of}
 use Rattle.si_code.specs.Views.{Gains}
 use Rattle.si_compile.proofs.Branches.{Linked, MakesAll-step, operand_due, operands_end, link_due, chain_end, chain_all, behind_more, all_aimed}
 use Rattle.si_compile.proofs.Forms.{boolean_gains, compare_gains, conditional_gains, front_stays}
@@ -69,7 +68,7 @@ emit_operands-loop-operand-preserved t c =
     let old = c.loop-operand.invariant in
     record {
       due = MakesAll-step c.loop-operand.jumps.items _ _ _ _ c.len.result c.in_ok-push.ensures.items
-          (operand_due c.args.locals.now (boolean_of c.args.operator) c.args.operands.now c.loop-operand.operand-index c.operand-item.result c.len.result c.loop-operand-test.true (sym c.operand-item.is) c.len.ensures c.in_ok-put.ensures.ok c.in_ok-emit_expr.ensures.ok)
+          (operand_due c.args.locals.now c.args.operator c.args.operands.now c.loop-operand.operand-index c.operand-item.result c.len.result c.loop-operand-test.true (sym c.operand-item.is) c.len.ensures c.in_ok-put.ensures.ok c.in_ok-emit_expr.ensures.ok)
           old.due;
       behind = behind_more c.loop-operand.jumps.items c.len.result c.in_ok-push.ensures.items c.len.ensures old.extends old.behind;
       extends = Extends-trans _ _ _ old.extends (Extends-trans _ _ _ c.in_ok-put.ensures.extends c.in_ok-emit_expr.ensures.extends);
@@ -78,7 +77,7 @@ emit_operands-loop-operand-preserved t c =
 pub emit_operands-returns-clause-ok : goal.emit_operands-returns-clause-ok
 emit_operands-returns-clause-ok t c =
     on_ok_weaker c.aim_all.result
-    (all_aimed c.deref.ensures.value (operands_end c.args.locals.now (boolean_of c.args.operator) c.args.operands.now c.loop-operand.operand-index c.loop-operand.jumps.items c.loop-operand-test.false c.loop-operand.invariant.due))
+    (all_aimed c.deref.ensures.value (operands_end c.args.locals.now c.args.operator c.args.operands.now c.loop-operand.operand-index c.loop-operand.jumps.items c.loop-operand-test.false c.loop-operand.invariant.due))
     c.aim_all.ensures.ok
 
 pub emit_operands-returns-clause-extends : goal.emit_operands-returns-clause-extends

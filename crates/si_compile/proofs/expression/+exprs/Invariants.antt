@@ -1,7 +1,7 @@
 use Rattle.std.proofs.Common.{ℕ, ◌≤◌, List, [], ◌∷◌, ◌++◌, drop, map, length}
 use Rattle.std.specs.List.{AllByRecursion}
 use Rattle.si_semantics.specs.Grammar.{exprs_of, chain_of}
-use Rattle.si_syntax.specs.Trees.{expr_of, boolean_of, link_of}
+use Rattle.si_syntax.specs.Trees.{expr_of, link_of}
 use Rattle.si_compile.specs.Code.{exprs_code, operands_code, chain_code}
 use Rattle.si_code.specs.Contents.{Contents, Extends}
 use Rattle.si_code.specs.Jumps.{Due}
@@ -18,7 +18,7 @@ invariant-emit_exprs-loop-expr l = record {
 -- the jumps so far are due, whatever the rest makes due
 abbrev pub invariant-emit_operands-loop-operand : goal.invariant-emit_operands-loop-operand
 invariant-emit_operands-loop-operand l = record {
-  due : (end : Contents) (later : List ℕ) → Due l.table later (operands_code l.locals (boolean_of l.operator) (exprs_of (map expr_of (drop l.operand-index l.operands)))) end → Due l.initial.table (l.jumps.items ++ later) (operands_code l.locals (boolean_of l.operator) (exprs_of (map expr_of l.operands))) end;
+  due : (end : Contents) (later : List ℕ) → Due l.table later (operands_code l.locals l.operator (exprs_of (map expr_of (drop l.operand-index l.operands)))) end → Due l.initial.table (l.jumps.items ++ later) (operands_code l.locals l.operator (exprs_of (map expr_of l.operands))) end;
   behind : AllByRecursion (λ at. length l.initial.table.lines ≤ at) l.jumps.items;
   extends : Extends l.initial.table l.table;
 }

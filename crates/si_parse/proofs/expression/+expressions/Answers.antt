@@ -4,7 +4,7 @@ use Rattle.std.proofs.lemmas.List.{map-append}
 use Rattle.std.specs.Prelude.{option_map, ◌∷◌, ◌++◌, max}
 use Rattle.si_semantics.specs.Tokens as token
 use Rattle.si_semantics.specs.Grammar.{item_level, Sign}
-use Rattle.si_syntax.specs.Trees.{expr_of, boolean_of, comparison_of, link_of}
+use Rattle.si_syntax.specs.Trees.{expr_of, link_of}
 use Rattle.si_parse.specs.Reading.{with_word, after_boolean, comparison_at, compared_by, separated_by, with_argument, argument_by, expression_at, strength_of, after}
 use Rattle.si_parse.specs.Gives.{Fails, from, continuation_view, argument_of}
 use Rattle.si_parse.proofs.Turns.{continued_on, continued_stops, continued_fails, separated_fails, separated_last, separated_on, separated_stuck, chain_ends, chain_next, chain_fails}
@@ -74,15 +74,15 @@ arguments-loop-turn-preserved t c =
 pub operands-returns-in_default-clause-reads : goal.operands-returns-in_default-clause-reads
 operands-returns-in_default-clause-reads t c =
     let next = sym c.after_boolean.ensures ∙ ap (option_map (from c.args.tokens.now)) c.in_default.is in
-    sym c.loop-turn.invariant.reads ∙ chain_ends _ _ _ _ _ _ (omega arith) (ap (with_word (boolean_of c.args.operator)) next)
+    sym c.loop-turn.invariant.reads ∙ chain_ends _ _ _ _ _ _ (omega arith) (ap (with_word c.args.operator) next)
 
 pub operands-returns-in_err-other-clause-reads : goal.operands-returns-in_err-other-clause-reads
 operands-returns-in_err-other-clause-reads t c =
     let next = sym c.after_boolean.ensures ∙ ap (option_map (from c.args.tokens.now)) c.in-Some.is in
     let here = subst (λ l. Fails c.in_err-other.field-0.0 (expression_at c.args.parts l (from c.args.tokens.now c.in-Some.behind))) c.item_level.ensures c.in_err-other.ensures.reads in
-    let fails = chain_fails (λ o e. e) (λ ts. with_word (boolean_of c.args.operator) (after_boolean (boolean_of c.args.operator) ts)) (λ o. expression_at c.args.parts (item_level o))
-    (length c.args.tokens.now - c.loop-turn._turn) (map expr_of c.loop-turn.others.items, c.loop-turn.depth) (from c.args.tokens.now c.loop-turn.at) (length c.args.tokens.now - (c.loop-turn._turn + 1)) (omega arith) (boolean_of c.args.operator) (from c.args.tokens.now c.in-Some.behind)
-    (ap (with_word (boolean_of c.args.operator)) next) _ here in
+    let fails = chain_fails (λ o e. e) (λ ts. with_word c.args.operator (after_boolean c.args.operator ts)) (λ o. expression_at c.args.parts (item_level o))
+    (length c.args.tokens.now - c.loop-turn._turn) (map expr_of c.loop-turn.others.items, c.loop-turn.depth) (from c.args.tokens.now c.loop-turn.at) (length c.args.tokens.now - (c.loop-turn._turn + 1)) (omega arith) c.args.operator (from c.args.tokens.now c.in-Some.behind)
+    (ap (with_word c.args.operator) next) _ here in
     let p = err_from_is_err_and c.from_residual.result c.from_residual.ensures.1 in
     rw (p.1, p.2) (subst (Fails _) c.loop-turn.invariant.reads fails)
 
@@ -93,9 +93,9 @@ operands-loop-turn-preserved t c =
     let here = subst (λ l. expression_at c.args.parts l (from c.args.tokens.now c.in-Some.behind) ≡ Some (expr_of c.in_ok-other.other, c.in_ok-other.other_depth, from c.args.tokens.now c.in_ok-other.end)) c.item_level.ensures c.in_ok-other.ensures.reads in
     record {
       shallow = omega (arith, c.in_ok-other.ensures.shallow);
-      reads = chain_next (λ o e. e) (λ ts. with_word (boolean_of c.args.operator) (after_boolean (boolean_of c.args.operator) ts)) (λ o. expression_at c.args.parts (item_level o))
-          (length c.args.tokens.now - c.loop-turn._turn) (map expr_of c.loop-turn.others.items, c.loop-turn.depth) (from c.args.tokens.now c.loop-turn.at) (length c.args.tokens.now - (c.loop-turn._turn + 1)) (omega arith) (boolean_of c.args.operator) (from c.args.tokens.now c.in-Some.behind)
-          (ap (with_word (boolean_of c.args.operator)) next) _ _ _ here _ _ pushed c.max-depth.ensures
+      reads = chain_next (λ o e. e) (λ ts. with_word c.args.operator (after_boolean c.args.operator ts)) (λ o. expression_at c.args.parts (item_level o))
+          (length c.args.tokens.now - c.loop-turn._turn) (map expr_of c.loop-turn.others.items, c.loop-turn.depth) (from c.args.tokens.now c.loop-turn.at) (length c.args.tokens.now - (c.loop-turn._turn + 1)) (omega arith) c.args.operator (from c.args.tokens.now c.in-Some.behind)
+          (ap (with_word c.args.operator) next) _ _ _ here _ _ pushed c.max-depth.ensures
           ∙ c.loop-turn.invariant.reads;
     }
 

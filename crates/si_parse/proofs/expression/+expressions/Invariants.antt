@@ -1,7 +1,7 @@
 use Rattle.std.proofs.Common.{◌≡◌, ◌+◌, ◌-◌, ◌*◌, ◌≤◌, length, map}
 use Rattle.si_semantics.specs.Tokens as token
 use Rattle.si_semantics.specs.Grammar.{item_level, Sign}
-use Rattle.si_syntax.specs.Trees.{expr_of, link_of, boolean_of}
+use Rattle.si_syntax.specs.Trees.{expr_of, link_of}
 use Rattle.si_parse.specs.Reading.{continued_by, arguments_by, operands_by, links_by, separated_by, chain_by, with_word, after_boolean, comparison_at, compared_by, with_argument, argument_by, expression_at, after}
 use Rattle.si_parse.specs.Gives.{from, argument_of}
 use Rattle.si_parse.proofs.expression.+expressions.Given as goal
@@ -74,8 +74,8 @@ invariant-arguments-loop-turn l = record {
 abbrev pub invariant-operands-loop-turn : goal.invariant-operands-loop-turn
 invariant-operands-loop-turn l = record {
   shallow : l.depth ≤ l.parts;
-  reads : chain_by (λ o e. e) (λ ts. with_word (boolean_of l.operator) (after_boolean (boolean_of l.operator) ts)) (λ o. expression_at l.parts (item_level o)) (length l.tokens - l._turn) (map expr_of l.others.items, l.depth) (from l.tokens l.at)
-      ≡ operands_by (expression_at l.parts) (boolean_of l.operator) (from l.tokens l.start);
+  reads : chain_by (λ o e. e) (λ ts. with_word l.operator (after_boolean l.operator ts)) (λ o. expression_at l.parts (item_level o)) (length l.tokens - l._turn) (map expr_of l.others.items, l.depth) (from l.tokens l.at)
+      ≡ operands_by (expression_at l.parts) l.operator (from l.tokens l.start);
 }
 
 abbrev pub invariant-links-loop-turn : goal.invariant-links-loop-turn

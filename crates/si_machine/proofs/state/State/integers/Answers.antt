@@ -3,7 +3,6 @@ use Rattle.si_semantics.specs.Operations.{operate_integers}
 use Rattle.si_machine.specs.declared.state.State.{State}
 use Rattle.si_machine.specs.declared.cause.Cause.TheVariants.{Arithmetic}
 use Rattle.si_machine.specs.declared.value.Value.TheVariants as value
-use Rattle.si_syntax.specs.Trees.{binary_of}
 use Rattle.si_machine.proofs.Lines.{local, binary_did, binary_raises}
 use Rattle.si_machine.proofs.Truths.{ints_give, ints_raise}
 use Rattle.si_machine.proofs.state.State.integers.Goals as goal
@@ -12,7 +11,7 @@ pub returns-in-Ok : goal.returns-in-Ok
 returns-in-Ok c =
     let h = c.requires.ready.state in
     let old = c.args.self.now in
-    let o = binary_of c.args.operator in
+    let o = c.args.operator in
     let i = c.args.a in
     let j = c.args.b in
     let n = c.in-Ok.n in
@@ -27,7 +26,7 @@ returns-in-Ok c =
 pub returns-in-Err : goal.returns-in-Err
 returns-in-Err c =
     let old = c.args.self.now in
-    let o = binary_of c.args.operator in
+    let o = c.args.operator in
     let i = c.args.a in
     let j = c.args.b in
     let kind = c.in-Err.kind in
