@@ -22,7 +22,7 @@ use Rattle.si_machine.specs.Outcomes.{outcome_of}
 use Rattle.si_cli.specs.declared.interpreter.Standing.{Standing}
 use Rattle.si_cli.specs.declared.interpreter.Standing.TheVariants.{AtEnd, Ready, Starved}
 use Rattle.si_cli.specs.declared.interpreter.Solo.{Solo}
-use Rattle.si_cli.specs.Courses.{HasRun, IsUnderWay}
+use Rattle.si_cli.specs.inner.Courses.{HasRun, IsUnderWay}
 use Rattle.si_cli.specs.Runs.{ShowsLife, Stands, one_run}
 
 -- a line of a course is the same line from here on, behind what was run and printed before; with the end of a run

@@ -1,6 +1,6 @@
-pub mod Courses
 pub mod Runs
 pub mod Service
 pub mod Status
 pub mod Views
 pub mod Words
+pub mod inner

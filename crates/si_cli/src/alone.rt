@@ -3,9 +3,9 @@
 ghost use Rattle.std.specs.Prelude.{◌≡◌, ◌≤◌, ℕ, List, None, Some, true, IfErr, IfOk};
 ghost use Rattle.si_semantics.specs.World.{Answer};
 ghost use Rattle.si_semantics.specs.Tree.{Stmts};
-ghost use Rattle.si_parse.specs.Gives.{IsSyntax};
+ghost use Rattle.si_parse.specs.inner.Gives.{IsSyntax};
 ghost use Rattle.si_scope.specs.Scripts.{script_of};
-ghost use Rattle.si_cli.specs.Courses.{HasRun, IsUnderWay};
+ghost use Rattle.si_cli.specs.inner.Courses.{HasRun, IsUnderWay};
 ghost use Rattle.si_cli.specs.Runs.{IsRunOf, IsTaken, ShowsLife, one_run};
 ghost use Rattle.si_cli.specs.Views.{AreUsed, HasUsed};
 

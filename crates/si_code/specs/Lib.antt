@@ -1,3 +1,3 @@
 pub mod Contents
 pub mod Views
-pub mod Jumps
+pub mod inner

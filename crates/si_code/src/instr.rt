@@ -2,7 +2,7 @@
 ghost use Rattle.std.specs.Prelude.{◌≡◌, List, ℕ};
 ghost use Rattle.si_code.specs.Contents.{Resolves};
 ghost use Rattle.si_code.specs.Views.{instr_of};
-ghost use Rattle.si_code.specs.Jumps.{aimed};
+ghost use Rattle.si_code.specs.inner.Jumps.{aimed};
 
 use si_plain::{BinaryOperator, BooleanOperator, ComparisonOperator, UnaryOperator};
 

@@ -5,7 +5,7 @@
 //
 // In reading order: `instr`, the instructions, each with what it takes and leaves; `routine`, what is known of a
 // function's code; `table`, their lines, literals and slots. specs/Contents.antt and specs/Views.antt say what a table
-// has and what it stands for; specs/Jumps.antt is for the proofs alone.
+// has and what it stands for; specs/inner/Jumps.antt is for the proofs alone.
 #![tactic(auto)]
 
 pub mod instr;

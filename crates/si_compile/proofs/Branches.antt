@@ -12,8 +12,8 @@ use Rattle.si_syntax.specs.Trees.{expr_of, link_of}
 use Rattle.si_compile.specs.Code.{expr_code, operands_code, chain_code, branch_code, stmts_code}
 use Rattle.std.specs.List.{AllByRecursion}
 use Rattle.si_code.specs.Contents.{Contents, Extends}
-use Rattle.si_code.specs.Jumps.{Due, Aims, AimsAll}
-use Rattle.si_compile.specs.Jumps.{branch_front}
+use Rattle.si_code.specs.inner.Jumps.{Due, Aims, AimsAll}
+use Rattle.si_compile.specs.inner.Jumps.{branch_front}
 use Rattle.si_code.specs.Views.{Gains}
 use Rattle.si_code.proofs.Codes.{Gains-nil, Gains-append}
 use Rattle.si_plain.proofs.Begins.{length-Begins}

@@ -18,8 +18,8 @@ use Rattle.si_syntax.specs.declared.stmt.Stmt.{Stmt}
 use Rattle.si_syntax.specs.Trees.{body_of, expr_of, view_step, link_of, elif_of}
 use Rattle.si_compile.specs.Code.{expr_code, operands_code, chain_code, stmt_code, stmts_code, bind_code}
 use Rattle.si_code.specs.Contents.{Contents, Extends}
-use Rattle.si_code.specs.Jumps.{Due, Aims}
-use Rattle.si_compile.specs.Jumps.{branch_front, turn_front, round_front}
+use Rattle.si_code.specs.inner.Jumps.{Due, Aims}
+use Rattle.si_compile.specs.inner.Jumps.{branch_front, turn_front, round_front}
 use Rattle.si_code.specs.Views.{Gains}
 use Rattle.si_code.proofs.Codes.{Gains-append}
 use Rattle.si_plain.proofs.Begins.{length-Begins}

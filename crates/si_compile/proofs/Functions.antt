@@ -22,8 +22,8 @@ use Rattle.si_code.proofs.Codes.{Gains-nil, Gains-append, Gains-alone, GainsRout
 use Rattle.si_code.proofs.Jumped.{get_here, length_gained}
 use Rattle.si_syntax.proofs.Rows.{rest_is}
 use Rattle.si_compile.specs.Code.{stmts_code, function_code, functions_code, entries_from, module_code}
-use Rattle.si_compile.specs.Functions.{StandAt, GainsFunctions, loop_functions, finally_functions}
-use Rattle.si_compile.specs.Jumps.{front_functions}
+use Rattle.si_compile.specs.inner.Functions.{StandAt, GainsFunctions, loop_functions, finally_functions}
+use Rattle.si_compile.specs.inner.Jumps.{front_functions}
 use Rattle.si_compile.proofs.Forms.{elif_defines}
 use Rattle.si_compile.proofs.Seen.{Handler, define_seen, while_seen, for_seen, try_seen, finally_seen}
 

@@ -11,9 +11,9 @@ use Rattle.si_syntax.specs.declared.stmt.Stmt.{Stmt}
 use Rattle.si_syntax.specs.Trees.{body_of, clause_of}
 use Rattle.si_syntax.proofs.Rows.{rest_is}
 use Rattle.si_compile.specs.Code.{expr_code, stmt_code, stmts_code, finally_code, named_code, store_code, unbind_code, clause_code, clauses_code, try_code}
-use Rattle.si_compile.specs.Jumps.{clause_front, only_finally, tried}
+use Rattle.si_compile.specs.inner.Jumps.{clause_front, only_finally, tried}
 use Rattle.si_code.specs.Contents.{Contents}
-use Rattle.si_code.specs.Jumps.{Due, Aims}
+use Rattle.si_code.specs.inner.Jumps.{Due, Aims}
 use Rattle.si_code.specs.Views.{Gains}
 use Rattle.si_code.proofs.Codes.{Gains-append}
 use Rattle.si_code.proofs.Jumped.{length_gained, Due-jump}

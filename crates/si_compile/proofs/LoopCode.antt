@@ -2,9 +2,9 @@
 use Rattle.std.proofs.Common.{◌≡◌, ℕ, ◌+◌, ◌-◌, ◌≤◌, List, [], ◌∷◌, ◌++◌, length, ap, subst, ◌∙◌, append_assoc, length-append, sym, arith}
 use Rattle.si_semantics.specs.Machine.{Instr, JumpIfFalse, Jump, EnterLoop, StartFor, NextItem, LeaveBlock, DoContinue}
 use Rattle.si_compile.specs.Code.{loop_code, for_code}
-use Rattle.si_compile.specs.Jumps.{turn_front, round_front}
+use Rattle.si_compile.specs.inner.Jumps.{turn_front, round_front}
 use Rattle.si_code.specs.Contents.{Contents, Extends}
-use Rattle.si_code.specs.Jumps.{Aims}
+use Rattle.si_code.specs.inner.Jumps.{Aims}
 use Rattle.si_code.specs.Views.{Gains}
 use Rattle.si_plain.proofs.Begins.{length-Begins}
 use Rattle.si_code.proofs.Codes.{Gains-append}

@@ -16,7 +16,7 @@ use Rattle.si_syntax.proofs.Forms.{if_is, try_is, finally_is}
 use Rattle.si_code.specs.Contents.{Contents}
 use Rattle.si_code.specs.Views.{Gains}
 use Rattle.si_compile.specs.Code.{stmt_code}
-use Rattle.si_compile.specs.Jumps.{tried, clauses_in}
+use Rattle.si_compile.specs.inner.Jumps.{tried, clauses_in}
 
 abbrev pub Tested : Type 0
 Tested = Expr × Vec Stmt Global

@@ -1,5 +1,4 @@
 pub mod Code
-pub mod Jumps
-pub mod Functions
 pub mod Correct
 pub mod Interpreter
+pub mod inner

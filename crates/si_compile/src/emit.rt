@@ -8,7 +8,7 @@ ghost use Rattle.si_semantics.specs.Value.{Function, Nothing};
 ghost use Rattle.si_syntax.specs.Trees.{body_of, expr_of, stmt_of, target_of};
 ghost use Rattle.si_compile.specs.Code.{bind_code, expr_code, raise_code, return_code, stmt_code, stmts_code, store_code, target_code, unbind_code};
 ghost use Rattle.si_code.specs.Contents.{Extends};
-ghost use Rattle.si_compile.specs.Jumps.{branch_front, only_if};
+ghost use Rattle.si_compile.specs.inner.Jumps.{branch_front, only_if};
 ghost use Rattle.si_code.specs.Views.{Gains};
 
 use crate::expression::{emit_expr, emit_load};

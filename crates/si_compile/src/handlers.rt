@@ -6,7 +6,7 @@ ghost use Rattle.si_semantics.specs.Scope.{place_of};
 ghost use Rattle.si_semantics.specs.Tree.{functions_in, functions_in_clauses, functions_of};
 ghost use Rattle.si_syntax.specs.Trees.{body_of, expr_of, stmt_of};
 ghost use Rattle.si_compile.specs.Code.{clauses_code, finally_code, named_code, stmt_code, stmts_code, store_code, unbind_code};
-ghost use Rattle.si_compile.specs.Jumps.{clause_front, clauses_in, only_finally, tried};
+ghost use Rattle.si_compile.specs.inner.Jumps.{clause_front, clauses_in, only_finally, tried};
 ghost use Rattle.si_code.specs.Contents.{Contents, Extends};
 ghost use Rattle.si_code.specs.Views.{Gains};
 

@@ -6,7 +6,7 @@
 //
 // In reading order: `emit`, the code of each statement; `expression`, `loops` and `handlers`, that of expressions, of loops
 // and of `try`; `script`, the code of a whole script, functions first; `laws`, which specs/Correct.antt and
-// specs/Interpreter.antt state. specs/Jumps.antt and specs/Functions.antt are for the proofs alone.
+// specs/Interpreter.antt state. specs/inner/Jumps.antt and specs/inner/Functions.antt are for the proofs alone.
 #![tactic(auto)]
 
 pub mod emit;

@@ -4,7 +4,7 @@ ghost use Rattle.si_semantics.specs.Machine as machine;
 ghost use Rattle.si_semantics.specs.Tree.{functions_in, functions_of};
 ghost use Rattle.si_syntax.specs.Trees.{body_of, expr_of, stmt_of, target_of};
 ghost use Rattle.si_compile.specs.Code.{bind_code, expr_code, stmt_code, stmts_code};
-ghost use Rattle.si_compile.specs.Jumps.{only_for, only_while, round_front, turn_front};
+ghost use Rattle.si_compile.specs.inner.Jumps.{only_for, only_while, round_front, turn_front};
 ghost use Rattle.si_code.specs.Contents.{Contents, Extends};
 ghost use Rattle.si_code.specs.Views.{Gains};
 

@@ -8,8 +8,8 @@ ghost use Rattle.si_scope.specs.Scripts.{script_of};
 ghost use Rattle.si_code.specs.Contents.{Extends};
 ghost use Rattle.si_code.specs.Views.{Gains, GainsRoutines, table_of};
 ghost use Rattle.si_compile.specs.Code.{compiled, entries_from, functions_code, module_code, stmts_code};
-ghost use Rattle.si_compile.specs.Functions.{GainsFunctions, StandAt, finally_functions, if_functions, loop_functions};
-ghost use Rattle.si_compile.specs.Jumps.{front_functions};
+ghost use Rattle.si_compile.specs.inner.Functions.{GainsFunctions, StandAt, finally_functions, if_functions, loop_functions};
+ghost use Rattle.si_compile.specs.inner.Jumps.{front_functions};
 
 use crate::emit::{emit_end, emit_suite};
 use si_code::{CodeTable, Entry, Instr, Routine};

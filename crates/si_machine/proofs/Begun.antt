@@ -18,7 +18,7 @@ use Rattle.si_plain.specs.declared.kind.Kind.{Kind}
 use Rattle.si_plain.specs.Kinds.{name_of}
 use Rattle.si_semantics.specs.Operations.{built_in, kind_named}
 use Rattle.si_machine.specs.Values.{Heap, bound_of, globals_of, FitsBound, FitsObject, AreBuiltIn}
-use Rattle.si_machine.specs.Firsts.{first_of, IsKnown}
+use Rattle.si_machine.specs.inner.Firsts.{first_of, IsKnown}
 
 -- the first elements and the next one
 take_suc : {A : Type 0} (xs : List A) (k : ℕ) (x : A) → slice_get xs k ≡ Some x → take (suc k) xs ≡ take k xs ++ x ∷ []

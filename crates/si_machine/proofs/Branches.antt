@@ -15,9 +15,9 @@ use Rattle.si_machine.specs.declared.value.Value.TheVariants as value
 use Rattle.si_machine.specs.declared.state.State.{State}
 use Rattle.si_machine.specs.declared.step.Step.{Step}
 use Rattle.si_machine.specs.declared.step.Step.TheVariants.{Local}
-use Rattle.si_machine.specs.Causes.{threw}
-use Rattle.si_machine.specs.Sound.{FitsBlock, calls_in}
-use Rattle.si_machine.specs.States.{value_in, IsThere, AreThere, IsReady, Did, Does, blocks_in, blocks_of, slots_of, world_of, line_of, with_operands, IsRaised}
+use Rattle.si_machine.specs.inner.Causes.{threw}
+use Rattle.si_machine.specs.inner.Sound.{FitsBlock, calls_in}
+use Rattle.si_machine.specs.inner.States.{value_in, IsThere, AreThere, IsReady, Did, Does, blocks_in, blocks_of, slots_of, world_of, line_of, with_operands, IsRaised}
 use Rattle.si_machine.proofs.Lines.{alike, line_on, at_line, blocks_line, moved, blocks_did, moved_did, advanced_did, below, topmost, below_two, second}
 
 -- ---- comparisons

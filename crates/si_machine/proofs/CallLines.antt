@@ -25,8 +25,8 @@ use Rattle.si_machine.specs.declared.step.Step.{Step}
 use Rattle.si_machine.specs.declared.step.Step.TheVariants.{Local, Ended, Starved}
 use Rattle.si_machine.specs.Values.{Heap, value_of, built_in_of, FitsObject}
 use Rattle.si_machine.specs.Outcomes.{outcome_of}
-use Rattle.si_machine.specs.Causes.{threw, RunsIn, IsUnwritten, GoesOn}
-use Rattle.si_machine.specs.States.{value_in, object_in, IsThere, IsReady, Did, Does, Moves, bytes_of, place_of, IsMade, place_in, slots_of, blocks_of, world_of, line_of, IsRaised}
+use Rattle.si_machine.specs.inner.Causes.{threw, RunsIn, IsUnwritten, GoesOn}
+use Rattle.si_machine.specs.inner.States.{value_in, object_in, IsThere, IsReady, Did, Does, Moves, bytes_of, place_of, IsMade, place_in, slots_of, blocks_of, world_of, line_of, IsRaised}
 use Rattle.si_machine.proofs.Lines.{alike, yields_on, moved, with_here, starved_store, grown_did}
 use Rattle.si_machine.proofs.Frames.{call_line, call_refused}
 

@@ -11,7 +11,7 @@ use Rattle.si_machine.specs.declared.value.Value.TheVariants as value
 use Rattle.si_machine.specs.Values.{value_of}
 use Rattle.si_machine.specs.declared.value.Object.{Object}
 use Rattle.si_machine.specs.declared.value.Object.TheVariants.{Caused, Made}
-use Rattle.si_machine.specs.Causes.{object_of, kind_in}
+use Rattle.si_machine.specs.inner.Causes.{object_of, kind_in}
 
 by_kind : (texts names : List pure.Text) (top : Kind) (o : Object) → is_of top (Some (object_of texts names o)) ≡ is_a (kind_in o) top
 by_kind texts names top (Caused cause) = refl

@@ -27,10 +27,10 @@ use Rattle.si_machine.specs.declared.state.State.{State}
 use Rattle.si_machine.specs.declared.step.Step.{Step}
 use Rattle.si_machine.specs.declared.step.Step.TheVariants.{Local, Ended, Starved}
 use Rattle.si_machine.specs.Values.{Heap, value_of, bound_of, Fits, FitsBound}
-use Rattle.si_machine.specs.Causes.{threw, not_bound, not_bound_cause}
-use Rattle.si_machine.specs.Stacks.{OperandsSeen, SlotsSeen, back_with, back, left_by, slot_in, unbound, passed, entered}
-use Rattle.si_machine.specs.Sound.{SoundStacks, FitsBlock, calls_in}
-use Rattle.si_machine.specs.States.{value_in, bound_in, IsThere, AreThere, IsSound, IsReady, Did, Does, place_in, innermost, blocks_with, blocks_of, slots_of, world_of, line_of, with_operands, back_at, IsRaised, IsPrinted, IsCallee, IsEntered, entered_operands, entered_slots}
+use Rattle.si_machine.specs.inner.Causes.{threw, not_bound, not_bound_cause}
+use Rattle.si_machine.specs.inner.Stacks.{OperandsSeen, SlotsSeen, back_with, back, left_by, slot_in, unbound, passed, entered}
+use Rattle.si_machine.specs.inner.Sound.{SoundStacks, FitsBlock, calls_in}
+use Rattle.si_machine.specs.inner.States.{value_in, bound_in, IsThere, AreThere, IsSound, IsReady, Did, Does, place_in, innermost, blocks_with, blocks_of, slots_of, world_of, line_of, with_operands, back_at, IsRaised, IsPrinted, IsCallee, IsEntered, entered_operands, entered_slots}
 use Rattle.si_machine.proofs.Growth.{All-innermost}
 use Rattle.si_machine.proofs.Lines.{alike, line_on, yields_on, placed_line, moved, with_here, below, topmost, starved_did, placed_did}
 

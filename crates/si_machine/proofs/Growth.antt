@@ -19,10 +19,10 @@ use Rattle.si_machine.specs.declared.blocks.Leaving.TheVariants as leaving
 use Rattle.si_machine.specs.declared.blocks.Block.{Block}
 use Rattle.si_machine.specs.declared.blocks.Block.TheVariants as block
 use Rattle.si_machine.specs.Values.{Heap, Extends, value_of, bound_of, items_of, leaving_of, Fits, FitsBound, FitsItems, FitsLeaving, FitsObject}
-use Rattle.si_machine.specs.Causes.{object_of}
-use Rattle.si_machine.specs.Stacks.{OperandsSeen, SlotsSeen}
-use Rattle.si_machine.specs.Sound.{calls_in, FitsBlock, SoundStacks, SoundHeap}
-use Rattle.si_machine.specs.States.{innermost, blocks_with}
+use Rattle.si_machine.specs.inner.Causes.{object_of}
+use Rattle.si_machine.specs.inner.Stacks.{OperandsSeen, SlotsSeen}
+use Rattle.si_machine.specs.inner.Sound.{calls_in, FitsBlock, SoundStacks, SoundHeap}
+use Rattle.si_machine.specs.inner.States.{innermost, blocks_with}
 
 -- what holds of all lists' elements holds of the innermost one's
 pub All-innermost : {A : Type 0} (P : A → Type 0) (lists : List (List A)) → All (λ xs. All P xs) lists → All P (innermost lists)

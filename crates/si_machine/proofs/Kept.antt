@@ -23,8 +23,8 @@ use Rattle.si_machine.specs.declared.value.Value.{Value}
 use Rattle.si_machine.proofs.Lines.{no_stacks}
 use Rattle.si_machine.specs.Outcomes.{outcome_of}
 use Rattle.si_machine.specs.Machines.{Seen, moment_of, from_here, IsAt, printed_of, Steps}
-use Rattle.si_machine.specs.Sound.{SoundStacks, SoundHeap, SoundCode}
-use Rattle.si_machine.specs.States.{object_in, IsSound, IsKept, IsOpen, Moves, Did, bytes_of, is_starved, no_operands, no_slots, place_in, place_of, blocks_of, operands_of, slots_of, world_of, next_line, seen}
+use Rattle.si_machine.specs.inner.Sound.{SoundStacks, SoundHeap, SoundCode}
+use Rattle.si_machine.specs.inner.States.{object_in, IsSound, IsKept, IsOpen, Moves, Did, bytes_of, is_starved, no_operands, no_slots, place_in, place_of, blocks_of, operands_of, slots_of, world_of, next_line, seen}
 
 -- ---- courses
 

@@ -20,10 +20,10 @@ use Rattle.si_machine.specs.declared.step.Outcome.TheVariants.{Returned, Raised}
 use Rattle.si_machine.specs.declared.step.Step.{Step}
 use Rattle.si_machine.specs.declared.step.Step.TheVariants.{Local, Ended}
 use Rattle.si_machine.specs.Values.{Heap, value_of, bound_of, leaving_of, Fits, FitsLeaving}
-use Rattle.si_machine.specs.Blocks.{concerns, reached, is_handled, active_of, NoFrame, LeavesFrame, IsMet, left_with, left_to, IsPlain}
-use Rattle.si_machine.specs.Stacks.{OperandsSeen, SlotsSeen, back, left_by}
-use Rattle.si_machine.specs.Sound.{FitsBlock, calls_in}
-use Rattle.si_machine.specs.States.{value_in, bound_in, IsThere, IsSound, IsReady, Did, Does, Unwinds, innermost, blocks_with, blocks_in, slots_of, world_of, with_operands, at_rest, back_at, leave_line}
+use Rattle.si_machine.specs.inner.Blocks.{concerns, reached, is_handled, active_of, NoFrame, LeavesFrame, IsMet, left_with, left_to, IsPlain}
+use Rattle.si_machine.specs.inner.Stacks.{OperandsSeen, SlotsSeen, back, left_by}
+use Rattle.si_machine.specs.inner.Sound.{FitsBlock, calls_in}
+use Rattle.si_machine.specs.inner.States.{value_in, bound_in, IsThere, IsSound, IsReady, Did, Does, Unwinds, innermost, blocks_with, blocks_in, slots_of, world_of, with_operands, at_rest, back_at, leave_line}
 use Rattle.si_machine.proofs.Growth.{All-innermost}
 use Rattle.si_machine.proofs.Lines.{alike, with_blocks, sound_at, rest_sound, topmost, blocks_did, finished_did}
 use Rattle.si_machine.proofs.Frames.{return_line, caller_operands, caller_slots, caller_sound, back_did, left_operands, back_slots, caller_there}

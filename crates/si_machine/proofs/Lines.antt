@@ -29,10 +29,10 @@ use Rattle.si_machine.specs.declared.step.Outcome.TheVariants.{Returned}
 use Rattle.si_machine.specs.declared.step.Step.{Step}
 use Rattle.si_machine.specs.declared.step.Step.TheVariants.{Local, Ended, Starved}
 use Rattle.si_machine.specs.Values.{Heap, Extends, value_of, bound_of, globals_of, Fits, FitsBound, AreBuiltIn}
-use Rattle.si_machine.specs.Causes.{Runs, object_of, threw, not_defined, not_defined_cause}
-use Rattle.si_machine.specs.Stacks.{OperandsSeen, SlotsSeen}
-use Rattle.si_machine.specs.States.{value_in, bound_in, object_in, IsThere, AreThere, IsSound, IsReady, IsOpen, Did, Does, place_in, blocks_with, blocks_in, blocks_of, operands_of, slots_of, world_of, line_of, no_operands, no_slots, with_operands, at_rest, IsRaised, IsPushed}
-use Rattle.si_machine.specs.Sound.{SoundStacks, SoundCode, FitsBlock, calls_in}
+use Rattle.si_machine.specs.inner.Causes.{Runs, object_of, threw, not_defined, not_defined_cause}
+use Rattle.si_machine.specs.inner.Stacks.{OperandsSeen, SlotsSeen}
+use Rattle.si_machine.specs.inner.States.{value_in, bound_in, object_in, IsThere, AreThere, IsSound, IsReady, IsOpen, Did, Does, place_in, blocks_with, blocks_in, blocks_of, operands_of, slots_of, world_of, line_of, no_operands, no_slots, with_operands, at_rest, IsRaised, IsPushed}
+use Rattle.si_machine.specs.inner.Sound.{SoundStacks, SoundCode, FitsBlock, calls_in}
 use Rattle.si_machine.proofs.Growth.{literals_there, values_stay, values_fit_more, locals_stay, blocks_stay, blocks_fit_more, objects_stay, stacks_more, heap_more}
 
 -- the line of an instruction on these operands

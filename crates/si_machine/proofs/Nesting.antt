@@ -15,7 +15,7 @@ use Rattle.si_machine.specs.declared.cause.Cause.{Cause}
 use Rattle.si_machine.specs.declared.cause.Fault.{Fault}
 use Rattle.si_machine.specs.declared.cause.Fault.TheVariants as fault
 use Rattle.si_machine.specs.Values.{value_of}
-use Rattle.si_machine.specs.Causes.{object_of, kind_of, message_in, caused_str, opening, Appends, Grows}
+use Rattle.si_machine.specs.inner.Causes.{object_of, kind_of, message_in, caused_str, opening, Appends, Grows}
 use Rattle.si_machine.proofs.Spelled.{repr_next, str_next, repr_caused, str_caused, str_argument}
 
 -- the repr of a value that is an object, by what stands at its place

@@ -3,7 +3,7 @@ use Rattle.std.proofs.Common.{◌≡◌, ℕ, ◌+◌, ◌-◌, ◌<◌, ◌≤�
 use Rattle.std.specs.Prelude.{reverse, slice_set, map}
 use Rattle.std.proofs.lemmas.List.{take-take, take-append-le, drop-append-le, drop-drop, drop_all, length-append, length-reverse, length-take-le, length-drop, length-map, get_or-drop, reverse-append, take_rest, set_split}
 use Rattle.si_machine.specs.declared.value.Value.{Value}
-use Rattle.si_machine.specs.Stacks.{OperandsSeen, operands_seen, parts, Ascends, back_with, left_by}
+use Rattle.si_machine.specs.inner.Stacks.{OperandsSeen, operands_seen, parts, Ascends, back_with, left_by}
 use Rattle.si_machine.proofs.Tops.{inserted, top_is, call_at}
 use Rattle.si_machine.proofs.Parts.{parts_same, length-parts, behind_base, without_top}
 

@@ -2,7 +2,7 @@
 use Rattle.std.proofs.Common.{◌≡◌, ℕ, suc, ◌+◌, ◌-◌, ◌≤◌, List, [], ◌∷◌, length, take, drop, refl, sym, ap, ◌∙◌, arith}
 use Rattle.std.specs.Prelude.{reverse}
 use Rattle.std.proofs.lemmas.List.{take-take, drop-take, length-drop}
-use Rattle.si_machine.specs.Stacks.{parts, Ascends}
+use Rattle.si_machine.specs.inner.Stacks.{parts, Ascends}
 use Rattle.si_machine.proofs.Tops.{rest_is}
 
 -- two lists that are the same below the base have the same parts

@@ -12,7 +12,7 @@ use Rattle.si_machine.specs.declared.cause.Cause.TheVariants.{Arithmetic, TooLon
 use Rattle.si_machine.specs.declared.cause.Fault.{Fault}
 use Rattle.si_machine.specs.declared.cause.Fault.TheVariants as fault
 use Rattle.si_machine.specs.Values.{value_of}
-use Rattle.si_machine.specs.Causes.{IsUnwritten, GoesOn, Prints, spaced_in}
+use Rattle.si_machine.specs.inner.Causes.{IsUnwritten, GoesOn, Prints, spaced_in}
 
 -- a text and the next one, where both can be written; the first that can't decides
 abbrev joined : (p q : Result pure.Text Kind) → Result pure.Text Kind

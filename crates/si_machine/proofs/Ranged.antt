@@ -8,7 +8,7 @@ use Rattle.si_machine.specs.declared.cause.Fault.TheVariants as fault
 use Rattle.si_machine.specs.declared.value.Value.{Value}
 use Rattle.si_machine.specs.declared.value.Value.TheVariants as value
 use Rattle.si_machine.specs.Values.{value_of, integer_of}
-use Rattle.si_machine.specs.Causes.{Runs, RunsIn}
+use Rattle.si_machine.specs.inner.Causes.{Runs, RunsIn}
 
 -- what runs in every world runs in those with these objects
 pub runs_in : (objects : List pure.Object) (f : World → Ran) (old new : List pure.Text) (r : Result Value Fault) → Runs f old new r → RunsIn objects f old new r

@@ -10,7 +10,7 @@ use Rattle.si_machine.specs.declared.value.Value.TheVariants as value
 use Rattle.si_machine.specs.declared.items.Items.{Items}
 use Rattle.si_machine.specs.declared.items.Items.TheVariants.{Numbers}
 use Rattle.si_machine.specs.Values.{value_of, GivesNext}
-use Rattle.si_machine.specs.Causes.{answer_of}
+use Rattle.si_machine.specs.inner.Causes.{answer_of}
 
 -- three integers, each by another that is equal
 three : {B : Type 0} (g : ℤ → ℤ → ℤ → B) (a b c x y z : ℤ) → x ≡ a → y ≡ b → z ≡ c → g x y z ≡ g a b c

@@ -4,7 +4,7 @@ use Rattle.std.specs.Prelude.{reverse, slice_set, replicate}
 use Rattle.std.proofs.lemmas.List.{append-nil, length-drop, drop_all, take_rest, take-take, take-append-le, take-set-le, take_all, take_more, take_at, drop-set-add, drop_at, drop_more, drop-replicate, length-take-le, reverse-append, set_at}
 use borrow.Rule.Slice.PartMut.{post_of}
 use Rattle.si_machine.specs.declared.value.Value.{Value}
-use Rattle.si_machine.specs.Stacks.{SlotsSeen, slots_seen, parts, Ascends, back, unbound, passed, entered}
+use Rattle.si_machine.specs.inner.Stacks.{SlotsSeen, slots_seen, parts, Ascends, back, unbound, passed, entered}
 use Rattle.si_machine.proofs.Parts.{parts_same}
 
 abbrev pub seen : List (Option Value) → List (List (Option Value)) → SlotsSeen

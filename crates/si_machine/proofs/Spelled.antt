@@ -10,7 +10,7 @@ use Rattle.si_semantics.specs.Text.{repr_of, str_of, repr_object, str_object, re
 use Rattle.si_machine.specs.declared.value.Object.{Object}
 use Rattle.si_machine.specs.declared.value.Object.TheVariants.{Caused}
 use Rattle.si_machine.specs.declared.cause.Cause.{Cause}
-use Rattle.si_machine.specs.Causes.{object_of, kind_of, message_in, caused_str, opening}
+use Rattle.si_machine.specs.inner.Causes.{object_of, kind_of, message_in, caused_str, opening}
 
 -- a str is its own str
 pub str_own : (n : ℕ) (objects : List pure.Object) (s : pure.Text) → str_of n objects (pure.Str s) ≡ Some s

@@ -6,7 +6,7 @@ use Rattle.si_semantics.specs.World.{World, Ran}
 use Rattle.si_semantics.specs.Text.{max_length}
 use Rattle.si_semantics.specs.Operations.{times, repeated, gave, too_long, within}
 use Rattle.si_code.specs.Views.{text_at}
-use Rattle.si_machine.specs.Causes.{repeated_text, copies_of, Adds, Runs, threw}
+use Rattle.si_machine.specs.inner.Causes.{repeated_text, copies_of, Adds, Runs, threw}
 use Rattle.si_machine.specs.declared.value.Value.TheVariants as value
 use Rattle.si_machine.specs.declared.cause.Fault.{Fault}
 use Rattle.si_machine.specs.declared.cause.Fault.TheVariants as fault

@@ -20,7 +20,7 @@ use Rattle.si_machine.specs.declared.cause.Cause.TheVariants.{Arithmetic}
 use Rattle.si_plain.specs.declared.kind.Kind.{Kind}
 use Rattle.si_machine.specs.declared.value.Value.TheVariants as value
 use Rattle.si_machine.specs.Values.{value_of}
-use Rattle.si_machine.specs.Causes.{Runs, threw}
+use Rattle.si_machine.specs.inner.Causes.{Runs, threw}
 use Rattle.si_code.specs.Views.{text_at}
 
 -- what a truth counts as is an integer of 64 bits

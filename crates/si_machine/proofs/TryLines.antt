@@ -20,10 +20,10 @@ use Rattle.si_machine.specs.declared.state.State.{State}
 use Rattle.si_machine.specs.declared.step.Step.{Step}
 use Rattle.si_machine.specs.declared.step.Step.TheVariants.{Local}
 use Rattle.si_machine.specs.Values.{Heap, value_of, items_of, Fits, FitsItems, GivesNext}
-use Rattle.si_machine.specs.Causes.{threw}
-use Rattle.si_machine.specs.Blocks.{active_of}
-use Rattle.si_machine.specs.Sound.{FitsBlock, calls_in}
-use Rattle.si_machine.specs.States.{value_in, IsReady, Did, Does, blocks_in, blocks_of, operands_of, slots_of, world_of, line_of, with_operands, IsRaised, leave_line}
+use Rattle.si_machine.specs.inner.Causes.{threw}
+use Rattle.si_machine.specs.inner.Blocks.{active_of}
+use Rattle.si_machine.specs.inner.Sound.{FitsBlock, calls_in}
+use Rattle.si_machine.specs.inner.States.{value_in, IsReady, Did, Does, blocks_in, blocks_of, operands_of, slots_of, world_of, line_of, with_operands, IsRaised, leave_line}
 use Rattle.si_machine.proofs.Growth.{blocks_stay}
 use Rattle.si_machine.proofs.Lines.{alike, line_on, moved, blocks_did, below, advanced_did, grown_with}
 use Rattle.si_machine.proofs.Leavings.{active_same}

@@ -12,7 +12,7 @@ use Rattle.si_machine.specs.declared.cause.Fault.{Fault}
 use Rattle.si_machine.specs.declared.cause.Fault.TheVariants as fault
 use Rattle.si_machine.specs.declared.value.Value.{Value}
 use Rattle.si_machine.specs.declared.value.Value.TheVariants as value
-use Rattle.si_machine.specs.Causes.{Grows, Writes, IsUnwritten, RunsIn, threw}
+use Rattle.si_machine.specs.inner.Causes.{Grows, Writes, IsUnwritten, RunsIn, threw}
 use Rattle.si_machine.proofs.Nesting.{passed}
 use Rattle.si_machine.proofs.Strings.{added}
 

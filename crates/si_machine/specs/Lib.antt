@@ -1,9 +1,4 @@
-pub mod Stacks
-pub mod Blocks
 pub mod Values
-pub mod Causes
 pub mod Outcomes
 pub mod Machines
-pub mod Sound
-pub mod Firsts
-pub mod States
+pub mod inner

@@ -1,7 +1,7 @@
 // How values that are no objects are written.
 ghost use Rattle.std.specs.Prelude.{codes, ◌≡◌, ◌++◌, OnOk};
 ghost use Rattle.std.specs.Fmt.{signed_decimal};
-ghost use Rattle.si_machine.specs.Causes.{range_end};
+ghost use Rattle.si_machine.specs.inner.Causes.{range_end};
 ghost use Rattle.si_semantics.specs.Text as semantics;
 ghost use Rattle.si_machine.specs.Values.{value_of, built_in_of};
 

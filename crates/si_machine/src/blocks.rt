@@ -1,7 +1,7 @@
 // What was entered and not left: bodies of loops, items of a `for`, suites of a `try`, its clauses and its finally
 // suite, calls.
 ghost use Rattle.std.specs.Prelude.{◌≡◌, ◌<◌, List, [], ◌∷◌, length, drop, OnOk, OnErr, MatchOption};
-ghost use Rattle.si_machine.specs.Blocks.{concerns, reached, handles, is_handled, active_in, active_of, LeavesFrame, left_with, left_to};
+ghost use Rattle.si_machine.specs.inner.Blocks.{concerns, reached, handles, is_handled, active_in, active_of, LeavesFrame, left_with, left_to};
 
 use crate::items::Items;
 use crate::value::Value;

@@ -5,8 +5,8 @@ ghost use Rattle.si_semantics.specs.World.{World};
 ghost use Rattle.si_semantics.specs.Operations as operations;
 ghost use Rattle.si_code.specs.Views.{text_at};
 ghost use Rattle.si_machine.specs.Values.{value_of};
-ghost use Rattle.si_machine.specs.Causes.{threw};
-ghost use Rattle.si_machine.specs.States.{IsReadyFor, IsPrinted, IsCallee, IsEntered, IsMade, Does, entered_operands};
+ghost use Rattle.si_machine.specs.inner.Causes.{threw};
+ghost use Rattle.si_machine.specs.inner.States.{IsReadyFor, IsPrinted, IsCallee, IsEntered, IsMade, Does, entered_operands};
 
 use crate::blocks::{Block, Leaving};
 use crate::cause::{Cause, Fault};

@@ -1,7 +1,7 @@
 // Why an exception was raised, and what it says.
 ghost use Rattle.std.specs.Prelude.{◌≡◌, ◌++◌, ◌∷◌, [], IfOk, OnOk, length, nat_lt, if◌then◌else◌};
 ghost use Rattle.si_semantics.specs.Text.{max_length};
-ghost use Rattle.si_machine.specs.Causes.{kind_of, message_in, not_bound, not_defined};
+ghost use Rattle.si_machine.specs.inner.Causes.{kind_of, message_in, not_bound, not_defined};
 ghost use Rattle.si_code.specs.Views.{text_at};
 
 use si_code::CodeTable;

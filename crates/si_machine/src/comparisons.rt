@@ -7,7 +7,7 @@ ghost use Rattle.si_semantics.specs.Operations as operations;
 ghost use Rattle.si_semantics.specs.Text.{same_text};
 ghost use Rattle.si_code.specs.Views.{text_at};
 ghost use Rattle.si_machine.specs.Values.{value_of, built_in_of};
-ghost use Rattle.si_machine.specs.Causes.{compared, answer_of};
+ghost use Rattle.si_machine.specs.inner.Causes.{compared, answer_of};
 
 use crate::cause::Cause;
 use crate::ranges::{is_item, is_same_range};

@@ -3,7 +3,7 @@ ghost use Rattle.std.specs.Prelude.{codes, ◌≡◌, List, map, IfOk, Option};
 ghost use Rattle.si_semantics.specs.Value.{Text as Characters};
 ghost use Rattle.si_semantics.specs.Operations as operations;
 ghost use Rattle.si_machine.specs.Values.{bound_of, AreBuiltIn};
-ghost use Rattle.si_machine.specs.Firsts.{first_of, IsKnown};
+ghost use Rattle.si_machine.specs.inner.Firsts.{first_of, IsKnown};
 
 use crate::cause::ascii;
 use crate::texts::Texts;

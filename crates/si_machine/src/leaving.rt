@@ -1,10 +1,10 @@
 // How exceptions are raised, and how suites are left: by an exception, `return`, `break` and `continue`.
 ghost use Rattle.std.specs.Prelude.{◌≡◌, ◌<◌, ℕ, List, [], ◌∷◌, true, false, map, length, drop, slice_get};
 ghost use Rattle.si_semantics.specs.Life as life;
-ghost use Rattle.si_machine.specs.Blocks.{is_handled, IsMet, IsPlain};
-ghost use Rattle.si_machine.specs.Causes.{object_of, not_defined_cause, not_bound_cause};
+ghost use Rattle.si_machine.specs.inner.Blocks.{is_handled, IsMet, IsPlain};
+ghost use Rattle.si_machine.specs.inner.Causes.{object_of, not_defined_cause, not_bound_cause};
 ghost use Rattle.si_machine.specs.Values.{FitsObject, FitsLeaving};
-ghost use Rattle.si_machine.specs.States.{IsReady, IsRaised, Unwinds, Did, raised_line, leave_line, with_operands, at_rest, back_at};
+ghost use Rattle.si_machine.specs.inner.States.{IsReady, IsRaised, Unwinds, Did, raised_line, leave_line, with_operands, at_rest, back_at};
 
 use crate::blocks::{Block, Leaving};
 use crate::cause::{Cause, is_too_long_about, is_too_long_about_local, name_at};

@@ -25,7 +25,7 @@ pub struct Machine {
 
 impl Model for Machine {
     ghost use Rattle.si_machine.specs.Machines.{Seen};
-    ghost use Rattle.si_machine.specs.States.{seen, IsKept};
+    ghost use Rattle.si_machine.specs.inner.States.{seen, IsKept};
 
     ghost Value = { Seen };
 

@@ -1,6 +1,6 @@
 // The operands of all calls that are under way, each call's with its topmost first in contracts.
 ghost use Rattle.std.specs.Prelude.{◌≡◌, ◌+◌, ◌<◌, ◌≤◌, List, [], ◌∷◌, ◌++◌, length, drop, take, reverse, OnOk, OnErr, MatchOption};
-ghost use Rattle.si_machine.specs.Stacks.{back_with, left_by};
+ghost use Rattle.si_machine.specs.inner.Stacks.{back_with, left_by};
 
 use crate::value::Value;
 use si_plain::NoMemory;
@@ -20,7 +20,7 @@ pub struct Operands {
 
 impl Model for Operands {
     ghost use Rattle.std.specs.Prelude.{◌≤◌, length, reverse};
-    ghost use Rattle.si_machine.specs.Stacks.{OperandsSeen, operands_seen, Ascends};
+    ghost use Rattle.si_machine.specs.inner.Stacks.{OperandsSeen, operands_seen, Ascends};
 
     ghost Value = { OperandsSeen };
 

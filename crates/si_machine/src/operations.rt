@@ -5,7 +5,7 @@ ghost use Rattle.si_semantics.specs.Value.{Text as Characters, Int, Str};
 ghost use Rattle.si_semantics.specs.Operations.{integer, operate_integers, operate_truths, operate, operate_unary, within, repeated};
 ghost use Rattle.si_code.specs.Views.{text_at};
 ghost use Rattle.si_machine.specs.Values.{value_of, Fits, integer_of};
-ghost use Rattle.si_machine.specs.Causes.{ran, Runs};
+ghost use Rattle.si_machine.specs.inner.Causes.{ran, Runs};
 ghost use Rattle.si_machine.specs.declared.cause.Cause.TheVariants.{WrongType};
 
 use crate::cause::{Cause, Fault};

@@ -2,7 +2,7 @@
 ghost use Rattle.std.specs.Prelude.{map, Some, OnOk, string_bytes};
 ghost use Rattle.si_semantics.specs.Text as semantics;
 ghost use Rattle.si_machine.specs.Values.{value_of};
-ghost use Rattle.si_machine.specs.Causes.{object_of, spaced_in, GoesOn, Prints};
+ghost use Rattle.si_machine.specs.inner.Causes.{object_of, spaced_in, GoesOn, Prints};
 
 use crate::cause::{Cause, Fault};
 use crate::texts::Texts;

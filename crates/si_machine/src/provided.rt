@@ -5,7 +5,7 @@ ghost use Rattle.si_semantics.specs.Value as pure;
 ghost use Rattle.si_semantics.specs.World.{World};
 ghost use Rattle.si_semantics.specs.Operations as operations;
 ghost use Rattle.si_machine.specs.Values.{value_of, Fits, built_in_of, integer_of};
-ghost use Rattle.si_machine.specs.Causes.{object_of, ran, Runs, RunsIn};
+ghost use Rattle.si_machine.specs.inner.Causes.{object_of, ran, Runs, RunsIn};
 ghost use Rattle.si_machine.specs.declared.value.BuiltIn.TheVariants as built;
 
 use crate::cause::{Cause, Fault};

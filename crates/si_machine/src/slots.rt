@@ -1,6 +1,6 @@
 // The locals of all calls that are under way.
 ghost use Rattle.std.specs.Prelude.{◌≡◌, ◌<◌, ◌≤◌, List, [], ◌∷◌, ◌++◌, length, drop, OnOk, OnErr, slice_set};
-ghost use Rattle.si_machine.specs.Stacks.{slot_in, passed, entered, back};
+ghost use Rattle.si_machine.specs.inner.Stacks.{slot_in, passed, entered, back};
 
 use crate::value::Value;
 use si_plain::NoMemory;
@@ -20,7 +20,7 @@ pub struct Slots {
 
 impl Model for Slots {
     ghost use Rattle.std.specs.Prelude.{◌≤◌, length, reverse};
-    ghost use Rattle.si_machine.specs.Stacks.{SlotsSeen, slots_seen, Ascends};
+    ghost use Rattle.si_machine.specs.inner.Stacks.{SlotsSeen, slots_seen, Ascends};
 
     ghost Value = { SlotsSeen };
 

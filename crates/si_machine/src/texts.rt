@@ -2,7 +2,7 @@
 ghost use Rattle.std.specs.Prelude.{◌≡◌, ◌≤◌, ◌<◌, ℕ, List, [], ◌∷◌, ◌++◌, length, IfOk, OnErr, encode_utf8_all};
 ghost use Rattle.si_code.specs.Views.{text_at};
 ghost use Rattle.si_semantics.specs.Operations.{times};
-ghost use Rattle.si_machine.specs.Causes.{Adds, IsAdded, repeated_text, copies_of};
+ghost use Rattle.si_machine.specs.inner.Causes.{Adds, IsAdded, repeated_text, copies_of};
 
 use crate::cause::{Cause, Fault};
 use si_plain::limits::MAX_STR_LENGTH;

@@ -45,7 +45,7 @@ pub enum Object {
 
 impl Object {
     ghost use Rattle.std.specs.Prelude.{◌≡◌};
-    ghost use Rattle.si_machine.specs.Causes.{kind_in};
+    ghost use Rattle.si_machine.specs.inner.Causes.{kind_in};
 
     /// The kind of the exception.
     pub fn kind(self) -> Kind

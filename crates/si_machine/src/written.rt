@@ -4,7 +4,7 @@ ghost use Rattle.si_plain.specs.Kinds.{name_of};
 ghost use Rattle.si_semantics.specs.Value.{Address};
 ghost use Rattle.si_semantics.specs.Text as semantics;
 ghost use Rattle.si_machine.specs.Values.{value_of};
-ghost use Rattle.si_machine.specs.Causes.{object_of, kind_of, message_in, caused_str, opening, Writes, Appends};
+ghost use Rattle.si_machine.specs.inner.Causes.{object_of, kind_of, message_in, caused_str, opening, Writes, Appends};
 
 use crate::atoms::{write_atom, write_quoted};
 use crate::cause::{Cause, Fault, ascii, push_ascii};

@@ -6,7 +6,7 @@ use Rattle.si_semantics.specs.Value.{Text}
 use Rattle.si_semantics.specs.Tree.{Expr, Constant, Name, Unary, Binary, Call, Boolean, Compare, Conditional, Stmt, Target, Named, Evaluate, Assign, Augment, Pass, If, While, For, Break, Continue, Define, Return, Global, Raise, Try, Finally, Stmts}
 use Rattle.si_semantics.specs.Tokens as token
 use Rattle.si_semantics.specs.Grammar.{Terminal, NAME, Sign, Word, NEWLINE, INDENT, DEDENT, Many, Behind, Spells, max_depth, IsExpression, Simple, stmts_of, Lines, Block, Suite, Branch, Tested, Otherwise, elifs_of, Compound, Nests, IsTarget}
-use Rattle.si_parse.specs.Reading.{then_read, rest_of, name_at, parameters_by, defined_by, define_by, expression_at, LineParser, is_dedent, many_by, indented_by, suite_from, suite_by, branch_by, with_branch, elif_by, is_none, no_elif, elifs_by, otherwise_from, otherwise_by, joined_if, if_by, joined_while, while_by, target_from, target_by, joined_for, for_by, Header, if_header, while_header, for_header, try_header, def_header, header_at, compound_by, with_compound, block_from, block_at, after}
+use Rattle.si_parse.specs.inner.Reading.{then_read, rest_of, name_at, parameters_by, defined_by, define_by, expression_at, LineParser, is_dedent, many_by, indented_by, suite_from, suite_by, branch_by, with_branch, elif_by, is_none, no_elif, elifs_by, otherwise_from, otherwise_by, joined_if, if_by, joined_while, while_by, target_from, target_by, joined_for, for_by, Header, if_header, while_header, for_header, try_header, def_header, header_at, compound_by, with_compound, block_from, block_at, after}
 use Rattle.si_parse.proofs.Laws.{then_read_some, some_inj, spells_looser, spells_deeper, name_tighter, after_newline_some, after_colon_some, after_indent_some, after_elif_some, after_in_some, header_word, header_at_some, after_open_some, name_at_some, after_else_some}
 use Rattle.si_parse.proofs.Levels.{high, at_condition}
 use Rattle.si_parse.proofs.Lists.{chosen, added, many_sound, many_complete}

@@ -10,7 +10,7 @@ use Rattle.si_semantics.specs.Tokens.{Symbol, Keyword}
 use Rattle.si_semantics.specs.Tokens as token
 use Rattle.si_semantics.specs.Text.{max_length}
 use Rattle.si_semantics.specs.Grammar.{Terminal, NAME, NUMBER, STRING, Sign, Word, level_of, left_level, right_level, symbol_of, prefix_level, prefix_of, boolean_level, item_level, word_of, comparison_of, is_identity, Many, Behind, Separated, Argument, Positional, ByName, Passes, IsPassed, exprs_of, items_of, Link, links_of, chain_of, Compares, Strings, Spells}
-use Rattle.si_parse.specs.Reading.{short, Argued, named_at, argument_from, argument_by, called, comparison, boolean, continuation_at, strength_of, strength_at, begins_str, then_read, after_boolean, with_word, comparison_at, identity_from, Found, Parsed, Parser, with_argument, arguments_from, arguments_by, within, call_by, is_singleton, compared_to, compared_by, other_by, conditional_by, extended_by, continued_by, closed, strings_by, bracketed_by, operand_from, operand_by, expression_at, after}
+use Rattle.si_parse.specs.inner.Reading.{short, Argued, named_at, argument_from, argument_by, called, comparison, boolean, continuation_at, strength_of, strength_at, begins_str, then_read, after_boolean, with_word, comparison_at, identity_from, Found, Parsed, Parser, with_argument, arguments_from, arguments_by, within, call_by, is_singleton, compared_to, compared_by, other_by, conditional_by, extended_by, continued_by, closed, strings_by, bracketed_by, operand_from, operand_by, expression_at, after}
 use Rattle.si_parse.proofs.Laws.{some_inj, named_at_some, exprs_of_items, chain_of_links}
 use Rattle.si_parse.proofs.Levels.{right_weaker, right_bound, level_under, role_of_symbol, prefix_gap, prefix_bound, prefix_begins, conditional_gap, boolean_strength, item_bound, role_of_word, after_word, role_of_comparison, boolean_none, comparison_none}
 use Rattle.si_parse.proofs.Lists.{le_to, added, Pairwise, separated_complete}

@@ -7,7 +7,7 @@ use Rattle.si_semantics.specs.Tree as tree
 use Rattle.si_semantics.specs.Tokens.{Symbol, Keyword}
 use Rattle.si_semantics.specs.Tokens as token
 use Rattle.si_semantics.specs.Grammar.{Terminal, NAME, Sign, Word, NEWLINE, INDENT, Language, prefix_level, prefix_of, item_level, word_of, comparison_of, Many, Behind, Following, Separated, Argument, Positional, ByName, Passes, items_of, exprs_of, Link, links_of, chain_of, Compares, Produces, Spells}
-use Rattle.si_parse.specs.Reading.{then_read, rest_of, named_at, name_at, Header, if_header, while_header, for_header, try_header, def_header, header_at, after_boolean, with_word, prefix_at, comparison_symbol, identity_from, comparison_at, after}
+use Rattle.si_parse.specs.inner.Reading.{then_read, rest_of, named_at, name_at, Header, if_header, while_header, for_header, try_header, def_header, header_at, after_boolean, with_word, prefix_at, comparison_symbol, identity_from, comparison_at, after}
 
 -- ---- lists of items
 

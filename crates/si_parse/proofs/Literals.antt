@@ -3,10 +3,10 @@ use Rattle.std.proofs.Common.{◌≡◌, ℕ, suc, ◌+◌, [], ◌∷◌, ◌++
 use Rattle.std.specs.Prelude.{◌==◌, ◌||◌, not, option_map, option_and_then}
 use Rattle.si_semantics.specs.Value.{Text}
 use Rattle.si_semantics.specs.Literals.{Written, escape, unescaped}
-use Rattle.si_token.specs.Literals.{front_of}
+use Rattle.si_token.specs.inner.Literals.{front_of}
 use Rattle.si_token.proofs.Texts.{if_true, if_false, drop_none}
 use Rattle.si_token.proofs.Literals.{front_is}
-use Rattle.si_parse.specs.Literals.{value_from}
+use Rattle.si_parse.specs.inner.Literals.{value_from}
 
 -- one character more in front of a value, or at the end of what came before it
 moved : (t w : Text) (o : Option Text) → option_map (λ v. (t ++ w) ++ v) o ≡ option_map (λ v. t ++ v) (option_map (λ v. w ++ v) o)

@@ -7,7 +7,7 @@ use Rattle.si_token.specs.declared.token.Symbol.TheVariants as symbol
 use Rattle.si_token.specs.declared.token.Keyword.{Keyword}
 use Rattle.si_token.specs.declared.token.Keyword.TheVariants as keyword
 use Rattle.si_token.specs.Views.{symbol_of, keyword_of}
-use Rattle.si_parse.specs.Numbers.{symbol_number, keyword_number, same_symbol, same_keyword}
+use Rattle.si_parse.specs.inner.Numbers.{symbol_number, keyword_number, same_symbol, same_keyword}
 
 symbols : List Symbol
 symbols =

@@ -6,7 +6,7 @@ use Rattle.std.proofs.lemmas.List.{drop-map, length-map}
 use Rattle.si_semantics.specs.Grammar.{Terminal, terminal_of}
 use Rattle.si_token.specs.declared.token.Token.{Token}
 use Rattle.si_token.specs.Views.{token_of}
-use Rattle.si_parse.specs.Gives.{from}
+use Rattle.si_parse.specs.inner.Gives.{from}
 
 abbrev seen : Token → Terminal
 seen t = terminal_of (token_of t)

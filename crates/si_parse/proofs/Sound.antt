@@ -11,7 +11,7 @@ use Rattle.si_semantics.specs.Tokens.{Symbol, Keyword}
 use Rattle.si_semantics.specs.Tokens as token
 use Rattle.si_semantics.specs.Text.{max_length}
 use Rattle.si_semantics.specs.Grammar.{Terminal, NAME, NUMBER, STRING, Sign, Word, value_of_int, value_of_str, level_of, left_level, right_level, symbol_of, prefix_level, prefix_of, boolean_level, item_level, word_of, comparison_of, is_identity, Many, Behind, Following, Separated, Argument, Positional, ByName, Passes, IsPassed, exprs_of, items_of, links_of, chain_of, Compares, Strings, Spells}
-use Rattle.si_parse.specs.Reading.{short, str_by, Argued, named_at, argument_from, argument_by, passed_from, called, boolean, continuation_at, strength_of, strength_at, then_read, rest_of, after_boolean, with_word, comparison_at, Found, Parser, with_argument, arguments_from, arguments_by, within, binary_by, call_by, operands_by, boolean_by, is_singleton, compared_to, compared_by, links_by, compare_by, other_by, conditional_by, extended_by, identity_from, continued_by, closed, strings_by, prefix_at, unary_by, bracketed_by, atom_by, operand_from, operand_by, expression_at, after}
+use Rattle.si_parse.specs.inner.Reading.{short, str_by, Argued, named_at, argument_from, argument_by, passed_from, called, boolean, continuation_at, strength_of, strength_at, then_read, rest_of, after_boolean, with_word, comparison_at, Found, Parser, with_argument, arguments_from, arguments_by, within, binary_by, call_by, operands_by, boolean_by, is_singleton, compared_to, compared_by, links_by, compare_by, other_by, conditional_by, extended_by, identity_from, continued_by, closed, strings_by, prefix_at, unary_by, bracketed_by, atom_by, operand_from, operand_by, expression_at, after}
 use Rattle.si_parse.proofs.Laws.{named_at_some, passes_mono, spells_looser, spells_deeper, node, bracketed, then_read_some, some_inj, after_close_some, after_comma_some, after_else_some, with_word_some, with_word_none, prefix_at_some, comparison_at_some, links_of_chain, items_of_exprs, separated_mono, many_mono, compares_mono, behind_mono}
 use Rattle.si_parse.proofs.Levels.{strength_at_most, right_stops, right_bound, level_reached, Apart, high, at_condition, at_disjunction, at_comparison, right_apart, level_apart, prefix_apart, prefix_bound, boolean_apart, item_apart, item_bound, condition_up, condition_down, comparison_up, comparison_down, boolean_up, boolean_down, boolean_strength, after_word, boolean_ends, comparison_ends}
 use Rattle.si_parse.proofs.Lists.{le_from, chosen, added, separated_sound}

@@ -6,7 +6,7 @@ use Rattle.si_semantics.specs.Tree as tree
 use Rattle.si_semantics.specs.Tokens.{Keyword}
 use Rattle.si_semantics.specs.Tokens as token
 use Rattle.si_semantics.specs.Grammar.{Terminal, NAME, NUMBER, STRING, Sign, Word, NEWLINE, DEDENT, symbol_of, left_level, prefix_of, prefix_level, item_level, truth_word, Strings, Spells}
-use Rattle.si_parse.specs.Reading.{header_at, ends_small, is_dedent, word_statement, is_singleton, after}
+use Rattle.si_parse.specs.inner.Reading.{header_at, ends_small, is_dedent, word_statement, is_singleton, after}
 
 -- whether an operand may begin so
 abbrev pub is_operand : Terminal → Bool

@@ -8,8 +8,8 @@ use Rattle.si_semantics.specs.Tokens as token
 use Rattle.si_semantics.specs.Grammar.{Terminal, DEDENT, Branch, stmts_of, Clause, clauses_of, Sign, Word}
 use Rattle.si_parse.specs.declared.fault.ParseFault.{ParseFault}
 use Rattle.si_parse.specs.declared.fault.ParseFault.TheVariants.{Syntax, NoMemory}
-use Rattle.si_parse.specs.Reading.{Parser, Step, Continuation, strength_of, then_read, strength_at, continuation_at, closing, behind_item, separated_by, chain_from, chain_by, Parsed, many_by, extended_by, continued_by, rest_of, name_at, and_name, next_name_by, Header, header_at, LineParser, with_branch, branch_by, elif_by, otherwise_by, suite_by, handlers_by, finally_from, try_by, after_catch, with_clause, clause_by, catch_by, handled_from, tried, compound_by, with_compound, block_from, block_at, after}
-use Rattle.si_parse.specs.Gives.{Fails}
+use Rattle.si_parse.specs.inner.Reading.{Parser, Step, Continuation, strength_of, then_read, strength_at, continuation_at, closing, behind_item, separated_by, chain_from, chain_by, Parsed, many_by, extended_by, continued_by, rest_of, name_at, and_name, next_name_by, Header, header_at, LineParser, with_branch, branch_by, elif_by, otherwise_by, suite_by, handlers_by, finally_from, try_by, after_catch, with_clause, clause_by, catch_by, handled_from, tried, compound_by, with_compound, block_from, block_at, after}
+use Rattle.si_parse.specs.inner.Gives.{Fails}
 use Rattle.si_parse.proofs.Steps.{continued_by_step, separated_by_step, chain_by_step, many_by_step, block_at_step}
 
 pub not_less : (a b : ℕ) → b ≤ a → nat_lt a b ≡ false

@@ -1,5 +1,2 @@
 pub mod Modules
-pub mod Numbers
-pub mod Reading
-pub mod Gives
-pub mod Literals
+pub mod inner

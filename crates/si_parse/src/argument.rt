@@ -2,8 +2,8 @@
 
 ghost use Rattle.std.specs.Prelude.{◌≡◌, [], map, option_map, string_bytes};
 ghost use Rattle.si_syntax.specs.Trees.{expr_of};
-ghost use Rattle.si_parse.specs.Reading.{named_at, passed_from};
-ghost use Rattle.si_parse.specs.Gives.{Gives, from, argument_of};
+ghost use Rattle.si_parse.specs.inner.Reading.{named_at, passed_from};
+ghost use Rattle.si_parse.specs.inner.Gives.{Gives, from, argument_of};
 
 use crate::fault::ParseFault;
 use crate::lookahead::{after, token_at};

@@ -2,8 +2,8 @@
 
 ghost use Rattle.std.specs.Prelude.{◌≡◌, ℕ, ◌+◌, ◌-◌, ◌*◌, ◌<◌, [], length, map, option_map, string_bytes};
 ghost use Rattle.si_syntax.specs.Trees.{expr_of, stmt_of, branch_of};
-ghost use Rattle.si_parse.specs.Reading.{indented_by, suite_by, branch_by, elifs_by, otherwise_by, if_by, while_by, for_by, define_by, compound_by, block_at};
-ghost use Rattle.si_parse.specs.Gives.{Gives, from, header_view};
+ghost use Rattle.si_parse.specs.inner.Reading.{indented_by, suite_by, branch_by, elifs_by, otherwise_by, if_by, while_by, for_by, define_by, compound_by, block_at};
+ghost use Rattle.si_parse.specs.inner.Gives.{Gives, from, header_view};
 
 use crate::expression::expression;
 use crate::fault::ParseFault;

@@ -3,8 +3,8 @@
 ghost use Rattle.std.specs.Prelude.{◌≡◌, ℕ, ◌+◌, ◌-◌, ◌*◌, ◌<◌, ◌≤◌, [], map, length, option_map, IfOk};
 ghost use Rattle.si_semantics.specs.Grammar.{is_identity};
 ghost use Rattle.si_syntax.specs.Trees.{expr_of, link_of};
-ghost use Rattle.si_parse.specs.Reading.{rest_of, within, strings_by, str_by, is_singleton, compared_by, operand_by, atom_by, unary_by, bracketed_by, continued_by, binary_by, call_by, compare_by, boolean_by, conditional_by, extended_by, argument_by, arguments_by, operands_by, links_by, expression_at};
-ghost use Rattle.si_parse.specs.Gives.{Gives, from, continuation_view, argument_of};
+ghost use Rattle.si_parse.specs.inner.Reading.{rest_of, within, strings_by, str_by, is_singleton, compared_by, operand_by, atom_by, unary_by, bracketed_by, continued_by, binary_by, call_by, compare_by, boolean_by, conditional_by, extended_by, argument_by, arguments_by, operands_by, links_by, expression_at};
+ghost use Rattle.si_parse.specs.inner.Gives.{Gives, from, continuation_view, argument_of};
 
 use crate::argument::{Argument, named_at, passed};
 use crate::fault::ParseFault;

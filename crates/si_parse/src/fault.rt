@@ -36,7 +36,7 @@ impl<T: Drop> From<AllocFailed<T>> for ParseFault {
 
 impl From<TokenFault> for ParseFault {
     ghost use Rattle.std.specs.Prelude.{◌≡◌};
-    ghost use Rattle.si_parse.specs.Gives.{fault_of};
+    ghost use Rattle.si_parse.specs.inner.Gives.{fault_of};
 
     ghost from_gives = { λ fault e. e ≡ fault_of fault };
 

@@ -3,7 +3,7 @@
 ghost use Rattle.std.specs.Prelude.{◌≡◌, ◌==◌, ◌||◌, ◌++◌, not, OnOk};
 ghost use Rattle.std.specs.Option.{option_to_list};
 ghost use Rattle.si_semantics.specs.Literals.{value_of_str};
-ghost use Rattle.si_parse.specs.Gives.{Gives};
+ghost use Rattle.si_parse.specs.inner.Gives.{Gives};
 
 use crate::fault::ParseFault;
 use si_plain::Text;

@@ -4,8 +4,8 @@ ghost use Rattle.std.specs.Prelude.{◌≡◌, ℕ, ◌+◌, ◌<◌, ◌≤◌,
 ghost use Rattle.si_semantics.specs.Grammar.{terminal_of, Sign, Word, NEWLINE, INDENT, DEDENT};
 ghost use Rattle.si_semantics.specs.Tokens as token;
 ghost use Rattle.si_token.specs.Views.{keyword_of, symbol_of, token_of};
-ghost use Rattle.si_parse.specs.Reading.{after, after_boolean, after_catch, closing, ends_small, header_at};
-ghost use Rattle.si_parse.specs.Gives.{from, header_view};
+ghost use Rattle.si_parse.specs.inner.Reading.{after, after_boolean, after_catch, closing, ends_small, header_at};
+ghost use Rattle.si_parse.specs.inner.Gives.{from, header_view};
 
 use si_plain::BooleanOperator;
 use si_token::{Keyword, Symbol, Token, TokenKind};

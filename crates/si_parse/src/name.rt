@@ -1,8 +1,8 @@
 // Names that stand in a row: those of a `global`, and parameters.
 
 ghost use Rattle.std.specs.Prelude.{◌≡◌, [], map, option_map, string_bytes};
-ghost use Rattle.si_parse.specs.Reading.{name_at, names_by, listed_by, parameters_by};
-ghost use Rattle.si_parse.specs.Gives.{Gives, from};
+ghost use Rattle.si_parse.specs.inner.Reading.{name_at, names_by, listed_by, parameters_by};
+ghost use Rattle.si_parse.specs.inner.Gives.{Gives, from};
 
 use crate::fault::ParseFault;
 use crate::lookahead::{after, after_arguments, line_at, token_at};

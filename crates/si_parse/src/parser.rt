@@ -6,7 +6,7 @@ ghost use Rattle.si_semantics.specs.Grammar.{Terminal, Derives};
 ghost use Rattle.si_semantics.specs.Limits.{IsWithinLimits};
 ghost use Rattle.si_syntax.specs.Modules.{tree_of};
 ghost use Rattle.si_parse.specs.Modules.{IsRead};
-ghost use Rattle.si_parse.specs.Gives.{from, IsSyntax};
+ghost use Rattle.si_parse.specs.inner.Gives.{from, IsSyntax};
 
 use crate::fault::ParseFault;
 use crate::statement::statements;

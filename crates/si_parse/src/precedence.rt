@@ -3,8 +3,8 @@
 ghost use Rattle.std.specs.Prelude.{◌≡◌, option_map, IfSome};
 ghost use Rattle.si_semantics.specs.Grammar.{left_level, right_level, prefix_level, item_level};
 ghost use Rattle.si_token.specs.Views.{symbol_of, keyword_of};
-ghost use Rattle.si_parse.specs.Reading.{role_of, word_role, continuation_at, strength_of, rest_of, prefix_at, comparison_symbol, comparison_at};
-ghost use Rattle.si_parse.specs.Gives.{from, continuation_view};
+ghost use Rattle.si_parse.specs.inner.Reading.{role_of, word_role, continuation_at, strength_of, rest_of, prefix_at, comparison_symbol, comparison_at};
+ghost use Rattle.si_parse.specs.inner.Gives.{from, continuation_view};
 
 use crate::lookahead::{after_word, token_at};
 use si_plain::{BinaryOperator, BooleanOperator, ComparisonOperator, UnaryOperator};

@@ -4,8 +4,8 @@ ghost use Rattle.std.specs.Prelude.{◌≡◌, ℕ, ◌+◌, ◌-◌, length, ma
 ghost use Rattle.si_token.specs.Views.{symbol_of};
 ghost use Rattle.si_semantics.specs.Grammar.{max_depth};
 ghost use Rattle.si_syntax.specs.Trees.{expr_of, stmt_of};
-ghost use Rattle.si_parse.specs.Reading.{assignment_symbol, assignment_at, word_statement, rest_of, expression_at, spelled_by, value_by, returned_by, raised_by, global_by, statement_by, line_by, is_end, module_by};
-ghost use Rattle.si_parse.specs.Gives.{Gives, from};
+ghost use Rattle.si_parse.specs.inner.Reading.{assignment_symbol, assignment_at, word_statement, rest_of, expression_at, spelled_by, value_by, returned_by, raised_by, global_by, statement_by, line_by, is_end, module_by};
+ghost use Rattle.si_parse.specs.inner.Gives.{Gives, from};
 
 use crate::block::{MAX_NESTING, block};
 use crate::expression::expression;

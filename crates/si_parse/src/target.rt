@@ -2,8 +2,8 @@
 
 ghost use Rattle.std.specs.Prelude.{◌≡◌, option_map};
 ghost use Rattle.si_syntax.specs.Trees.{expr_of, target_of};
-ghost use Rattle.si_parse.specs.Reading.{as_target, target_by};
-ghost use Rattle.si_parse.specs.Gives.{Gives, from};
+ghost use Rattle.si_parse.specs.inner.Reading.{as_target, target_by};
+ghost use Rattle.si_parse.specs.inner.Gives.{Gives, from};
 
 use crate::expression::expression;
 use crate::fault::ParseFault;

@@ -9,7 +9,7 @@ use Rattle.si_semantics.specs.Value.{Text}
 use Rattle.si_semantics.specs.Text.{same_text}
 use Rattle.si_semantics.specs.Scope.{is_in, are_apart}
 use Rattle.si_semantics.proofs.Names.{same_is}
-use Rattle.si_scope.specs.Walk.{with_names}
+use Rattle.si_scope.specs.inner.Walk.{with_names}
 use Rattle.si_scope.proofs.Sets.{in_any}
 
 -- ---- tests joined

@@ -8,7 +8,7 @@ use Rattle.si_semantics.specs.Value.{Text}
 use Rattle.si_semantics.specs.Scope.{is_in, are_apart, are_distinct, with_new}
 use Rattle.si_syntax.proofs.Rows.{rest_is}
 use Rattle.si_scope.specs.declared.seen.Seen.{Seen}
-use Rattle.si_scope.specs.Walk.{binding, declaring}
+use Rattle.si_scope.specs.inner.Walk.{binding, declaring}
 use Rattle.si_scope.proofs.Sets.{found_in, bound_new, bound_old, new_name}
 use Rattle.si_scope.proofs.Apart.{apart_nil, apart_front, apart_cons}
 

@@ -12,7 +12,7 @@ use Rattle.si_scope.specs.declared.fault.ScopeFault.{ScopeFault}
 use Rattle.si_scope.specs.declared.fault.ScopeFault.TheVariants.{Scope, NoMemory}
 use Rattle.si_scope.specs.Faults.{IsScope, Fails}
 use Rattle.si_scope.specs.Locals.{IsResolved}
-use Rattle.si_scope.specs.Walk.{resolved, resolved_all, resolved_clauses}
+use Rattle.si_scope.specs.inner.Walk.{resolved, resolved_all, resolved_clauses}
 use Rattle.si_scope.proofs.Walked.{then_same, then_then, local_is}
 
 -- the locals of these functions behind those before, if this holds

@@ -9,7 +9,7 @@ use Rattle.si_plain.specs.Names.{with_name, place_in}
 use Rattle.si_semantics.specs.Value.{Text}
 use Rattle.si_semantics.specs.Text.{same_text}
 use Rattle.si_semantics.specs.Scope.{is_in, with_new}
-use Rattle.si_scope.specs.Walk.{with_names}
+use Rattle.si_scope.specs.inner.Walk.{with_names}
 
 -- texts and their bytes are compared alike
 pub same_bytes : (x y : Text) → same_text x y ≡ bytes_eq x y

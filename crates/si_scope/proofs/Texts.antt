@@ -11,7 +11,7 @@ use Rattle.si_syntax.specs.declared.stmt.Stmt.TheViews as views
 use Rattle.si_syntax.specs.Trees.{body_of, stmt_of, elif_of, clause_of}
 use Rattle.si_syntax.proofs.Forms.{if_is}
 use Rattle.si_syntax.proofs.Rows.{rest_is}
-use Rattle.si_scope.specs.Walk.{resolved, resolved_all, resolved_clauses}
+use Rattle.si_scope.specs.inner.Walk.{resolved, resolved_all, resolved_clauses}
 use Rattle.si_scope.proofs.Turns.{then_some, Excepts}
 
 abbrev Locals : Type 0

@@ -17,7 +17,7 @@ use Rattle.si_scope.specs.declared.seen.Seen.{Seen}
 use Rattle.si_scope.specs.declared.fault.ScopeFault.{ScopeFault}
 use Rattle.si_scope.specs.declared.fault.ScopeFault.TheVariants.{Scope, NoMemory}
 use Rattle.si_scope.specs.Faults.{Fails, Leaves}
-use Rattle.si_scope.specs.Walk.{using, binding_any, after, after_all, after_clauses, clauses_in}
+use Rattle.si_scope.specs.inner.Walk.{using, binding_any, after, after_all, after_clauses, clauses_in}
 
 -- ---- what fails
 

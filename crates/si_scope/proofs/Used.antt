@@ -16,7 +16,7 @@ use Rattle.si_syntax.specs.declared.expr.Expr.TheViews as views
 use Rattle.si_syntax.specs.Trees.{expr_of, link_of, view_step}
 use Rattle.si_syntax.proofs.Forms.{compare_is}
 use Rattle.si_syntax.proofs.Rows.{rest_is}
-use Rattle.si_scope.specs.Walk.{with_names}
+use Rattle.si_scope.specs.inner.Walk.{with_names}
 use Rattle.si_scope.proofs.Sets.{with_names-append}
 
 -- ---- the names of an expression with two parts

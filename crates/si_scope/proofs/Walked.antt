@@ -8,7 +8,7 @@ use Rattle.si_semantics.specs.Value.{Text}
 use Rattle.si_semantics.specs.Tree.{Expr, Stmt, Named, Evaluate, Assign, Augment, Pass, If, While, For, Break, Continue, Define, Return, Global, Raise, Try, Finally, Stmts, NoStmts, MoreStmts, Clauses, NoClauses, MoreClauses}
 use Rattle.si_semantics.specs.Scope.{is_in, are_apart, are_distinct, with_new, names_of, names_of_value, name_in, bound_by, bound_in, bound_in_clauses, declared_by, declared_in, declared_in_clauses, used_by, used_in, used_in_clauses, declares_first, declare_first, clauses_declare_first, InText, InFunction, stmt_scoped, stmts_scoped, clauses_scoped}
 use Rattle.si_scope.specs.declared.seen.Seen.{Seen}
-use Rattle.si_scope.specs.Walk.{with_names, using, binding_any, declaring, after, after_all, after_clauses, local_to}
+use Rattle.si_scope.specs.inner.Walk.{with_names, using, binding_any, declaring, after, after_all, after_clauses, local_to}
 use Rattle.si_scope.proofs.Sets.{with_names-append}
 use Rattle.si_scope.proofs.Apart.{and_both, first_of, second_of, apart_nil, apart_cons, apart_front, apart_back, in_names, apart_names}
 use Rattle.si_scope.proofs.Declared.{seen_of}

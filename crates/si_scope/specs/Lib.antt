@@ -1,4 +1,4 @@
 pub mod Faults
 pub mod Locals
 pub mod Scripts
-pub mod Walk
+pub mod inner

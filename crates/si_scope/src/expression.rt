@@ -3,7 +3,7 @@ ghost use Rattle.std.specs.Prelude.{◌≡◌, OnOk, map};
 ghost use Rattle.si_semantics.specs.Grammar.{exprs_of, chain_of};
 ghost use Rattle.si_semantics.specs.Scope.{names_of, names_of_all, names_of_chain};
 ghost use Rattle.si_syntax.specs.Trees.{expr_of, link_of};
-ghost use Rattle.si_scope.specs.Walk.{with_names};
+ghost use Rattle.si_scope.specs.inner.Walk.{with_names};
 
 use si_plain::{ComparisonOperator, Names, NoMemory};
 use si_syntax::Expr;

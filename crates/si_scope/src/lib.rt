@@ -6,7 +6,7 @@
 //
 // In reading order: `fault` says why a script is refused, `scoped` has scripts whose names are resolved, `seen` the names
 // of a function as far as its suite was gone over, `expression` the names that an expression uses, `suite` goes over a
-// function's suite, and `text` over a whole script. specs/Locals.antt says what a resolved script keeps; specs/Walk.antt
+// function's suite, and `text` over a whole script. specs/Locals.antt says what a resolved script keeps; specs/inner/Walk.antt
 // has the steps of the walk, for the proofs alone.
 #![tactic(auto)]
 

@@ -4,7 +4,7 @@ ghost use Rattle.std.specs.Option.{option_map};
 ghost use Rattle.si_semantics.specs.Scope.{are_distinct, names_of, names_of_value};
 ghost use Rattle.si_syntax.specs.Trees.{expr_of, target_of};
 ghost use Rattle.si_scope.specs.Faults.{Leaves, IsScope};
-ghost use Rattle.si_scope.specs.Walk.{binding, binding_any, binding_target, declaring, using};
+ghost use Rattle.si_scope.specs.inner.Walk.{binding, binding_any, binding_target, declaring, using};
 
 use crate::expression::use_names;
 use crate::fault::ScopeFault;

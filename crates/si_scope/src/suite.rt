@@ -2,7 +2,7 @@
 ghost use Rattle.std.specs.Prelude.{false};
 ghost use Rattle.si_syntax.specs.Trees.{body_of, stmt_of};
 ghost use Rattle.si_scope.specs.Faults.{Leaves};
-ghost use Rattle.si_scope.specs.Walk.{after, after_all, after_try, after_clauses, clauses_in};
+ghost use Rattle.si_scope.specs.inner.Walk.{after, after_all, after_try, after_clauses, clauses_in};
 
 use crate::fault::{ScopeFault, allowed};
 use crate::seen::Seen;

@@ -5,7 +5,7 @@ ghost use Rattle.si_syntax.specs.Modules.{tree_of};
 ghost use Rattle.si_syntax.specs.Trees.{body_of, stmt_of};
 ghost use Rattle.si_scope.specs.Faults.{IsScope, Leaves, Returns};
 ghost use Rattle.si_scope.specs.Scripts.{script_of};
-ghost use Rattle.si_scope.specs.Walk.{local_to, resolved, resolved_all, resolved_try, resolved_clauses, clauses_in};
+ghost use Rattle.si_scope.specs.inner.Walk.{local_to, resolved, resolved_all, resolved_try, resolved_clauses, clauses_in};
 
 use crate::fault::{ScopeFault, allowed};
 use crate::scoped::Scoped;

@@ -9,7 +9,7 @@ use Rattle.si_semantics.specs.Layout.{empty_tokens, line_at}
 use Rattle.si_token.specs.declared.token.Token.{Token}
 use Rattle.si_token.specs.Views.{token_of}
 use Rattle.si_token.specs.Spans.{IsPart}
-use Rattle.si_token.specs.Laying.{Adds}
+use Rattle.si_token.specs.inner.Laying.{Adds}
 use Rattle.si_token.proofs.Slices.{AreParts, parts_push, parts_kept}
 
 append_none : {A : Type 0} (xs : List A) → xs ++ [] ≡ xs

@@ -8,8 +8,8 @@ use Rattle.si_semantics.specs.Tokens.{TokenKind, Token}
 use Rattle.si_semantics.specs.Words.{Sort, Word, Name, Int, Text, Operator, Spaces, Tabs, Comment, LineEnd, spelled, symbols}
 use Rattle.si_semantics.specs.Layout.{kind_of, token, tokens_at, behind, brackets_after, open_after, IsJoined, Line, line_end, AreLines, moved, column_by, column_of, indentation, empty_tokens, laid_out, line_tokens, ending, Lays, HasTokens}
 use Rattle.si_token.specs.Views.{Place}
-use Rattle.si_token.specs.Laying as laying
-use Rattle.si_token.specs.Laying.{line_start, laid, before_word, stepped, laid_all, Reads}
+use Rattle.si_token.specs.inner.Laying as laying
+use Rattle.si_token.specs.inner.Laying.{line_start, laid, before_word, stepped, laid_all, Reads}
 
 -- ---- lists of lines
 

@@ -8,7 +8,7 @@ use Rattle.std.proofs.lemmas.Bool.Decides.{nat_tests}
 use Rattle.std.proofs.lemmas.Str.{chars-nil, chars-append, chars_past_char, IsUtf8-drop, IsCharBoundary-from_take}
 use Rattle.si_semantics.specs.Value.{Text}
 use Rattle.si_semantics.specs.Literals.{Written, digits_within, with_one_more, escape, unescaped, peeled}
-use Rattle.si_token.specs.Literals.{front_of, digit_front, up_to}
+use Rattle.si_token.specs.inner.Literals.{front_of, digit_front, up_to}
 use Rattle.si_token.proofs.Texts.{if_true, if_false, some_inj, drop_none}
 use Rattle.si_token.proofs.Runs.{take_append, drop_append}
 

@@ -13,7 +13,7 @@ use Rattle.si_semantics.specs.Layout.{kind_of as word_kind}
 use Rattle.si_token.specs.declared.token.Token.{Token}
 use Rattle.si_token.specs.declared.token.TokenKind.TheVariants as kind
 use Rattle.si_token.specs.Views.{Place, token_of, kind_of}
-use Rattle.si_token.specs.Laying.{laid, before_word, stepped, with_line_end, missing_newline, Adds}
+use Rattle.si_token.specs.inner.Laying.{laid, before_word, stepped, with_line_end, missing_newline, Adds}
 use Rattle.si_token.proofs.Lines.{end_laid, with_before}
 use Rattle.si_token.proofs.Steps.{all_ending}
 use Rattle.si_token.proofs.Added.{adds_tokens, dedents_of}

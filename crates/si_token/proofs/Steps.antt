@@ -4,9 +4,9 @@ use Rattle.si_semantics.specs.Tokens.{Token}
 use Rattle.std.specs.Option.{option_map, option_and_then}
 use Rattle.si_semantics.specs.Words.{Sort, Word, IsCut, IsWord, IsLongest, is_allowed}
 use Rattle.si_semantics.specs.Layout.{ending, HasTokens}
-use Rattle.si_token.specs.Reading.{word_at}
+use Rattle.si_token.specs.inner.Reading.{word_at}
 use Rattle.si_token.specs.Views.{Place}
-use Rattle.si_token.specs.Laying.{line_start, stepped, missing_newline, laid_all, Reads}
+use Rattle.si_token.specs.inner.Laying.{line_start, stepped, missing_newline, laid_all, Reads}
 use Rattle.si_token.proofs.Lines.{has_tokens, reads}
 use Rattle.si_token.proofs.Runs.{Found, word_found, word_only, nonempty, take_append, drop_append}
 

@@ -4,7 +4,7 @@ use Rattle.std.specs.Prelude.{◌||◌, ◌&&◌, ◌==◌, not, if◌then◌els
 use Rattle.std.proofs.lemmas.Bool.Decides.{nat_tests}
 use Rattle.si_semantics.specs.Literals.{is_quote, is_prefix, unprefixed, quotes_at}
 use Rattle.si_semantics.specs.Words.{is_plain, is_body, is_escaped, is_quoted, is_text, is_closed}
-use Rattle.si_token.specs.Reading.{add_one, plus, body_length, escaped_length, quoted_length, text_length}
+use Rattle.si_token.specs.inner.Reading.{add_one, plus, body_length, escaped_length, quoted_length, text_length}
 
 -- ---- tests
 

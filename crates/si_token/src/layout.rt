@@ -5,8 +5,8 @@ ghost use Rattle.std.specs.Option.{option_map, option_to_list};
 ghost use Rattle.si_semantics.specs.Layout.{token, brackets_after, opens, closes, innermost, closing};
 ghost use Rattle.si_semantics.specs.Tokens.{Dedent};
 ghost use Rattle.si_token.specs.Views.{kind_of, sort_of, symbol_of, token_of, place_of, laid_of};
-ghost use Rattle.si_token.specs.Laying.{line_start, behind, behind_spaces, behind_tabs, behind_token, behind_dedents, with_line_end, laid, missing_newline, Adds};
-ghost use Rattle.si_token.specs.Places.{IsWithin};
+ghost use Rattle.si_token.specs.inner.Laying.{line_start, behind, behind_spaces, behind_tabs, behind_token, behind_dedents, with_line_end, laid, missing_newline, Adds};
+ghost use Rattle.si_token.specs.inner.Places.{IsWithin};
 ghost use Rattle.si_token.specs.Spans.{IsPart};
 
 use crate::token::{Span, Symbol, Token, TokenKind};

@@ -4,7 +4,7 @@ ghost use Rattle.std.specs.Prelude.{◌≡◌, ◌+◌, ◌*◌, ◌<◌, ◌≤
 ghost use Rattle.std.specs.Option.{option_map};
 ghost use Rattle.si_semantics.specs.Literals.{begins_raw, unprefixed, quotes_at, peeled, between_quotes, letter_escape, digits_within, numbered, behind_letter, escape};
 ghost use Rattle.si_semantics.specs.Words.{has_value};
-ghost use Rattle.si_token.specs.Literals.{characters, front_of, digit_front, up_to, written_of};
+ghost use Rattle.si_token.specs.inner.Literals.{characters, front_of, digit_front, up_to, written_of};
 
 // The greatest number of a character.
 const MAX_CHARACTER: u32 = 0x10_ffff;

@@ -3,13 +3,13 @@
 ghost use Rattle.std.specs.Prelude.{◌≡◌, ◌<◌, ◌≤◌, ◌^◌, [], ◌++◌, length, List, reverse, All, map, IfSome, IfNone, IfOk, IfErr, OnOk};
 ghost use Rattle.std.specs.Option.{option_map, option_to_list};
 ghost use Rattle.std.specs.Str.{IsUtf8};
-ghost use Rattle.si_token.specs.Reading.{word_at};
+ghost use Rattle.si_token.specs.inner.Reading.{word_at};
 ghost use Rattle.si_semantics.specs.Words.{spelled, keywords};
 ghost use Rattle.si_semantics.specs.Layout.{name_kind, HasTokens};
 ghost use Rattle.si_semantics.specs.Layout as lines;
 ghost use Rattle.si_semantics.specs.Tokens as tokens;
 ghost use Rattle.si_token.specs.Views.{kind_of, sort_of, token_of, place_of};
-ghost use Rattle.si_token.specs.Laying.{begins, before_word, Stands};
+ghost use Rattle.si_token.specs.inner.Laying.{begins, before_word, Stands};
 ghost use Rattle.si_token.specs.Faults.{IsBadText};
 ghost use Rattle.si_token.specs.Spans.{IsSliceOf, IsOnLine, LieBetween, EndsIn};
 ghost use Rattle.si_token.specs.declared.token.TokenKind.TheVariants.{End};

@@ -3,7 +3,7 @@
 ghost use Rattle.std.specs.Prelude.{◌≡◌, [], ◌∷◌};
 ghost use Rattle.std.specs.Option.{option_map};
 ghost use Rattle.si_semantics.specs.Words.{spelled, symbols};
-ghost use Rattle.si_token.specs.Reading.{symbol_length};
+ghost use Rattle.si_token.specs.inner.Reading.{symbol_length};
 ghost use Rattle.si_token.specs.Views.{symbol_of};
 
 use crate::token::Symbol;

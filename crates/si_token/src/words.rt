@@ -5,7 +5,7 @@ ghost use Rattle.std.specs.List.{prefix_len};
 ghost use Rattle.std.specs.Option.{option_map};
 ghost use Rattle.si_semantics.specs.Literals.{is_quote, is_prefix, unprefixed, quotes_at};
 ghost use Rattle.si_semantics.specs.Words.{continues_name, begins_name, in_comment, is_digit, is_plain, is_number, is_apart, is_prefixing, is_closed, is_allowed};
-ghost use Rattle.si_token.specs.Reading.{sort_of_byte, sort_at, body_length, quoted_length, text_length, line_end_length, length_of, longest_at};
+ghost use Rattle.si_token.specs.inner.Reading.{sort_of_byte, sort_at, body_length, quoted_length, text_length, line_end_length, length_of, longest_at};
 ghost use Rattle.si_token.specs.Views.{sort_of, word_of};
 
 use crate::literal::has_value;

@@ -6,7 +6,7 @@ use Rattle.si_semantics.specs.Grammar.{clauses_of, elifs_of}
 use Rattle.si_semantics.specs.Tree as tree
 use Rattle.si_syntax.specs.Trees.{body_of, expr_of, clause_of, elif_of, stmt_of, target_of}
 use Rattle.si_compile.specs.Code.{stmts_code, expr_code, named_code}
-use Rattle.si_compile.specs.Jumps.{only_if, only_while, only_for, tried, clauses_in}
+use Rattle.si_compile.specs.inner.Jumps.{only_if, only_while, only_for, tried, clauses_in}
 use Rattle.si_compile.proofs.Branches.{MakesAll-step, all_aimed, branch_gains, branch_at, branch_behind}
 use Rattle.si_compile.proofs.Forms.{if_gains, if_number, next_elif, elifs_end, next_elif_number, last_elif_number, while_gains, while_number, for_stmt, for_number, front_stays, branch_more}
 use Rattle.si_compile.proofs.Seen.{if_seen, while_seen, for_seen, finally_seen, tried_seen, try_clauses, clauses_seen, tree_number}

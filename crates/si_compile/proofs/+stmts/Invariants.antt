@@ -6,7 +6,7 @@ use Rattle.si_syntax.specs.Trees.{body_of, elif_of, clause_of}
 use Rattle.si_compile.specs.Code.{stmts_code}
 use Rattle.si_compile.proofs.HandlerCode.{Handlers}
 use Rattle.si_code.specs.Contents.{Contents, Extends}
-use Rattle.si_code.specs.Jumps.{Due}
+use Rattle.si_code.specs.inner.Jumps.{Due}
 use Rattle.si_code.specs.Views.{Gains}
 use Rattle.si_compile.proofs.+stmts.Given as goal
 

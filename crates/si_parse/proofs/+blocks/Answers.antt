@@ -3,8 +3,8 @@ use Rattle.std.specs.Prelude.{option_map, not}
 use Rattle.std.proofs.lemmas.List.{map-append, length-map}
 use Rattle.si_syntax.proofs.Forms.{try_is}
 use Rattle.si_syntax.specs.Trees.{stmt_of, branch_of, clause_of}
-use Rattle.si_parse.specs.Reading.{many_by, elif_by, no_elif, catch_by, no_catch, is_none, is_dedent, block_at}
-use Rattle.si_parse.specs.Gives.{from, header_view}
+use Rattle.si_parse.specs.inner.Reading.{many_by, elif_by, no_elif, catch_by, no_catch, is_none, is_dedent, block_at}
+use Rattle.si_parse.specs.inner.Gives.{from, header_view}
 use Rattle.si_plain.proofs.Lengths.{not_empty}
 use Rattle.si_parse.proofs.Turns.{many_on, block_compound, elif_read, catch_read, try_read}
 use Rattle.si_parse.proofs.+blocks.Goals as goal

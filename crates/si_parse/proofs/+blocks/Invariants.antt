@@ -1,7 +1,7 @@
 use Rattle.std.proofs.Common.{◌≡◌, ◌+◌, ◌-◌, ◌*◌, [], length, map}
 use Rattle.si_syntax.specs.Trees.{stmt_of, branch_of, clause_of}
-use Rattle.si_parse.specs.Reading.{many_by, elif_by, no_elif, elifs_by, catch_by, no_catch, catches_by, is_dedent, block_at}
-use Rattle.si_parse.specs.Gives.{from}
+use Rattle.si_parse.specs.inner.Reading.{many_by, elif_by, no_elif, elifs_by, catch_by, no_catch, catches_by, is_dedent, block_at}
+use Rattle.si_parse.specs.inner.Gives.{from}
 use Rattle.si_parse.proofs.+blocks.Given as goal
 
 abbrev pub decreases-block::block : goal.decreases-block::block

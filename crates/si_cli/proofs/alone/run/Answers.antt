@@ -1,7 +1,7 @@
 use Rattle.std.proofs.Common.{◌≡◌, ℕ, ◌+◌, arith, sym, subst}
 use Rattle.si_cli.proofs.CourseLemmas.{goes_on, has_ended, has_paused, has_starved, outcome_asked}
 use Rattle.si_cli.specs.declared.interpreter.Standing.TheVariants.{Ready, AtEnd}
-use Rattle.si_cli.specs.Courses.{HasRun}
+use Rattle.si_cli.specs.inner.Courses.{HasRun}
 use Rattle.si_cli.proofs.alone.run.Goals as goal
 
 pub loop-turn-preserved : goal.loop-turn-preserved

@@ -4,7 +4,7 @@ use Rattle.si_semantics.specs.Grammar.{exprs_of, chain_of}
 use Rattle.si_syntax.specs.Trees.{expr_of, link_of}
 use Rattle.si_compile.specs.Code.{exprs_code, operands_code, chain_code}
 use Rattle.si_code.specs.Contents.{Contents, Extends}
-use Rattle.si_code.specs.Jumps.{Due}
+use Rattle.si_code.specs.inner.Jumps.{Due}
 use Rattle.si_code.specs.Views.{Gains}
 use Rattle.si_compile.proofs.expression.+exprs.Given as goal
 

@@ -8,8 +8,8 @@ use Rattle.std.proofs.lemmas.Result.{on_ok_weaker}
 use Rattle.si_syntax.specs.Trees.{body_of, stmt_of}
 use Rattle.si_semantics.specs.Tree.{functions_in}
 use Rattle.si_code.proofs.Growth.{Extends-same, Extends-trans}
-use Rattle.si_compile.specs.Functions.{if_functions, loop_functions}
-use Rattle.si_compile.specs.Jumps.{front_functions}
+use Rattle.si_compile.specs.inner.Functions.{if_functions, loop_functions}
+use Rattle.si_compile.specs.inner.Jumps.{front_functions}
 use Rattle.si_compile.proofs.Seen.{if_seen}
 use Rattle.si_compile.proofs.Functions.{stmt_stands, elif_stands, functions_none, walk_begins, walk_more, walk_gains, walk_number, stmts_rest, stmts_none, elifs_rest, elifs_last, locals_at, not_missing, found_is, define_functions, part_stands, rest_stands, all_stand, both_gain, both_pass, finally_front, clauses_rest, clauses_last, clause_stands, Handled, loop_defines, loop_suite, loop_last, try_defines, try_suite, try_last, try_clauses, clause_depth}
 use Rattle.si_compile.proofs.script.+functions.Goals as goal

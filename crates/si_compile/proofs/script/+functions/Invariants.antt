@@ -4,8 +4,8 @@ use Rattle.si_semantics.specs.Tree.{functions_in}
 use Rattle.si_syntax.specs.Trees.{body_of, elif_of, stmt_of}
 use Rattle.si_scope.specs.Scripts.{script_of}
 use Rattle.si_code.specs.Contents.{Extends}
-use Rattle.si_compile.specs.Functions.{if_functions}
-use Rattle.si_compile.specs.Jumps.{front_functions}
+use Rattle.si_compile.specs.inner.Functions.{if_functions}
+use Rattle.si_compile.specs.inner.Jumps.{front_functions}
 use Rattle.si_compile.proofs.Functions.{Walk, Handled}
 use Rattle.si_compile.proofs.script.+functions.Given as goal
 

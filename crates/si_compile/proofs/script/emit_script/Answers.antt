@@ -1,7 +1,7 @@
 use Rattle.std.proofs.Common.{◌≡◌, length, sym, subst, arith}
 use Rattle.si_semantics.specs.Tree.{functions_in}
 use Rattle.si_scope.specs.Scripts.{script_of}
-use Rattle.si_compile.specs.Functions.{StandAt}
+use Rattle.si_compile.specs.inner.Functions.{StandAt}
 use Rattle.si_compile.proofs.Functions.{stand_all, script_gains, script_at}
 use Rattle.si_compile.proofs.script.emit_script.Goals as goal
 

@@ -1,5 +1,5 @@
 use Rattle.std.proofs.Common.{◌≡◌, map, take}
-use Rattle.si_machine.specs.Firsts.{first_of}
+use Rattle.si_machine.specs.inner.Firsts.{first_of}
 use Rattle.si_machine.proofs.first.first_globals.Given as goal
 
 abbrev pub invariant-loop-slot : goal.invariant-loop-slot

@@ -1,6 +1,6 @@
 use Rattle.std.proofs.Common.{◌<◌, ◌^◌, arith, ◌∷◌, ◌++◌, [], length, ap, ◌∙◌}
 use Rattle.std.specs.Prelude.{map}
-use Rattle.si_machine.specs.Firsts.{first_of}
+use Rattle.si_machine.specs.inner.Firsts.{first_of}
 use Rattle.si_machine.proofs.Begun.{all_known}
 use Rattle.si_machine.proofs.first.first_known.Goals as goal
 

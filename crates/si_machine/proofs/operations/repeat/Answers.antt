@@ -2,7 +2,7 @@ use Rattle.std.proofs.Common.{subst, Ok, Err, ℤ}
 use Rattle.std.proofs.Math.Facts.{to_z-of_z}
 use Rattle.si_semantics.specs.Operations.{repeated}
 use Rattle.si_code.specs.Views.{text_at}
-use Rattle.si_machine.specs.Causes.{Adds, repeated_text}
+use Rattle.si_machine.specs.inner.Causes.{Adds, repeated_text}
 use Rattle.si_machine.proofs.Strings.{placed_runs, refused_runs, repeated_fits, repeated_over}
 use Rattle.si_machine.proofs.operations.repeat.Goals as goal
 

@@ -3,7 +3,7 @@ use Rattle.std.specs.Fmt.{signed_decimal}
 use Rattle.std.proofs.lemmas.Fmt.{IsAscii-signed, length_signed_le}
 use Rattle.std.proofs.lemmas.Str.Ascii.{encodes-IsAscii}
 use Rattle.si_plain.specs.declared.kind.Kind.TheVariants.{OverflowError}
-use Rattle.si_machine.specs.Causes.{GoesOn}
+use Rattle.si_machine.specs.inner.Causes.{GoesOn}
 use Rattle.si_machine.proofs.print.write_int.Goals as goal
 
 pub returns : goal.returns

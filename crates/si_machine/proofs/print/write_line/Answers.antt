@@ -3,7 +3,7 @@ use Rattle.si_semantics.specs.Value as pure
 use Rattle.si_semantics.specs.Text.{str_in, line_of}
 use Rattle.si_machine.specs.declared.value.Value.{Value}
 use Rattle.si_machine.specs.Values.{value_of}
-use Rattle.si_machine.specs.Causes.{object_of, GoesOn, Prints, spaced_in}
+use Rattle.si_machine.specs.inner.Causes.{object_of, GoesOn, Prints, spaced_in}
 use Rattle.si_machine.proofs.Printed.{wrote, others_refused, all_go}
 use Rattle.si_machine.proofs.print.write_line.Goals as goal
 

@@ -1,5 +1,5 @@
 use Rattle.std.proofs.Common.{map, string_bytes}
-use Rattle.si_machine.specs.Causes.{object_of}
+use Rattle.si_machine.specs.inner.Causes.{object_of}
 use Rattle.si_machine.proofs.Printed.{next_goes, next_refused}
 use Rattle.si_machine.proofs.print.write_others.Goals as goal
 

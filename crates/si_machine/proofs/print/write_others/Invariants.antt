@@ -1,7 +1,7 @@
 -- the values so far are written
 use Rattle.std.proofs.Common.{map, take, string_bytes}
 use Rattle.si_machine.specs.Values.{value_of}
-use Rattle.si_machine.specs.Causes.{object_of, GoesOn, spaced_in}
+use Rattle.si_machine.specs.inner.Causes.{object_of, GoesOn, spaced_in}
 use Rattle.si_machine.proofs.print.write_others.Given as goal
 
 abbrev pub invariant-loop-value : goal.invariant-loop-value

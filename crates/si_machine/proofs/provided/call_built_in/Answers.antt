@@ -3,7 +3,7 @@ use Rattle.si_semantics.specs.Value as pure
 use Rattle.si_semantics.specs.Operations.{call_built_in}
 use Rattle.si_machine.specs.declared.value.BuiltIn.{BuiltIn}
 use Rattle.si_machine.specs.Values.{value_of, built_in_of}
-use Rattle.si_machine.specs.Causes.{object_of, RunsIn}
+use Rattle.si_machine.specs.inner.Causes.{object_of, RunsIn}
 use Rattle.si_machine.proofs.Ranged.{runs_in, sole_runs}
 use Rattle.si_machine.proofs.provided.call_built_in.Goals as goal
 

@@ -1,7 +1,7 @@
 use Rattle.std.proofs.Common.{map}
 use Rattle.si_semantics.specs.Text.{str_in}
 use Rattle.si_machine.specs.Values.{value_of}
-use Rattle.si_machine.specs.Causes.{object_of}
+use Rattle.si_machine.specs.inner.Causes.{object_of}
 use Rattle.si_machine.proofs.Wholes.{text_runs, text_refused}
 use Rattle.si_machine.proofs.provided.call_str.Goals as goal
 

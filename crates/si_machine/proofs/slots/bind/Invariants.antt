@@ -1,5 +1,5 @@
 use Rattle.std.proofs.Common.{◌≡◌, ◌++◌, take, drop}
-use Rattle.si_machine.specs.Stacks.{passed}
+use Rattle.si_machine.specs.inner.Stacks.{passed}
 use Rattle.si_machine.proofs.slots.bind.Given as goal
 
 abbrev pub invariant-loop-i : goal.invariant-loop-i

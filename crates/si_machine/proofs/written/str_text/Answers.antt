@@ -1,7 +1,7 @@
 use Rattle.std.proofs.Common.{map}
 use Rattle.si_semantics.specs.Text.{str_of}
 use Rattle.si_machine.specs.Values.{value_of}
-use Rattle.si_machine.specs.Causes.{object_of}
+use Rattle.si_machine.specs.inner.Causes.{object_of}
 use Rattle.si_machine.proofs.Wholes.{whole}
 use Rattle.si_machine.proofs.written.str_text.Goals as goal
 

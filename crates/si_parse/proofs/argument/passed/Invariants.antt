@@ -1,7 +1,7 @@
 use Rattle.std.proofs.Common.{◌≡◌, [], map, string_bytes}
 use Rattle.si_syntax.specs.Trees.{expr_of}
-use Rattle.si_parse.specs.Reading.{passed_from}
-use Rattle.si_parse.specs.Gives.{argument_of}
+use Rattle.si_parse.specs.inner.Reading.{passed_from}
+use Rattle.si_parse.specs.inner.Gives.{argument_of}
 use Rattle.si_parse.proofs.argument.passed.Given as goal
 
 -- the arguments that are left go behind what is kept, and each name that is kept has a slot

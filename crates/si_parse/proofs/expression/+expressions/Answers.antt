@@ -5,8 +5,8 @@ use Rattle.std.specs.Prelude.{option_map, ◌∷◌, ◌++◌, max}
 use Rattle.si_semantics.specs.Tokens as token
 use Rattle.si_semantics.specs.Grammar.{item_level, Sign}
 use Rattle.si_syntax.specs.Trees.{expr_of, link_of}
-use Rattle.si_parse.specs.Reading.{with_word, after_boolean, comparison_at, compared_by, separated_by, with_argument, argument_by, expression_at, strength_of, after}
-use Rattle.si_parse.specs.Gives.{Fails, from, continuation_view, argument_of}
+use Rattle.si_parse.specs.inner.Reading.{with_word, after_boolean, comparison_at, compared_by, separated_by, with_argument, argument_by, expression_at, strength_of, after}
+use Rattle.si_parse.specs.inner.Gives.{Fails, from, continuation_view, argument_of}
 use Rattle.si_parse.proofs.Turns.{continued_on, continued_stops, continued_fails, separated_fails, separated_last, separated_on, separated_stuck, chain_ends, chain_next, chain_fails}
 use Rattle.si_parse.proofs.expression.+expressions.Goals as goal
 

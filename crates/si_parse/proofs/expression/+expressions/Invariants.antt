@@ -2,8 +2,8 @@ use Rattle.std.proofs.Common.{◌≡◌, ◌+◌, ◌-◌, ◌*◌, ◌≤◌, l
 use Rattle.si_semantics.specs.Tokens as token
 use Rattle.si_semantics.specs.Grammar.{item_level, Sign}
 use Rattle.si_syntax.specs.Trees.{expr_of, link_of}
-use Rattle.si_parse.specs.Reading.{continued_by, arguments_by, operands_by, links_by, separated_by, chain_by, with_word, after_boolean, comparison_at, compared_by, with_argument, argument_by, expression_at, after}
-use Rattle.si_parse.specs.Gives.{from, argument_of}
+use Rattle.si_parse.specs.inner.Reading.{continued_by, arguments_by, operands_by, links_by, separated_by, chain_by, with_word, after_boolean, comparison_at, compared_by, with_argument, argument_by, expression_at, after}
+use Rattle.si_parse.specs.inner.Gives.{from, argument_of}
 use Rattle.si_parse.proofs.expression.+expressions.Given as goal
 
 abbrev pub decreases-expression : goal.decreases-expression

@@ -1,7 +1,7 @@
 use Rattle.std.proofs.Common.{◌≡◌, ◌-◌, suc, sym, ap, ◌∙◌, arith}
 use Rattle.std.specs.Option.{option_to_list}
-use Rattle.si_token.specs.Literals.{characters}
-use Rattle.si_parse.specs.Literals.{value_from}
+use Rattle.si_token.specs.inner.Literals.{characters}
+use Rattle.si_parse.specs.inner.Literals.{value_from}
 use Rattle.si_parse.proofs.Literals.{on_plain, no_escape, on_escape, on_skipped}
 use Rattle.si_parse.proofs.literal.str_value.Goals as goal
 

@@ -1,7 +1,7 @@
 use Rattle.std.proofs.Common.{◌≡◌, length, IsUtf8}
 use Rattle.si_semantics.specs.Literals.{value_of_str}
-use Rattle.si_token.specs.Literals.{characters}
-use Rattle.si_parse.specs.Literals.{value_from}
+use Rattle.si_token.specs.inner.Literals.{characters}
+use Rattle.si_parse.specs.inner.Literals.{value_from}
 use Rattle.si_parse.proofs.literal.str_value.Given as goal
 
 abbrev pub invariant-loop-character : goal.invariant-loop-character

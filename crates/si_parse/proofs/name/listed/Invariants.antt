@@ -1,8 +1,8 @@
 use Rattle.std.proofs.Common.{◌≡◌, ◌-◌, length, map, string_bytes}
 use Rattle.si_semantics.specs.Tokens as token
 use Rattle.si_semantics.specs.Grammar.{Sign}
-use Rattle.si_parse.specs.Reading.{separated_by, with_parameter, name_at, listed_by, after}
-use Rattle.si_parse.specs.Gives.{from}
+use Rattle.si_parse.specs.inner.Reading.{separated_by, with_parameter, name_at, listed_by, after}
+use Rattle.si_parse.specs.inner.Gives.{from}
 use Rattle.si_parse.proofs.name.listed.Given as goal
 
 abbrev pub invariant-loop-turn : goal.invariant-loop-turn

@@ -1,7 +1,7 @@
 use Rattle.std.proofs.Common.{sym, ◌∙◌, subst}
 use Rattle.std.proofs.lemmas.Result.{err_from_is_err_and}
 use Rattle.si_semantics.specs.Grammar.{Derives}
-use Rattle.si_parse.specs.Gives.{from}
+use Rattle.si_parse.specs.inner.Gives.{from}
 use Rattle.si_parse.proofs.Limits.{derived_within}
 use Rattle.si_parse.proofs.Modules.{found, one_module}
 use Rattle.si_parse.proofs.Refusals.{refused}

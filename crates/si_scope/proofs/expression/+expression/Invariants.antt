@@ -2,7 +2,7 @@ use Rattle.std.proofs.Common.{◌≡◌, map, drop}
 use Rattle.si_semantics.specs.Grammar.{exprs_of, chain_of}
 use Rattle.si_semantics.specs.Scope.{names_of_all, names_of_chain}
 use Rattle.si_syntax.specs.Trees.{expr_of, link_of}
-use Rattle.si_scope.specs.Walk.{with_names}
+use Rattle.si_scope.specs.inner.Walk.{with_names}
 use Rattle.si_scope.proofs.expression.+expression.Given as goal
 
 -- with the names of the rest they are those of all

@@ -3,7 +3,7 @@ use Rattle.std.specs.Option.{option_and_then}
 use Rattle.si_semantics.specs.Grammar.{clauses_of}
 use Rattle.si_syntax.specs.Trees.{body_of, clause_of}
 use Rattle.si_scope.specs.Faults.{Leaves}
-use Rattle.si_scope.specs.Walk.{after_all, after_clauses}
+use Rattle.si_scope.specs.inner.Walk.{after_all, after_clauses}
 use Rattle.si_scope.proofs.Turns.{handed_on, fails_then, next_stmt, if_front, next_elif, last_elif, clauses_are, next_clause, last_clause}
 use Rattle.si_scope.proofs.suite.+suite.Goals as goal
 

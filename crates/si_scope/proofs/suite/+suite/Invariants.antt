@@ -1,7 +1,7 @@
 use Rattle.std.proofs.Common.{◌≡◌, map, drop}
 use Rattle.si_semantics.specs.Grammar.{elifs_of, clauses_of}
 use Rattle.si_syntax.specs.Trees.{body_of, elif_of, clause_of}
-use Rattle.si_scope.specs.Walk.{after_all, after_clauses}
+use Rattle.si_scope.specs.inner.Walk.{after_all, after_clauses}
 use Rattle.si_scope.proofs.suite.+suite.Given as goal
 
 -- the rest decides

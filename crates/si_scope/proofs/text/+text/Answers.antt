@@ -3,7 +3,7 @@ use Rattle.std.specs.Option.{option_and_then}
 use Rattle.si_semantics.specs.Grammar.{clauses_of}
 use Rattle.si_syntax.specs.Trees.{body_of, clause_of}
 use Rattle.si_scope.specs.Faults.{Leaves}
-use Rattle.si_scope.specs.Walk.{resolved_all, resolved_clauses}
+use Rattle.si_scope.specs.inner.Walk.{resolved_all, resolved_clauses}
 use Rattle.si_scope.proofs.Texts.{next_stmt, if_front, next_elif, last_elif, next_clause, last_clause}
 use Rattle.si_scope.proofs.Turns.{handed_on, fails_then, clauses_are}
 use Rattle.si_scope.proofs.text.+text.Goals as goal

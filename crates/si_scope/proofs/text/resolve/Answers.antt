@@ -1,7 +1,7 @@
 use Rattle.std.proofs.Common.{false, sym, ap, subst, ◌∙◌}
 use Rattle.si_syntax.specs.Modules.{tree_of}
 use Rattle.si_scope.specs.Faults.{Fails}
-use Rattle.si_scope.specs.Walk.{resolved_all}
+use Rattle.si_scope.specs.inner.Walk.{resolved_all}
 use Rattle.si_scope.proofs.Resolved.{script_resolved, refused_for}
 use Rattle.si_scope.proofs.text.resolve.Goals as goal
 

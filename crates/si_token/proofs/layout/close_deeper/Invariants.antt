@@ -1,6 +1,6 @@
 use Rattle.std.proofs.Common.{◌≡◌, ◌+◌, length, reverse}
 use Rattle.si_semantics.specs.Layout.{closing}
-use Rattle.si_token.specs.Laying.{behind_dedents}
+use Rattle.si_token.specs.inner.Laying.{behind_dedents}
 use Rattle.si_token.proofs.layout.close_deeper.Given as goal
 
 abbrev pub invariant-loop-columns : goal.invariant-loop-columns

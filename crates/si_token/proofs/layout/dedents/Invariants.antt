@@ -1,6 +1,6 @@
 use Rattle.std.proofs.Common.{replicate}
 use Rattle.si_semantics.specs.Tokens.{Dedent}
-use Rattle.si_token.specs.Laying.{Adds}
+use Rattle.si_token.specs.inner.Laying.{Adds}
 use Rattle.si_token.proofs.layout.dedents.Given as goal
 
 abbrev pub invariant-loop : goal.invariant-loop

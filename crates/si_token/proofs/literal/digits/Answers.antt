@@ -1,6 +1,6 @@
 use Rattle.std.proofs.Common.{◌≡◌, ◌<◌, ◌+◌, ◌*◌, ◌-◌, sym, ap, ◌∙◌, arith}
 use Rattle.si_semantics.specs.Literals.{digits_within}
-use Rattle.si_token.specs.Literals.{characters, up_to}
+use Rattle.si_token.specs.inner.Literals.{characters, up_to}
 use Rattle.si_token.proofs.Literals.{behind, too_few, enough, with_one, passed}
 use Rattle.si_token.proofs.literal.digits.Goals as goal
 

@@ -1,6 +1,6 @@
 use Rattle.std.proofs.Common.{◌≡◌, ◌≤◌, ◌-◌, IsUtf8}
 use Rattle.si_semantics.specs.Literals.{digits_within}
-use Rattle.si_token.specs.Literals.{characters, up_to}
+use Rattle.si_token.specs.inner.Literals.{characters, up_to}
 use Rattle.si_token.proofs.Literals.{behind}
 use Rattle.si_token.proofs.literal.digits.Given as goal
 

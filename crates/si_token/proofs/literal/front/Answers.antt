@@ -1,7 +1,7 @@
 use Rattle.std.proofs.Common.{◌≡◌, ◌++◌, sym, ap, ◌∙◌}
 use Rattle.std.specs.Prelude.{encode_utf8}
 use Rattle.std.proofs.lemmas.Str.{chars_past_char}
-use Rattle.si_token.specs.Literals.{front_of}
+use Rattle.si_token.specs.inner.Literals.{front_of}
 use Rattle.si_token.proofs.literal.front.Goals as goal
 
 pub returns-clause-gives : goal.returns-clause-gives

@@ -1,6 +1,6 @@
 use Rattle.std.proofs.Common.{◌≡◌, sym, ◌∙◌, arith}
 use Rattle.std.specs.Option.{option_to_list}
-use Rattle.si_token.specs.Literals.{characters}
+use Rattle.si_token.specs.inner.Literals.{characters}
 use Rattle.si_token.proofs.Literals.{no_escape, on_escape}
 use Rattle.si_token.proofs.literal.has_value.Goals as goal
 

@@ -2,7 +2,7 @@ use Rattle.std.proofs.Common.{◌≡◌, length, IsUtf8}
 use Rattle.std.specs.Option.{is_some}
 use Rattle.si_semantics.specs.Literals.{unescaped}
 use Rattle.si_semantics.specs.Words.{has_value}
-use Rattle.si_token.specs.Literals.{characters}
+use Rattle.si_token.specs.inner.Literals.{characters}
 use Rattle.si_token.proofs.literal.has_value.Given as goal
 
 abbrev pub invariant-loop-character : goal.invariant-loop-character

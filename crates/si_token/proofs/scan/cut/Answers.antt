@@ -3,7 +3,7 @@ use Rattle.std.specs.Prelude.{if◌then◌else◌}
 use Rattle.si_token.proofs.Runs.{Longest, longest_found, word_by}
 use Rattle.si_token.proofs.Boundaries.{cut_at}
 use Rattle.si_token.specs.Views.{sort_of}
-use Rattle.si_token.specs.Reading.{longest_at}
+use Rattle.si_token.specs.inner.Reading.{longest_at}
 use Rattle.si_token.proofs.scan.cut.Goals as goal
 
 longest : (c : goal.In_ok-sort) → longest_at c.args.rest.now ≡ Some (sort_of c.in_ok-sort.sort, c.in_ok-sort.length)

@@ -3,13 +3,13 @@ use Rattle.std.specs.Prelude.{IfErr, IsErrAnd, replicate}
 use Rattle.std.proofs.Common.{Result, Ok, Err}
 use Rattle.si_semantics.specs.Tokens.{Dedent}
 use Rattle.si_token.specs.declared.scan.TokenFault.{TokenFault}
-use Rattle.si_token.specs.Laying.{Adds}
+use Rattle.si_token.specs.inner.Laying.{Adds}
 use Rattle.std.proofs.lemmas.List.{length-append}
 use Rattle.si_plain.specs.LineEnds.{ends_before}
 use Rattle.si_semantics.specs.Layout.{HasTokens, line_at}
 use Rattle.si_token.specs.Views.{Place, token_of, kind_of, place_of, sort_of}
 use Rattle.std.specs.Option.{option_map}
-use Rattle.si_token.specs.Reading.{word_at}
+use Rattle.si_token.specs.inner.Reading.{word_at}
 use Rattle.si_token.specs.Spans.{EndsIn}
 use Rattle.si_token.specs.declared.token.TokenKind.TheVariants.{End}
 use Rattle.si_token.proofs.Steps.{AreBefore, all_ending, at_start, next_word, no_word, no_place, over_right, over_only}

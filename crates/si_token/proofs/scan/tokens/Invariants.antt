@@ -1,6 +1,6 @@
 use Rattle.std.proofs.Common.{length, ◌+◌, ◌≡◌, map, drop, reverse, IsUtf8}
 use Rattle.si_semantics.specs.Layout.{line_at}
-use Rattle.si_token.specs.Places.{IsWithin}
+use Rattle.si_token.specs.inner.Places.{IsWithin}
 use Rattle.si_token.specs.Views.{token_of, place_of}
 use Rattle.si_token.proofs.Slices.{AreParts}
 use Rattle.si_token.proofs.Steps.{AreBefore}

@@ -1,7 +1,7 @@
 use Rattle.std.proofs.Common.{◌≡◌, ◌∙◌, Some, sym, ap, arith, true, ◌+◌}
 use Rattle.std.specs.Prelude.{◌==◌}
 use Rattle.std.proofs.lemmas.Bool.Decides.{nat_tests}
-use Rattle.si_token.specs.Reading.{plus}
+use Rattle.si_token.specs.inner.Reading.{plus}
 use Rattle.si_token.proofs.Texts.{body_over}
 use Rattle.si_token.proofs.words.body_length.Goals as goal
 

@@ -1,5 +1,5 @@
 use Rattle.std.proofs.Common.{◌≡◌, ◌≤◌, ◌-◌, length, drop, false}
-use Rattle.si_token.specs.Reading.{body_length, plus}
+use Rattle.si_token.specs.inner.Reading.{body_length, plus}
 use Rattle.si_token.proofs.words.body_length.Given as goal
 
 abbrev pub invariant-loop-row : goal.invariant-loop-row

@@ -1,6 +1,6 @@
 use Rattle.std.proofs.Common.{◌≡◌, ◌≤◌, length, take}
 use Rattle.std.specs.Prelude.{reverse}
-use Rattle.si_machine.specs.Blocks.{active_of}
+use Rattle.si_machine.specs.inner.Blocks.{active_of}
 use Rattle.si_machine.proofs.blocks.Blocks.active.Given as goal
 
 abbrev pub invariant-loop-left : goal.invariant-loop-left

@@ -1,5 +1,5 @@
 use Rattle.std.proofs.Common.{◌≡◌, length}
-use Rattle.si_machine.specs.Blocks.{reached}
+use Rattle.si_machine.specs.inner.Blocks.{reached}
 use Rattle.si_machine.proofs.blocks.Blocks.pass.Given as goal
 
 abbrev pub invariant-loop-block : goal.invariant-loop-block

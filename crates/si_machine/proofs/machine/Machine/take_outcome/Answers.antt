@@ -1,5 +1,5 @@
 use Rattle.std.proofs.Common.{sym, subst}
-use Rattle.si_machine.specs.States.{IsKept}
+use Rattle.si_machine.specs.inner.States.{IsKept}
 use Rattle.si_machine.proofs.Kept.{taken_kept}
 use Rattle.si_machine.proofs.machine.Machine.take_outcome.Goals as goal
 

@@ -1,6 +1,6 @@
 use Rattle.std.proofs.Common.{◌≡◌, ◌+◌, ◌-◌, ◌∷◌, ◌++◌, take, drop, length, ap, ◌∙◌, arith}
 use Rattle.std.specs.Prelude.{reverse}
-use Rattle.si_machine.specs.Stacks.{operands_seen}
+use Rattle.si_machine.specs.inner.Stacks.{operands_seen}
 use Rattle.si_machine.proofs.OperandParts.{put_below, seen, has_many}
 use Rattle.si_machine.proofs.operands.Operands.insert.Goals as goal
 

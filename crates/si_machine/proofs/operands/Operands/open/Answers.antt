@@ -1,6 +1,6 @@
 use Rattle.std.proofs.Common.{◌≡◌, ◌+◌, ◌-◌, [], ◌∷◌, drop, take, length, ap, ◌∙◌, arith}
 use Rattle.std.specs.Prelude.{reverse}
-use Rattle.si_machine.specs.Stacks.{operands_seen}
+use Rattle.si_machine.specs.inner.Stacks.{operands_seen}
 use Rattle.si_machine.proofs.OperandParts.{opened, seen, has_many}
 use Rattle.std.proofs.lemmas.List.{reverse-append}
 use Rattle.si_machine.proofs.operands.Operands.open.Goals as goal

@@ -1,6 +1,6 @@
 use Rattle.std.proofs.Common.{◌∷◌, ◌∙◌, ap}
 use Rattle.std.specs.Prelude.{reverse}
-use Rattle.si_machine.specs.Stacks.{operands_seen}
+use Rattle.si_machine.specs.inner.Stacks.{operands_seen}
 use Rattle.si_machine.proofs.OperandParts.{pushed, seen}
 use Rattle.si_machine.proofs.operands.Operands.push.Goals as goal
 

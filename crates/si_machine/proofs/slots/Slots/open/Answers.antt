@@ -3,7 +3,7 @@ use Rattle.std.specs.Prelude.{reverse, replicate}
 use Rattle.std.specs.Vec.{vec_len}
 use Rattle.std.proofs.lemmas.List.{reverse-append, with_items_is}
 use borrow.Rule.Slice.PartMut.{post_of}
-use Rattle.si_machine.specs.Stacks.{slots_seen, entered}
+use Rattle.si_machine.specs.inner.Stacks.{slots_seen, entered}
 use Rattle.si_machine.proofs.SlotParts.{added, opened, seen}
 use Rattle.si_machine.proofs.slots.Slots.open.Goals as goal
 

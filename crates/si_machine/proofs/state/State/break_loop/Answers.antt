@@ -1,6 +1,6 @@
 use Rattle.std.proofs.Common.{[], ◌∷◌, drop, ap, ◌∙◌}
 use Rattle.si_machine.specs.declared.state.State.{State}
-use Rattle.si_machine.specs.States.{with_operands}
+use Rattle.si_machine.specs.inner.States.{with_operands}
 use Rattle.si_machine.proofs.Lines.{local}
 use Rattle.si_machine.proofs.Branches.{break_did}
 use Rattle.si_machine.proofs.state.State.break_loop.Goals as goal

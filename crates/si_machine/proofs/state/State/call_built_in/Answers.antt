@@ -3,8 +3,8 @@ use Rattle.si_semantics.specs.Operations.{call_built_in}
 use Rattle.si_machine.specs.declared.value.Object.{Object}
 use Rattle.si_machine.specs.declared.state.State.{State}
 use Rattle.si_machine.specs.Values.{built_in_of}
-use Rattle.si_machine.specs.Causes.{RunsIn}
-use Rattle.si_machine.specs.States.{object_in, value_in, world_of, IsRaised}
+use Rattle.si_machine.specs.inner.Causes.{RunsIn}
+use Rattle.si_machine.specs.inner.States.{object_in, value_in, world_of, IsRaised}
 use Rattle.si_machine.proofs.Lines.{local}
 use Rattle.si_machine.proofs.CallLines.{built_in_did, built_in_raises, raised_in}
 use Rattle.si_machine.proofs.state.State.call_built_in.Goals as goal

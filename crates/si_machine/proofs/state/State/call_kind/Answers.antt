@@ -3,7 +3,7 @@ use Rattle.std.specs.Prelude.{reverse}
 use Rattle.si_semantics.specs.Operations.{call_kind}
 use Rattle.si_machine.specs.declared.value.Value.TheVariants as value
 use Rattle.si_machine.specs.declared.value.Object.TheVariants.{Made}
-use Rattle.si_machine.specs.States.{value_in, world_of}
+use Rattle.si_machine.specs.inner.States.{value_in, world_of}
 use Rattle.si_machine.proofs.Lines.{topmost}
 use Rattle.si_machine.proofs.Frames.{callee_within}
 use Rattle.si_machine.proofs.CallLines.{made_did, one_made, kind_refused}

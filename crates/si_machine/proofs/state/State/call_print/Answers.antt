@@ -3,8 +3,8 @@ use Rattle.si_semantics.specs.Text.{line_of as text_line}
 use Rattle.si_machine.specs.declared.value.Object.{Object}
 use Rattle.si_machine.specs.declared.value.Object.TheVariants.{Caused}
 use Rattle.si_machine.specs.declared.state.State.{State}
-use Rattle.si_machine.specs.Causes.{IsUnwritten, GoesOn}
-use Rattle.si_machine.specs.States.{object_in, value_in, world_of, raised_line}
+use Rattle.si_machine.specs.inner.Causes.{IsUnwritten, GoesOn}
+use Rattle.si_machine.specs.inner.States.{object_in, value_in, world_of, raised_line}
 use Rattle.si_machine.proofs.Frames.{print_did}
 use Rattle.si_machine.proofs.CallLines.{print_raises, aside_did, went_on}
 use Rattle.si_machine.proofs.state.State.call_print.Goals as goal

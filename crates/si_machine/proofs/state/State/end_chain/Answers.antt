@@ -2,7 +2,7 @@ use Rattle.std.proofs.Common.{◌+◌, drop, sym, ap, ◌∙◌}
 use Rattle.si_machine.specs.declared.state.State.{State}
 use Rattle.si_machine.proofs.Lines.{local}
 use Rattle.si_machine.proofs.Branches.{chain_goes_on, chain_ends}
-use Rattle.si_machine.specs.States.{world_of}
+use Rattle.si_machine.specs.inner.States.{world_of}
 use Rattle.si_machine.proofs.state.State.end_chain.Goals as goal
 
 pub returns-then-is_true : goal.returns-then-is_true

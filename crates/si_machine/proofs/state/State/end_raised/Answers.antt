@@ -2,7 +2,7 @@ use Rattle.std.proofs.Common.{ap, ◌∙◌, map, slice_get}
 use Rattle.si_semantics.specs.Life.{kind_of}
 use Rattle.si_semantics.specs.Text.{message_of, str_in}
 use Rattle.si_semantics.specs.Value.{Address}
-use Rattle.si_machine.specs.States.{object_in}
+use Rattle.si_machine.specs.inner.States.{object_in}
 use Rattle.si_machine.proofs.Leavings.{raised_ends, ended}
 use Rattle.si_machine.proofs.state.State.end_raised.Goals as goal
 

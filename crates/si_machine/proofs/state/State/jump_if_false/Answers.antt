@@ -2,7 +2,7 @@ use Rattle.std.proofs.Common.{◌+◌, ap, sym, ◌∙◌}
 use Rattle.si_machine.specs.declared.state.State.{State}
 use Rattle.si_machine.proofs.Lines.{local, popped}
 use Rattle.si_machine.proofs.Branches.{branch_goes_on, branch_jumps}
-use Rattle.si_machine.specs.States.{world_of}
+use Rattle.si_machine.specs.inner.States.{world_of}
 use Rattle.si_machine.proofs.state.State.jump_if_false.Goals as goal
 
 pub returns-then-is_true : goal.returns-then-is_true

@@ -2,7 +2,7 @@ use Rattle.std.proofs.Common.{◌+◌, drop, sym, ap, ◌∙◌}
 use Rattle.si_machine.specs.declared.state.State.{State}
 use Rattle.si_machine.proofs.Lines.{local}
 use Rattle.si_machine.proofs.Branches.{word_decides, word_goes_on}
-use Rattle.si_machine.specs.States.{world_of}
+use Rattle.si_machine.specs.inner.States.{world_of}
 use Rattle.si_machine.proofs.state.State.jump_or_discard.Goals as goal
 
 pub returns-then-decides : goal.returns-then-decides

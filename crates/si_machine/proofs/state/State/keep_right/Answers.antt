@@ -2,7 +2,7 @@ use Rattle.std.proofs.Common.{◌+◌, drop, ap, ◌∙◌}
 use Rattle.si_machine.specs.declared.state.State.{State}
 use Rattle.si_machine.proofs.Lines.{local}
 use Rattle.si_machine.proofs.Branches.{keep_did, two_kept}
-use Rattle.si_machine.specs.States.{with_operands}
+use Rattle.si_machine.specs.inner.States.{with_operands}
 use Rattle.si_machine.proofs.state.State.keep_right.Goals as goal
 
 pub returns-in-Ok : goal.returns-in-Ok

@@ -1,7 +1,7 @@
 use Rattle.std.proofs.Common.{[], ◌∷◌, drop, sym, ap, ◌∙◌}
 use Rattle.si_machine.specs.declared.state.State.{State}
-use Rattle.si_machine.specs.States.{with_operands, back_at}
-use Rattle.si_machine.specs.Blocks.{left_with, left_to}
+use Rattle.si_machine.specs.inner.States.{with_operands, back_at}
+use Rattle.si_machine.specs.inner.Blocks.{left_with, left_to}
 use Rattle.si_machine.proofs.Lines.{local}
 use Rattle.si_machine.proofs.Leavings.{final_did, loop_did, frame_did, frame_caller, end_did, ended, each_reached, catch_reached, pending_reached, handling_reached}
 use Rattle.si_machine.proofs.state.State.leave_suite.Goals as goal

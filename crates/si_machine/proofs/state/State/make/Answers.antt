@@ -2,7 +2,7 @@ use Rattle.std.proofs.Common.{ap, ◌∙◌, sym, subst}
 use Rattle.si_machine.specs.declared.state.State.{State}
 use Rattle.si_machine.specs.declared.state.Standing.TheVariants as standing
 use Rattle.si_machine.specs.declared.step.Step.{Step}
-use Rattle.si_machine.specs.States.{IsMade}
+use Rattle.si_machine.specs.inner.States.{IsMade}
 use Rattle.si_machine.proofs.state.State.make.Goals as goal
 
 pub returns-in-Err : goal.returns-in-Err

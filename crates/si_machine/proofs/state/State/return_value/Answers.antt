@@ -1,6 +1,6 @@
 use Rattle.std.proofs.Common.{◌∷◌, drop, ap, ◌∙◌}
 use Rattle.si_machine.specs.declared.state.State.{State}
-use Rattle.si_machine.specs.States.{back_at}
+use Rattle.si_machine.specs.inner.States.{back_at}
 use Rattle.si_machine.proofs.Lines.{local}
 use Rattle.si_machine.proofs.Leavings.{return_back}
 use Rattle.si_machine.proofs.state.State.return_value.Goals as goal

@@ -1,6 +1,6 @@
 use Rattle.std.proofs.Common.{◌+◌, ap, ◌∙◌}
 use Rattle.si_machine.specs.declared.state.State.{State}
-use Rattle.si_machine.specs.States.{with_operands}
+use Rattle.si_machine.specs.inner.States.{with_operands}
 use Rattle.si_machine.proofs.Lines.{local, popped}
 use Rattle.si_machine.proofs.Frames.{store_local_did}
 use Rattle.si_machine.proofs.state.State.store_local.Goals as goal

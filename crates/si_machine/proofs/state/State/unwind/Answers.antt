@@ -1,7 +1,7 @@
 use Rattle.std.proofs.Common.{refl, subst, ap, ◌∙◌}
 use Rattle.si_machine.specs.declared.state.State.{State}
-use Rattle.si_machine.specs.Blocks.{LeavesFrame}
-use Rattle.si_machine.specs.Stacks.{left_by}
+use Rattle.si_machine.specs.inner.Blocks.{LeavesFrame}
+use Rattle.si_machine.specs.inner.Stacks.{left_by}
 use Rattle.si_machine.proofs.Leavings.{left_caller, frame_shorter, unwound_frame, unwound_met, handled_frame}
 use Rattle.si_machine.proofs.state.State.unwind.Goals as goal
 

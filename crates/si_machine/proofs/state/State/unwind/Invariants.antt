@@ -1,6 +1,6 @@
 use Rattle.std.proofs.Common.{◌≡◌, length, true}
-use Rattle.si_machine.specs.Blocks.{is_handled}
-use Rattle.si_machine.specs.States.{Unwinds}
+use Rattle.si_machine.specs.inner.Blocks.{is_handled}
+use Rattle.si_machine.specs.inner.States.{Unwinds}
 use Rattle.si_machine.proofs.state.State.unwind.Given as goal
 
 abbrev pub invariant-loop-self : goal.invariant-loop-self

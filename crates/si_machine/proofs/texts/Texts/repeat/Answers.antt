@@ -2,7 +2,7 @@ use Rattle.std.proofs.Common.{◌≡◌, ◌++◌, ◌∷◌, [], length, refl, 
 use Rattle.std.proofs.Math.Facts.{to_z-of_z}
 use Rattle.si_semantics.specs.Operations.{times}
 use Rattle.si_code.specs.Views.{text_at}
-use Rattle.si_machine.specs.Causes.{copies_of}
+use Rattle.si_machine.specs.inner.Causes.{copies_of}
 use Rattle.si_machine.proofs.Strings.{over, under, empty_fits, copies_same}
 use Rattle.si_machine.proofs.texts.Texts.repeat.Goals as goal
 use Rattle.si_machine.proofs.texts.Texts.repeat.Goals.{else-length-gt0-via-then-length-gt0+else-count-length, else-length-gt0-via-else-length-gt0}

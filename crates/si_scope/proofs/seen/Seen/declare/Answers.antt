@@ -1,5 +1,5 @@
 use Rattle.std.proofs.Common.{true, false, sym, ap, ◌∙◌, map, drop, ◌+◌, string_bytes}
-use Rattle.si_scope.specs.Walk.{declaring}
+use Rattle.si_scope.specs.inner.Walk.{declaring}
 use Rattle.si_scope.proofs.Declared.{seen_of, next_declared, last_declared}
 use Rattle.si_scope.proofs.seen.Seen.declare.Goals as goal
 

@@ -1,5 +1,5 @@
 use Rattle.std.proofs.Common.{◌≡◌, map, drop, string_bytes}
-use Rattle.si_scope.specs.Walk.{declaring}
+use Rattle.si_scope.specs.inner.Walk.{declaring}
 use Rattle.si_scope.proofs.seen.Seen.declare.Given as goal
 
 -- the rest decides

@@ -23,10 +23,10 @@ use Rattle.si_machine.specs.declared.step.Outcome.{Outcome}
 use Rattle.si_machine.specs.declared.step.Step.{Step}
 use Rattle.si_machine.specs.declared.step.Step.TheVariants.{Local, Ended, Starved}
 use Rattle.si_machine.specs.Values.{Heap, value_of, bound_of, items_of, leaving_of, globals_of, Fits}
-use Rattle.si_machine.specs.Causes.{object_of}
-use Rattle.si_machine.specs.Sound.{SoundStacks, SoundHeap, SoundCode}
+use Rattle.si_machine.specs.inner.Causes.{object_of}
+use Rattle.si_machine.specs.inner.Sound.{SoundStacks, SoundHeap, SoundCode}
 use Rattle.si_machine.specs.Outcomes.{outcome_of}
-use Rattle.si_machine.specs.Stacks.{OperandsSeen, SlotsSeen, back_with, back, entered}
+use Rattle.si_machine.specs.inner.Stacks.{OperandsSeen, SlotsSeen, back_with, back, entered}
 use Rattle.si_machine.specs.Machines.{Seen, moment_of}
 
 -- what a value of a state is, what is bound to a name, and an object: they denote by the state's heap

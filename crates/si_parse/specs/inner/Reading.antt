@@ -7,7 +7,7 @@ use Rattle.si_semantics.specs.Scope.{is_in}
 use Rattle.si_semantics.specs.Tokens.{Symbol, Keyword}
 use Rattle.si_semantics.specs.Tokens as token
 use Rattle.si_semantics.specs.Text.{max_length}
-use Rattle.si_parse.specs.Numbers.{same_symbol, same_keyword}
+use Rattle.si_parse.specs.inner.Numbers.{same_symbol, same_keyword}
 use Rattle.si_semantics.specs.Grammar.{Terminal, NAME, NUMBER, STRING, Sign, Word, NEWLINE, INDENT, DEDENT, ENDMARKER, Argument, Positional, ByName, value_of_int, value_of_str, left_level, right_level, prefix_level, item_level, is_identity, Link, chain_of, exprs_of, max_depth, Branch, stmts_of, elifs_of, Clause, clauses_of, max_nesting, max_parameters, word_of}
 
 -- ---- one terminal of look-ahead

@@ -7,7 +7,7 @@ use Rattle.si_machine.specs.declared.value.Object.{Object}
 use Rattle.si_machine.specs.declared.blocks.Block.{Block}
 use Rattle.si_machine.specs.declared.blocks.Block.TheVariants as block
 use Rattle.si_machine.specs.Values.{Heap, Fits, FitsBound, FitsItems, FitsLeaving, FitsObject, AreBuiltIn}
-use Rattle.si_machine.specs.Stacks.{OperandsSeen, SlotsSeen}
+use Rattle.si_machine.specs.inner.Stacks.{OperandsSeen, SlotsSeen}
 
 -- how many calls there are among blocks
 abbrev pub calls_in : List Block → ℕ

@@ -7,7 +7,7 @@ use Rattle.si_code.specs.Contents.{Contents}
 use Rattle.si_machine.specs.declared.value.Value.{Value}
 use Rattle.si_machine.specs.declared.value.Value.TheVariants as value
 use Rattle.si_machine.specs.Values.{Heap, bound_of, globals_of}
-use Rattle.si_machine.specs.Sound.{SoundHeap, SoundCode}
+use Rattle.si_machine.specs.inner.Sound.{SoundHeap, SoundCode}
 
 -- what is first bound to a name, where the text `__main__` has this place
 abbrev pub first_of : ℕ → pure.Text → Option Value
