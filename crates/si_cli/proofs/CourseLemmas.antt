@@ -8,7 +8,8 @@ use Rattle.si_semantics.specs.Meaning.{Leave, choose, decides, entered, max_call
 use Rattle.si_semantics.specs.Operations.{Iterator, call_by_name, call_provided, catches, compare, is_true, iterator_of, load_global, load_local, Next, Item, Exhausted, Refuses, next_item, not_callable, operate, operate_unary, too_deep, wrong_arguments}
 use Rattle.si_semantics.specs.Life as life
 use Rattle.si_semantics.specs.Life.{not_read}
-use Rattle.si_semantics.specs.Machine.{At, Block, Calling, Closed, Course, Ending, Entry, Each, Catch, Final, Pending, Handling, Frame, Instr, LoadGlobal, LoadLocal, ApplyUnary, ApplyBinary, ApplyComparison, EndChain, JumpOrDiscard, JumpIfFalse, CallTop, CallByName, StartFor, NextItem, LeaveBlock, StartFinally, EndFinally, TestClause, PushException, Line, Place, Stamped, Table, Taking, act, calls, depth, ends_finally, enters, fetched, gives_item, goes, next, on, on_callee, stamped, start, starts_for, stuck, yields}
+use Rattle.si_semantics.specs.Machine as machine
+use Rattle.si_semantics.specs.Machine.{At, Block, Calling, Closed, Course, Ending, Entry, Each, Catch, Final, Pending, Handling, Frame, Instr, ApplyUnary, ApplyBinary, ApplyComparison, CallTop, Line, Place, Stamped, Table, Taking, act, calls, depth, ends_finally, enters, fetched, gives_item, goes, next, on, on_callee, stamped, start, starts_for, stuck, yields}
 use Rattle.si_semantics.specs.Running.{run_at}
 use Rattle.si_semantics.specs.Shows.{joined, standing_of, texts}
 use Rattle.si_compile.specs.Code.{compiled}
@@ -16,7 +17,7 @@ use Rattle.si_compile.specs.Interpreter.{IsAfter}
 use Rattle.si_compile.proofs.Interpreter.{after_shows, line_keeps}
 use Rattle.si_machine.specs.declared.step.Outcome.{Outcome}
 use Rattle.si_machine.specs.declared.step.Step.TheVariants as step
-use Rattle.si_machine.specs.Machines as machine
+use Rattle.si_machine.specs.Machines as machines
 use Rattle.si_machine.specs.Machines.{IsAt, Seen, Steps, from_here, moment_of}
 use Rattle.si_machine.specs.Outcomes.{outcome_of}
 use Rattle.si_cli.specs.declared.interpreter.Standing.{Standing}
@@ -103,13 +104,13 @@ ends_quietly None next ops slots bs w = λ o e. refl
 ends_quietly (Some p) next ops slots bs w = λ o e. refl
 
 -- the lines that look at the innermost block
-item_quietly : (es : List Entry) (n next : ℕ) (ops : List Value) (slots : List (Option Value)) (bs : List Block) (w : World) → IsQuiet (act es (NextItem n) next ops slots bs w)
+item_quietly : (es : List Entry) (n next : ℕ) (ops : List Value) (slots : List (Option Value)) (bs : List Block) (w : World) → IsQuiet (act es (machine.NextItem n) next ops slots bs w)
 unfolding IsQuiet
 item_quietly es n next ops slots [] w = λ o e. refl
 item_quietly es n next ops slots (Each it ∷ bs) w = gives_quietly (next_item it w) next (next + n) ops slots bs w
 item_quietly es n next ops slots (_ ∷ bs) w = λ o e. refl
 
-left_quietly : (es : List Entry) (next : ℕ) (ops : List Value) (slots : List (Option Value)) (bs : List Block) (w : World) → IsQuiet (act es LeaveBlock next ops slots bs w)
+left_quietly : (es : List Entry) (next : ℕ) (ops : List Value) (slots : List (Option Value)) (bs : List Block) (w : World) → IsQuiet (act es machine.LeaveBlock next ops slots bs w)
 unfolding IsQuiet
 left_quietly es next ops slots [] w = λ o e. refl
 left_quietly es next ops slots (Each it ∷ bs) w = λ o e. refl
@@ -117,25 +118,25 @@ left_quietly es next ops slots (Catch clauses ∷ bs) w = λ o e. refl
 left_quietly es next ops slots (Handling x ∷ bs) w = λ o e. refl
 left_quietly es next ops slots (_ ∷ bs) w = λ o e. refl
 
-started_quietly : (es : List Entry) (next : ℕ) (ops : List Value) (slots : List (Option Value)) (bs : List Block) (w : World) → IsQuiet (act es StartFinally next ops slots bs w)
+started_quietly : (es : List Entry) (next : ℕ) (ops : List Value) (slots : List (Option Value)) (bs : List Block) (w : World) → IsQuiet (act es machine.StartFinally next ops slots bs w)
 unfolding IsQuiet
 started_quietly es next ops slots [] w = λ o e. refl
 started_quietly es next ops slots (Final suite ∷ bs) w = λ o e. refl
 started_quietly es next ops slots (_ ∷ bs) w = λ o e. refl
 
-ended_quietly : (es : List Entry) (next : ℕ) (ops : List Value) (slots : List (Option Value)) (bs : List Block) (w : World) → IsQuiet (act es EndFinally next ops slots bs w)
+ended_quietly : (es : List Entry) (next : ℕ) (ops : List Value) (slots : List (Option Value)) (bs : List Block) (w : World) → IsQuiet (act es machine.EndFinally next ops slots bs w)
 unfolding IsQuiet
 ended_quietly es next ops slots [] w = λ o e. refl
 ended_quietly es next ops slots (Pending p ∷ bs) w = ends_quietly p next ops slots bs w
 ended_quietly es next ops slots (_ ∷ bs) w = λ o e. refl
 
-tested_quietly : (es : List Entry) (next : ℕ) (v : Value) (ops : List Value) (slots : List (Option Value)) (bs : List Block) (w : World) → IsQuiet (act es TestClause next (v ∷ ops) slots bs w)
+tested_quietly : (es : List Entry) (next : ℕ) (v : Value) (ops : List Value) (slots : List (Option Value)) (bs : List Block) (w : World) → IsQuiet (act es machine.TestClause next (v ∷ ops) slots bs w)
 unfolding IsQuiet
 tested_quietly es next v ops slots [] w = λ o e. refl
 tested_quietly es next v ops slots (Handling x ∷ bs) w = λ o e. yields_quietly (catches v x w) next ops slots (Handling x ∷ bs) o e
 tested_quietly es next v ops slots (_ ∷ bs) w = λ o e. refl
 
-pushed_quietly : (es : List Entry) (next : ℕ) (ops : List Value) (slots : List (Option Value)) (bs : List Block) (w : World) → IsQuiet (act es PushException next ops slots bs w)
+pushed_quietly : (es : List Entry) (next : ℕ) (ops : List Value) (slots : List (Option Value)) (bs : List Block) (w : World) → IsQuiet (act es machine.PushException next ops slots bs w)
 unfolding IsQuiet
 pushed_quietly es next ops slots [] w = λ o e. refl
 pushed_quietly es next ops slots (Handling x ∷ bs) w = λ o e. refl
@@ -143,23 +144,23 @@ pushed_quietly es next ops slots (_ ∷ bs) w = λ o e. refl
 
 acts_quietly : (es : List Entry) (i : Instr) (next : ℕ) (ops : List Value) (slots : List (Option Value)) (bs : List Block) (w : World) → IsQuiet (act es i next ops slots bs w)
 unfolding IsQuiet
-acts_quietly es (LoadGlobal x) next ops slots bs w = λ o e. yields_quietly (load_global x w) next ops slots bs o e
+acts_quietly es (machine.LoadGlobal x) next ops slots bs w = λ o e. yields_quietly (load_global x w) next ops slots bs o e
 acts_quietly es (ApplyUnary op) next (v ∷ ops) slots bs w = λ o e. yields_quietly (operate_unary op v w) next ops slots bs o e
 acts_quietly es (ApplyBinary op) next (v ∷ u ∷ ops) slots bs w = λ o e. yields_quietly (operate op u v w) next ops slots bs o e
 acts_quietly es (ApplyComparison op) next (v ∷ u ∷ ops) slots bs w = λ o e. yields_quietly (compare op u v w) next ops slots bs o e
-acts_quietly es (EndChain n) next (t ∷ v ∷ ops) slots bs w = goes_quietly (is_true t w) _ _ w
-acts_quietly es (JumpOrDiscard op n) next (v ∷ ops) slots bs w = goes_quietly (decides op v w) _ _ w
-acts_quietly es (JumpIfFalse n) next (v ∷ ops) slots bs w = goes_quietly (is_true v w) _ _ w
+acts_quietly es (machine.EndChain n) next (t ∷ v ∷ ops) slots bs w = goes_quietly (is_true t w) _ _ w
+acts_quietly es (machine.JumpOrDiscard op n) next (v ∷ ops) slots bs w = goes_quietly (decides op v w) _ _ w
+acts_quietly es (machine.JumpIfFalse n) next (v ∷ ops) slots bs w = goes_quietly (is_true v w) _ _ w
 acts_quietly es (CallTop n) next ops slots bs w = callee_quietly (drop n ops) _ w (λ f rest. calls_quietly es f (reverse (take n ops)) next rest slots bs w)
-acts_quietly es (CallByName n) next ops slots bs w = callee_quietly (drop n ops) _ w (λ f rest. yields_quietly (call_by_name f w) next rest slots bs)
-acts_quietly es (LoadLocal x k) next ops slots bs w = λ o e. yields_quietly (load_local x (slot_at k slots) w) next ops slots bs o e
-acts_quietly es StartFor next (v ∷ ops) slots bs w = starts_quietly (iterator_of v w) next ops slots bs w
-acts_quietly es (NextItem n) next ops slots bs w = item_quietly es n next ops slots bs w
-acts_quietly es LeaveBlock next ops slots bs w = left_quietly es next ops slots bs w
-acts_quietly es StartFinally next ops slots bs w = started_quietly es next ops slots bs w
-acts_quietly es EndFinally next ops slots bs w = ended_quietly es next ops slots bs w
-acts_quietly es TestClause next (v ∷ ops) slots bs w = tested_quietly es next v ops slots bs w
-acts_quietly es PushException next ops slots bs w = pushed_quietly es next ops slots bs w
+acts_quietly es (machine.CallByName n) next ops slots bs w = callee_quietly (drop n ops) _ w (λ f rest. yields_quietly (call_by_name f w) next rest slots bs)
+acts_quietly es (machine.LoadLocal x k) next ops slots bs w = λ o e. yields_quietly (load_local x (slot_at k slots) w) next ops slots bs o e
+acts_quietly es machine.StartFor next (v ∷ ops) slots bs w = starts_quietly (iterator_of v w) next ops slots bs w
+acts_quietly es (machine.NextItem n) next ops slots bs w = item_quietly es n next ops slots bs w
+acts_quietly es machine.LeaveBlock next ops slots bs w = left_quietly es next ops slots bs w
+acts_quietly es machine.StartFinally next ops slots bs w = started_quietly es next ops slots bs w
+acts_quietly es machine.EndFinally next ops slots bs w = ended_quietly es next ops slots bs w
+acts_quietly es machine.TestClause next (v ∷ ops) slots bs w = tested_quietly es next v ops slots bs w
+acts_quietly es machine.PushException next ops slots bs w = pushed_quietly es next ops slots bs w
 acts_quietly es _ next [] slots bs w = λ o e. refl
 acts_quietly es _ next (v ∷ []) slots bs w = λ o e. refl
 acts_quietly es _ next (v ∷ u ∷ ops) slots bs w = λ o e. refl
@@ -266,7 +267,7 @@ abbrev no_lines : Table
 no_lines = record { lines = []; entries = [] }
 
 -- a text to run, as its run begins
-pub begins : (m : Module) (s : Seen) → machine.Stands s (run_at (compiled no_lines m) first_world) [] → IsUnderWay (one_run (Some m)) 0 s
+pub begins : (m : Module) (s : Seen) → machines.Stands s (run_at (compiled no_lines m) first_world) [] → IsUnderWay (one_run (Some m)) 0 s
 begins m s st = record {
   moment = next compiled (start (one_run (Some m)));
   after = record { moment = 1; is = refl; used = refl };

@@ -105,26 +105,26 @@ Chain ls links last = chain_code ls (chain_of (map link_of links ++ link_of last
 
 -- a comparison and its operand, with more of the chain behind it
 abbrev link_front : List Text → Link → List machine.Instr
-link_front ls l = expr_code ls l.1 ++ (machine.KeepRight ∷ (machine.ApplyComparison l.0 ∷ []))
+link_front ls l = expr_code ls l.1 ++ (machine.KeepRight ∷ (machine.Compare l.0 ∷ []))
 
 chain_more : (ls : List Text) (l : Link) (more : List Link) (last : Link) → chain_code ls (chain_of (l ∷ (more ++ last ∷ []))) ≡ link_front ls l ++ machine.EndChain (length (chain_code ls (chain_of (more ++ last ∷ [])))) ∷ chain_code ls (chain_of (more ++ last ∷ []))
-chain_more ls l [] last = sym (append_assoc (expr_code ls l.1) (machine.KeepRight ∷ (machine.ApplyComparison l.0 ∷ [])) (machine.EndChain (length (chain_code ls (chain_of (last ∷ [])))) ∷ chain_code ls (chain_of (last ∷ []))))
-chain_more ls l (m ∷ more) last = sym (append_assoc (expr_code ls l.1) (machine.KeepRight ∷ (machine.ApplyComparison l.0 ∷ [])) (machine.EndChain (length (chain_code ls (chain_of (m ∷ (more ++ last ∷ []))))) ∷ chain_code ls (chain_of (m ∷ (more ++ last ∷ [])))))
+chain_more ls l [] last = sym (append_assoc (expr_code ls l.1) (machine.KeepRight ∷ (machine.Compare l.0 ∷ [])) (machine.EndChain (length (chain_code ls (chain_of (last ∷ [])))) ∷ chain_code ls (chain_of (last ∷ []))))
+chain_more ls l (m ∷ more) last = sym (append_assoc (expr_code ls l.1) (machine.KeepRight ∷ (machine.Compare l.0 ∷ [])) (machine.EndChain (length (chain_code ls (chain_of (m ∷ (more ++ last ∷ []))))) ∷ chain_code ls (chain_of (m ∷ (more ++ last ∷ [])))))
 
 pub link_due : {t1 t2 t3 t4 t5 : Contents} (ls : List Text) (links : List Linked) (last : Linked) (i : ℕ) (l : Linked) (at : ℕ) → i < length links → get_or links i l ≡ l → at ≡ length t4.lines
-    → Gains t1 t2 (expr_code ls (link_of l).1) → Gains t2 t3 (machine.KeepRight ∷ []) → Gains t3 t4 (machine.ApplyComparison (link_of l).0 ∷ []) → Gains t4 t5 (machine.EndChain 0 ∷ [])
+    → Gains t1 t2 (expr_code ls (link_of l).1) → Gains t2 t3 (machine.KeepRight ∷ []) → Gains t3 t4 (machine.Compare (link_of l).0 ∷ []) → Gains t4 t5 (machine.EndChain 0 ∷ [])
     → (end : Contents) (later : List ℕ) → Due t5 later (Chain ls (drop (i + 1) links) last) end → Due t1 (at ∷ later) (Chain ls (drop i links) last) end
 link_due {t1} {t2} {t3} {t4} {t5} ls links last i l at lt is here h0 h1 h2 h3 end later d =
-    let front = Gains-append t1 t2 t4 (expr_code ls (link_of l).1) (machine.KeepRight ∷ (machine.ApplyComparison (link_of l).0 ∷ [])) h0 (Gains-append t2 t3 t4 (machine.KeepRight ∷ []) (machine.ApplyComparison (link_of l).0 ∷ []) h1 h2) in
+    let front = Gains-append t1 t2 t4 (expr_code ls (link_of l).1) (machine.KeepRight ∷ (machine.Compare (link_of l).0 ∷ [])) h0 (Gains-append t2 t3 t4 (machine.KeepRight ∷ []) (machine.Compare (link_of l).0 ∷ []) h1 h2) in
     let rest = Chain ls (drop (i + 1) links) last in
     subst (λ c. Due t1 (at ∷ later) c end) (sym (ap (λ l. Chain ls l last) (rest_is links i l lt is) ∙ chain_more ls (link_of l) (map link_of (drop (i + 1) links)) (link_of last)))
     (Due-jump (link_front ls (link_of l)) rest (machine.EndChain 0) (Gains-append t1 t4 t5 (link_front ls (link_of l)) (machine.EndChain 0 ∷ []) front h3) (here ∙ length_gained front) d)
 
 pub chain_end : {t0 t1 t2 t3 : Contents} (ls : List Text) (links : List Linked) (last : Linked) (i : ℕ) (jumps : List ℕ) → length links ≤ i → MakesAll t0 jumps (Chain ls links last) t1 (Chain ls (drop i links) last)
-    → Gains t1 t2 (expr_code ls (link_of last).1) → Gains t2 t3 (machine.ApplyComparison (link_of last).0 ∷ []) → Due t0 jumps (Chain ls links last) t3
+    → Gains t1 t2 (expr_code ls (link_of last).1) → Gains t2 t3 (machine.Compare (link_of last).0 ∷ []) → Due t0 jumps (Chain ls links last) t3
 chain_end {t0} {t1} {t2} {t3} ls links last i jumps le before h k =
     MakesAll-end jumps (Chain ls links last) (Chain ls (drop i links) last) before
-    (subst (λ l. Gains t1 t3 (Chain ls l last)) (sym (drop_all i links le)) (Gains-append t1 t2 t3 (expr_code ls (link_of last).1) (machine.ApplyComparison (link_of last).0 ∷ []) h k))
+    (subst (λ l. Gains t1 t3 (Chain ls l last)) (sym (drop_all i links le)) (Gains-append t1 t2 t3 (expr_code ls (link_of last).1) (machine.Compare (link_of last).0 ∷ []) h k))
 
 -- the last link stands behind the others
 pub chain_all : (ls : List Text) (all links : List Linked) (last : Linked) → all ≡ links ++ last ∷ [] → chain_code ls (chain_of (map link_of all)) ≡ Chain ls links last

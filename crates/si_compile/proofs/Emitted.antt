@@ -48,11 +48,11 @@ module _ (ls : List Text) where
   pub at_tree : {a b : Contents} (e view : Expr) (t : tree.Expr) → e ≡ view → expr_of view ≡ t → Gains a b (expr_code ls t) → Gains a b (Code ls e)
   at_tree {a} {b} e view t is sees h = subst (λ c. Gains a b (expr_code ls c)) (sym (ap expr_of is ∙ sees)) h
 
-  pub unary_gains : {t0 t1 t2 : Contents} (o : UnaryOperator) (a : Box Expr Global) (x e : Expr) → e ≡ views.Unary o a → x ≡ a.value → Gains t0 t1 (Code ls x) → Gains t1 t2 (machine.ApplyUnary o ∷ []) → Gains t0 t2 (Code ls e)
+  pub unary_gains : {t0 t1 t2 : Contents} (o : UnaryOperator) (a : Box Expr Global) (x e : Expr) → e ≡ views.Unary o a → x ≡ a.value → Gains t0 t1 (Code ls x) → Gains t1 t2 (machine.Unary o ∷ []) → Gains t0 t2 (Code ls e)
   unary_gains {t0} {t1} {t2} o a x e is at h k =
       at_tree e (views.Unary o a) (tree.Unary o (expr_of a.value)) is (unary_is o a) (Gains-append t0 t1 t2 _ _ (at_value x a.value at h) k)
 
-  pub binary_gains : {t0 t1 t2 t3 : Contents} (o : BinaryOperator) (a b : Box Expr Global) (x y e : Expr) → e ≡ views.Binary o a b → x ≡ a.value → y ≡ b.value → Gains t0 t1 (Code ls x) → Gains t1 t2 (Code ls y) → Gains t2 t3 (machine.ApplyBinary o ∷ []) → Gains t0 t3 (Code ls e)
+  pub binary_gains : {t0 t1 t2 t3 : Contents} (o : BinaryOperator) (a b : Box Expr Global) (x y e : Expr) → e ≡ views.Binary o a b → x ≡ a.value → y ≡ b.value → Gains t0 t1 (Code ls x) → Gains t1 t2 (Code ls y) → Gains t2 t3 (machine.Binary o ∷ []) → Gains t0 t3 (Code ls e)
   binary_gains {t0} {t1} {t2} {t3} o a b x y e is at_left at_right h k l =
       at_tree e (views.Binary o a b) (tree.Binary o (expr_of a.value) (expr_of b.value)) is (binary_is o a b)
       (Gains-append t0 t1 t3 _ _ (at_value x a.value at_left h) (Gains-append t1 t2 t3 _ _ (at_value y b.value at_right k) l))

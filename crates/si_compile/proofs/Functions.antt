@@ -257,11 +257,11 @@ routine_gains {a} {b} {c} {d} xs ys at k n parameters locals here many names h h
 
 pub define_functions : {a b : Contents} (line : ℕ) (x : String Global) (ps : Vec (String Global) Global) (body : Vec Stmt Global) (s : Stmt) (ss : List Stmt) (names : List Text) (many : ℕ)
     → s ≡ stmt_views.Define line x ps body → ss ≡ body.items → names ≡ locals_of (defined x ps body) → many ≡ length ps.items
-    → GainsRoutines a b (stmts_code names 0 (body_of ss) ++ (machine.Push Nothing ∷ (machine.DoReturn ∷ []))) (record { at = length a.lines; parameters = many; locals = length names } ∷ [])
+    → GainsRoutines a b (stmts_code names 0 (body_of ss) ++ (machine.Push Nothing ∷ (machine.Return ∷ []))) (record { at = length a.lines; parameters = many; locals = length names } ∷ [])
     → GainsFunctions a b (functions_of (stmt_of s))
 define_functions {a} {b} line x ps body s ss names many is all named parameters h =
     let f = defined x ps body in
-    let end = machine.Push Nothing ∷ (machine.DoReturn ∷ []) in
+    let end = machine.Push Nothing ∷ (machine.Return ∷ []) in
     let entry : ℕ → ℕ → List machine.Entry = λ k n. record { at = length a.lines; parameters = k; locals = n } ∷ [] in
     let code : stmts_code names 0 (body_of ss) ++ end ≡ function_code f ++ [] = ap (λ l. stmts_code l 0 (body_of ss) ++ end) named ∙ ap (λ l. stmts_code (locals_of f) 0 (body_of l) ++ end) all ∙ sym (append-nil (function_code f)) in
     let counted : many ≡ length (map string_bytes ps.items) = parameters ∙ sym (length-map ps.items string_bytes) in

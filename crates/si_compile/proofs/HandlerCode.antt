@@ -6,7 +6,8 @@ use Rattle.si_semantics.specs.Scope.{place_of}
 use Rattle.si_semantics.specs.Tree as tree
 use Rattle.si_semantics.specs.Tree.{Expr, functions_in, functions_in_clauses, functions_of}
 use Rattle.si_semantics.specs.Grammar.{clauses_of}
-use Rattle.si_semantics.specs.Machine.{Instr, Jump, JumpIfFalse, EnterTry, EnterFinally, LeaveBlock, StartFinally, EndFinally, TestClause, PushException, DoRaiseAgain}
+use Rattle.si_semantics.specs.Machine as machine
+use Rattle.si_semantics.specs.Machine.{Instr}
 use Rattle.si_syntax.specs.declared.stmt.Stmt.{Stmt}
 use Rattle.si_syntax.specs.Trees.{body_of, clause_of}
 use Rattle.si_syntax.proofs.Rows.{rest_is}
@@ -32,45 +33,45 @@ number_behind first now then fs gs goes on = omega (arith, goes, on, length-appe
 
 -- what stands in front of one
 pub front_gains : {t0 t1 t2 t3 t4 : Contents} (body : List Instr) (enter : ℕ) → enter ≡ length t0.lines
-    → Gains t0 t1 (EnterFinally 0 ∷ []) → Gains t1 t2 body → Gains t2 t3 (StartFinally ∷ []) → Aims t3 enter t4
-    → Gains t0 t4 (EnterFinally (length body + 1) ∷ (body ++ StartFinally ∷ []))
+    → Gains t0 t1 (machine.EnterFinally 0 ∷ []) → Gains t1 t2 body → Gains t2 t3 (machine.StartFinally ∷ []) → Aims t3 enter t4
+    → Gains t0 t4 (machine.EnterFinally (length body + 1) ∷ (body ++ machine.StartFinally ∷ []))
 front_gains {t0} {t1} {t2} {t3} {t4} body enter e0 h0 h1 h2 aim =
-    let front = body ++ StartFinally ∷ [] in
-    let all = Gains-append t0 t1 t3 (EnterFinally 0 ∷ []) front h0 (Gains-append t1 t2 t3 body (StartFinally ∷ []) h1 h2) in
+    let front = body ++ machine.StartFinally ∷ [] in
+    let all = Gains-append t0 t1 t3 (machine.EnterFinally 0 ∷ []) front h0 (Gains-append t1 t2 t3 body (machine.StartFinally ∷ []) h1 h2) in
     let here : enter ≡ length t0.lines + 0 = omega (arith, e0) in
-    let far : length front ≡ length body + 1 = omega (arith, length-append body (StartFinally ∷ [])) in
-    subst (Gains t0 t4) (ap (λ k. EnterFinally k ∷ front) far) (aim t0 [] front (EnterFinally 0) all here)
+    let far : length front ≡ length body + 1 = omega (arith, length-append body (machine.StartFinally ∷ [])) in
+    subst (Gains t0 t4) (ap (λ k. machine.EnterFinally k ∷ front) far) (aim t0 [] front (machine.EnterFinally 0) all here)
 
-pub finally_gains : {t0 t1 t2 t3 : Contents} (body last : List Instr) → Gains t0 t1 (EnterFinally (length body + 1) ∷ (body ++ StartFinally ∷ [])) → Gains t1 t2 last → Gains t2 t3 (EndFinally ∷ [])
+pub finally_gains : {t0 t1 t2 t3 : Contents} (body last : List Instr) → Gains t0 t1 (machine.EnterFinally (length body + 1) ∷ (body ++ machine.StartFinally ∷ [])) → Gains t1 t2 last → Gains t2 t3 (machine.EndFinally ∷ [])
     → Gains t0 t3 (finally_code body last)
 finally_gains {t0} {t1} {t2} {t3} body last h k l =
-    let behind = last ++ EndFinally ∷ [] in
-    subst (Gains t0 t3) (ap (λ x. EnterFinally (length body + 1) ∷ x) (append_assoc body (StartFinally ∷ []) behind))
-    (Gains-append t0 t1 t3 (EnterFinally (length body + 1) ∷ (body ++ StartFinally ∷ [])) behind h (Gains-append t1 t2 t3 last (EndFinally ∷ []) k l))
+    let behind = last ++ machine.EndFinally ∷ [] in
+    subst (Gains t0 t3) (ap (λ x. machine.EnterFinally (length body + 1) ∷ x) (append_assoc body (machine.StartFinally ∷ []) behind))
+    (Gains-append t0 t1 t3 (machine.EnterFinally (length body + 1) ∷ (body ++ machine.StartFinally ∷ [])) behind h (Gains-append t1 t2 t3 last (machine.EndFinally ∷ []) k l))
 
 -- what unbinds a name behind a suite
 abbrev pub Leaves : Contents → ℕ → Instr → Contents → Type 0
 Leaves old enter unbind new =
-    (front : Contents) (before body : List Instr) → Gains front old (before ++ EnterFinally 0 ∷ body) → enter ≡ length front.lines + length before
+    (front : Contents) (before body : List Instr) → Gains front old (before ++ machine.EnterFinally 0 ∷ body) → enter ≡ length front.lines + length before
     → Gains front new (before ++ finally_code body (unbind ∷ []))
 
-pub leaves_gains : {t0 t1 t2 t3 t4 : Contents} (unbind : Instr) (enter : ℕ) → Gains t0 t1 (StartFinally ∷ []) → Aims t1 enter t2 → Gains t2 t3 (unbind ∷ []) → Gains t3 t4 (EndFinally ∷ []) → Leaves t0 enter unbind t4
+pub leaves_gains : {t0 t1 t2 t3 t4 : Contents} (unbind : Instr) (enter : ℕ) → Gains t0 t1 (machine.StartFinally ∷ []) → Aims t1 enter t2 → Gains t2 t3 (unbind ∷ []) → Gains t3 t4 (machine.EndFinally ∷ []) → Leaves t0 enter unbind t4
 leaves_gains {t0} {t1} {t2} {t3} {t4} unbind enter h aim k l front before body g here =
-    let more = body ++ StartFinally ∷ [] in
-    let end = unbind ∷ (EndFinally ∷ []) in
-    let first = EnterFinally (length body + 1) in
-    let all = subst (Gains front t1) (append_assoc before (EnterFinally 0 ∷ body) (StartFinally ∷ [])) (Gains-append front t0 t1 (before ++ EnterFinally 0 ∷ body) (StartFinally ∷ []) g h) in
-    let far : length more ≡ length body + 1 = omega (arith, length-append body (StartFinally ∷ [])) in
-    let aimed = subst (Gains front t2) (ap (λ n. before ++ (EnterFinally n ∷ more)) far) (aim front before more (EnterFinally 0) all here) in
-    subst (Gains front t4) (append_assoc before (first ∷ more) end ∙ ap (λ x. before ++ (first ∷ x)) (append_assoc body (StartFinally ∷ []) end))
-    (Gains-append front t2 t4 (before ++ (first ∷ more)) end aimed (Gains-append t2 t3 t4 (unbind ∷ []) (EndFinally ∷ []) k l))
+    let more = body ++ machine.StartFinally ∷ [] in
+    let end = unbind ∷ (machine.EndFinally ∷ []) in
+    let first = machine.EnterFinally (length body + 1) in
+    let all = subst (Gains front t1) (append_assoc before (machine.EnterFinally 0 ∷ body) (machine.StartFinally ∷ [])) (Gains-append front t0 t1 (before ++ machine.EnterFinally 0 ∷ body) (machine.StartFinally ∷ []) g h) in
+    let far : length more ≡ length body + 1 = omega (arith, length-append body (machine.StartFinally ∷ [])) in
+    let aimed = subst (Gains front t2) (ap (λ n. before ++ (machine.EnterFinally n ∷ more)) far) (aim front before more (machine.EnterFinally 0) all here) in
+    subst (Gains front t4) (append_assoc before (first ∷ more) end ∙ ap (λ x. before ++ (first ∷ x)) (append_assoc body (machine.StartFinally ∷ []) end))
+    (Gains-append front t2 t4 (before ++ (first ∷ more)) end aimed (Gains-append t2 t3 t4 (unbind ∷ []) (machine.EndFinally ∷ []) k l))
 
 -- a suite with a name for the exception
 pub named_gains : {t0 t1 t2 t3 : Contents} (ls : List Text) (y : Text) (body : List Instr) (enter : ℕ) → enter ≡ length t0.lines + 2
-    → Gains t0 t1 (PushException ∷ (store_code y (place_of y ls) ∷ (EnterFinally 0 ∷ []))) → Gains t1 t2 body → Leaves t2 enter (unbind_code y (place_of y ls)) t3
+    → Gains t0 t1 (machine.PushException ∷ (store_code y (place_of y ls) ∷ (machine.EnterFinally 0 ∷ []))) → Gains t1 t2 body → Leaves t2 enter (unbind_code y (place_of y ls)) t3
     → Gains t0 t3 (named_code ls (Some y) body)
 named_gains {t0} {t1} {t2} {t3} ls y body enter here h k leaves =
-    leaves t0 (PushException ∷ (store_code y (place_of y ls) ∷ [])) body (Gains-append t0 t1 t2 (PushException ∷ (store_code y (place_of y ls) ∷ (EnterFinally 0 ∷ []))) body h k) here
+    leaves t0 (machine.PushException ∷ (store_code y (place_of y ls) ∷ [])) body (Gains-append t0 t1 t2 (machine.PushException ∷ (store_code y (place_of y ls) ∷ (machine.EnterFinally 0 ∷ []))) body h k) here
 
 -- a `try` with a finally suite, of its parts
 pub finally_stmt : {t0 t1 : Contents} (ls : List Text) (first then : ℕ) (s : tree.Stmt) (b : tree.Stmts) (cs : tree.Clauses) (c f : tree.Stmts) → s ≡ tree.Finally b cs c f → then ≡ first + length (functions_of (tried s))
@@ -99,10 +100,10 @@ finally_number first then now s b cs c f is goes on =
 
 -- the same, where there is a name
 pub named_suite : {t0 t1 t2 t3 : Contents} (ls : List Text) (name : Option Text) (y bound unbound : Text) (body : List Instr) (enter : ℕ) → name ≡ Some y → bound ≡ y → unbound ≡ y → enter ≡ length t0.lines + 2
-    → Gains t0 t1 (PushException ∷ (store_code bound (place_of bound ls) ∷ (EnterFinally 0 ∷ []))) → Gains t1 t2 body → Leaves t2 enter (unbind_code unbound (place_of unbound ls)) t3
+    → Gains t0 t1 (machine.PushException ∷ (store_code bound (place_of bound ls) ∷ (machine.EnterFinally 0 ∷ []))) → Gains t1 t2 body → Leaves t2 enter (unbind_code unbound (place_of unbound ls)) t3
     → Gains t0 t3 (named_code ls name body)
 named_suite {t0} {t1} {t2} {t3} ls name y bound unbound body enter some is_bound is_unbound here h k leaves =
-    let starts = subst (λ x. Gains t0 t1 (PushException ∷ (store_code x (place_of x ls) ∷ (EnterFinally 0 ∷ [])))) is_bound h in
+    let starts = subst (λ x. Gains t0 t1 (machine.PushException ∷ (store_code x (place_of x ls) ∷ (machine.EnterFinally 0 ∷ [])))) is_bound h in
     let ends = subst (λ x. Leaves t2 enter (unbind_code x (place_of x ls)) t3) is_unbound leaves in
     subst (λ x. Gains t0 t3 (named_code ls x body)) (sym some) (named_gains ls y body enter here starts k ends)
 
@@ -114,41 +115,41 @@ nameless_suite {t0} {t1} ls name body none h = subst (λ x. Gains t0 t1 (named_c
 -- what ends the suite: an exception leads to what follows
 abbrev pub Skips : Contents → ℕ → Contents → Type 0
 Skips old enter new =
-    (front : Contents) (before rest : List Instr) → Gains front old (before ++ EnterTry 0 ∷ rest) → enter ≡ length front.lines + length before
-    → Gains front new (before ++ (EnterTry (length rest + 2) ∷ (rest ++ (LeaveBlock ∷ (Jump 0 ∷ [])))))
+    (front : Contents) (before rest : List Instr) → Gains front old (before ++ machine.EnterTry 0 ∷ rest) → enter ≡ length front.lines + length before
+    → Gains front new (before ++ (machine.EnterTry (length rest + 2) ∷ (rest ++ (machine.LeaveBlock ∷ (machine.Jump 0 ∷ [])))))
 
-pub skips_gains : {t0 t1 t2 t3 : Contents} (enter : ℕ) → Gains t0 t1 (LeaveBlock ∷ []) → Gains t1 t2 (Jump 0 ∷ []) → Aims t2 enter t3 → Skips t0 enter t3
+pub skips_gains : {t0 t1 t2 t3 : Contents} (enter : ℕ) → Gains t0 t1 (machine.LeaveBlock ∷ []) → Gains t1 t2 (machine.Jump 0 ∷ []) → Aims t2 enter t3 → Skips t0 enter t3
 skips_gains {t0} {t1} {t2} {t3} enter h k aim front before rest g here =
-    let end = LeaveBlock ∷ (Jump 0 ∷ []) in
+    let end = machine.LeaveBlock ∷ (machine.Jump 0 ∷ []) in
     let more = rest ++ end in
-    let ends = Gains-append t0 t1 t2 (LeaveBlock ∷ []) (Jump 0 ∷ []) h k in
-    let all = subst (Gains front t2) (append_assoc before (EnterTry 0 ∷ rest) end) (Gains-append front t0 t2 (before ++ EnterTry 0 ∷ rest) end g ends) in
+    let ends = Gains-append t0 t1 t2 (machine.LeaveBlock ∷ []) (machine.Jump 0 ∷ []) h k in
+    let all = subst (Gains front t2) (append_assoc before (machine.EnterTry 0 ∷ rest) end) (Gains-append front t0 t2 (before ++ machine.EnterTry 0 ∷ rest) end g ends) in
     let far : length more ≡ length rest + 2 = omega (arith, length-append rest end) in
-    subst (Gains front t3) (ap (λ n. before ++ (EnterTry n ∷ more)) far) (aim front before more (EnterTry 0) all here)
+    subst (Gains front t3) (ap (λ n. before ++ (machine.EnterTry n ∷ more)) far) (aim front before more (machine.EnterTry 0) all here)
 
 -- the clauses behind that, and the else suite, to which the suite leads
 pub tried_gains : {t0 t1 t2 t3 t4 t5 t6 t7 t8 : Contents} (body handlers last : List Instr) (enter skip end : ℕ) → enter ≡ length t0.lines → skip ≡ length t2.lines + 1 → end ≡ length t4.lines
-    → Gains t0 t1 (EnterTry 0 ∷ []) → Gains t1 t2 body → Skips t2 enter t3 → Gains t3 t4 handlers → Gains t4 t5 (Jump 0 ∷ []) → Aims t5 skip t6 → Gains t6 t7 last → Aims t7 end t8
-    → Gains t0 t8 (EnterTry (length body + 2) ∷ (body ++ (LeaveBlock ∷ (Jump (length handlers + 1) ∷ (handlers ++ (Jump (length last) ∷ last))))))
+    → Gains t0 t1 (machine.EnterTry 0 ∷ []) → Gains t1 t2 body → Skips t2 enter t3 → Gains t3 t4 handlers → Gains t4 t5 (machine.Jump 0 ∷ []) → Aims t5 skip t6 → Gains t6 t7 last → Aims t7 end t8
+    → Gains t0 t8 (machine.EnterTry (length body + 2) ∷ (body ++ (machine.LeaveBlock ∷ (machine.Jump (length handlers + 1) ∷ (handlers ++ (machine.Jump (length last) ∷ last))))))
 tried_gains {t0} {t1} {t2} {t3} {t4} {t5} {t6} {t7} {t8} body handlers last enter skip end e0 e2 e4 h0 h1 skips h3 h4 aim_skip h6 aim_end =
-    let first = EnterTry (length body + 2) in
-    let front = first ∷ (body ++ LeaveBlock ∷ []) in
-    let jump = Jump (length handlers + 1) in
+    let first = machine.EnterTry (length body + 2) in
+    let front = first ∷ (body ++ machine.LeaveBlock ∷ []) in
+    let jump = machine.Jump (length handlers + 1) in
     let here : enter ≡ length t0.lines + 0 = omega (arith, e0) in
-    let once = skips t0 [] body (Gains-append t0 t1 t2 (EnterTry 0 ∷ []) body h0 h1) here in
-    let tried_so = subst (Gains t0 t3) (ap (λ l. first ∷ l) (sym (append_assoc body (LeaveBlock ∷ []) (Jump 0 ∷ [])))) once in
-    let behind = handlers ++ Jump 0 ∷ [] in
-    let all = subst (Gains t0 t5) (append_assoc front (Jump 0 ∷ []) behind) (Gains-append t0 t3 t5 (front ++ Jump 0 ∷ []) behind tried_so (Gains-append t3 t4 t5 handlers (Jump 0 ∷ []) h3 h4)) in
-    let place : skip ≡ length t0.lines + length front = omega (arith, e2, length_gained h0, length_gained h1, length-append body (LeaveBlock ∷ [])) in
-    let far : length behind ≡ length handlers + 1 = omega (arith, length-append handlers (Jump 0 ∷ [])) in
-    let skipped = subst (Gains t0 t6) (ap (λ n. front ++ (Jump n ∷ behind)) far) (aim_skip t0 front behind (Jump 0) all place) in
+    let once = skips t0 [] body (Gains-append t0 t1 t2 (machine.EnterTry 0 ∷ []) body h0 h1) here in
+    let tried_so = subst (Gains t0 t3) (ap (λ l. first ∷ l) (sym (append_assoc body (machine.LeaveBlock ∷ []) (machine.Jump 0 ∷ [])))) once in
+    let behind = handlers ++ machine.Jump 0 ∷ [] in
+    let all = subst (Gains t0 t5) (append_assoc front (machine.Jump 0 ∷ []) behind) (Gains-append t0 t3 t5 (front ++ machine.Jump 0 ∷ []) behind tried_so (Gains-append t3 t4 t5 handlers (machine.Jump 0 ∷ []) h3 h4)) in
+    let place : skip ≡ length t0.lines + length front = omega (arith, e2, length_gained h0, length_gained h1, length-append body (machine.LeaveBlock ∷ [])) in
+    let far : length behind ≡ length handlers + 1 = omega (arith, length-append handlers (machine.Jump 0 ∷ [])) in
+    let skipped = subst (Gains t0 t6) (ap (λ n. front ++ (machine.Jump n ∷ behind)) far) (aim_skip t0 front behind (machine.Jump 0) all place) in
     let before = front ++ (jump ∷ handlers) in
-    let in_front = subst (Gains t0 t6) (sym (append_assoc front (jump ∷ handlers) (Jump 0 ∷ []))) skipped in
-    let whole = subst (Gains t0 t7) (append_assoc before (Jump 0 ∷ []) last) (Gains-append t0 t6 t7 (before ++ Jump 0 ∷ []) last in_front h6) in
-    let at_end : end ≡ length t0.lines + length before = omega (arith, e4, length_gained tried_so, length_gained h3, length-append front (Jump 0 ∷ []), length-append front (jump ∷ handlers)) in
-    let others = handlers ++ (Jump (length last) ∷ last) in
-    subst (Gains t0 t8) (append_assoc front (jump ∷ handlers) (Jump (length last) ∷ last) ∙ ap (λ l. first ∷ l) (append_assoc body (LeaveBlock ∷ []) (jump ∷ others)))
-    (aim_end t0 before last (Jump 0) whole at_end)
+    let in_front = subst (Gains t0 t6) (sym (append_assoc front (jump ∷ handlers) (machine.Jump 0 ∷ []))) skipped in
+    let whole = subst (Gains t0 t7) (append_assoc before (machine.Jump 0 ∷ []) last) (Gains-append t0 t6 t7 (before ++ machine.Jump 0 ∷ []) last in_front h6) in
+    let at_end : end ≡ length t0.lines + length before = omega (arith, e4, length_gained tried_so, length_gained h3, length-append front (machine.Jump 0 ∷ []), length-append front (jump ∷ handlers)) in
+    let others = handlers ++ (machine.Jump (length last) ∷ last) in
+    subst (Gains t0 t8) (append_assoc front (jump ∷ handlers) (machine.Jump (length last) ∷ last) ∙ ap (λ l. first ∷ l) (append_assoc body (machine.LeaveBlock ∷ []) (jump ∷ others)))
+    (aim_end t0 before last (machine.Jump 0) whole at_end)
 
 -- a `try` of its parts; the functions of each are numbered behind those of the parts in front
 pub tried_stmt : {t0 t1 : Contents} (ls : List Text) (first then now : ℕ) (t : tree.Stmt) (ss ends : List Stmt) (cs : List Handler) → t ≡ tree.Try (body_of ss) (clauses_of (map clause_of cs)) (body_of ends)
@@ -171,7 +172,7 @@ tried_number first then now last t ss ends cs seen goes on ends_at =
 
 -- with clauses, and with none
 pub with_clauses : {t0 t1 : Contents} (cs : List Handler) (body handlers last : List Instr) → (cs ≡ [] → ⊥)
-    → Gains t0 t1 (EnterTry (length body + 2) ∷ (body ++ (LeaveBlock ∷ (Jump (length handlers + 1) ∷ (handlers ++ (Jump (length last) ∷ last))))))
+    → Gains t0 t1 (machine.EnterTry (length body + 2) ∷ (body ++ (machine.LeaveBlock ∷ (machine.Jump (length handlers + 1) ∷ (handlers ++ (machine.Jump (length last) ∷ last))))))
     → Gains t0 t1 (try_code body (clauses_of (map clause_of cs)) handlers last)
 with_clauses [] body handlers last some h = absurd (some refl)
 with_clauses (c ∷ cs) body handlers last some h = h
@@ -199,39 +200,39 @@ plain_number first then now t ss ends cs none seen goes on = tried_number first 
 -- ---- except clauses
 
 -- a clause with its jump is its code
-clause_whole : (ls : List Text) (a : Option Expr) (body rest : List Instr) → clause_front ls a body ++ Jump (length rest) ∷ rest ≡ clause_code ls a body rest
-clause_whole ls None body rest = append_assoc body (LeaveBlock ∷ []) (Jump (length rest) ∷ rest)
+clause_whole : (ls : List Text) (a : Option Expr) (body rest : List Instr) → clause_front ls a body ++ machine.Jump (length rest) ∷ rest ≡ clause_code ls a body rest
+clause_whole ls None body rest = append_assoc body (machine.LeaveBlock ∷ []) (machine.Jump (length rest) ∷ rest)
 clause_whole ls (Some a) body rest =
-    append_assoc (expr_code ls a) (TestClause ∷ (JumpIfFalse (length body + 2) ∷ (body ++ LeaveBlock ∷ []))) (Jump (length rest) ∷ rest)
-    ∙ ap (λ l. expr_code ls a ++ (TestClause ∷ (JumpIfFalse (length body + 2) ∷ l))) (append_assoc body (LeaveBlock ∷ []) (Jump (length rest) ∷ rest))
+    append_assoc (expr_code ls a) (machine.TestClause ∷ (machine.JumpIfFalse (length body + 2) ∷ (body ++ machine.LeaveBlock ∷ []))) (machine.Jump (length rest) ∷ rest)
+    ∙ ap (λ l. expr_code ls a ++ (machine.TestClause ∷ (machine.JumpIfFalse (length body + 2) ∷ l))) (append_assoc body (machine.LeaveBlock ∷ []) (machine.Jump (length rest) ∷ rest))
 
 -- behind no expression
-pub bare_clause : {t0 t1 : Contents} (ls : List Text) (a : Option Expr) (body : List Instr) → a ≡ None → Gains t0 t1 (body ++ (LeaveBlock ∷ (Jump 0 ∷ []))) → Gains t0 t1 (clause_front ls a body ++ Jump 0 ∷ [])
+pub bare_clause : {t0 t1 : Contents} (ls : List Text) (a : Option Expr) (body : List Instr) → a ≡ None → Gains t0 t1 (body ++ (machine.LeaveBlock ∷ (machine.Jump 0 ∷ []))) → Gains t0 t1 (clause_front ls a body ++ machine.Jump 0 ∷ [])
 bare_clause {t0} {t1} ls a body none h =
-    subst (λ x. Gains t0 t1 (clause_front ls x body ++ Jump 0 ∷ [])) (sym none) (subst (Gains t0 t1) (sym (append_assoc body (LeaveBlock ∷ []) (Jump 0 ∷ []))) h)
+    subst (λ x. Gains t0 t1 (clause_front ls x body ++ machine.Jump 0 ∷ [])) (sym none) (subst (Gains t0 t1) (sym (append_assoc body (machine.LeaveBlock ∷ []) (machine.Jump 0 ∷ []))) h)
 
 -- behind one
 pub tested_clause : {t0 t1 t2 t3 t4 t5 : Contents} (ls : List Text) (a : Option Expr) (e : Expr) (body : List Instr) (skip : ℕ) → a ≡ Some e → skip ≡ length t2.lines
-    → Gains t0 t1 (expr_code ls e) → Gains t1 t2 (TestClause ∷ []) → Gains t2 t3 (JumpIfFalse 0 ∷ []) → Gains t3 t4 (body ++ (LeaveBlock ∷ (Jump 0 ∷ []))) → Aims t4 skip t5
-    → Gains t0 t5 (clause_front ls a body ++ Jump 0 ∷ [])
+    → Gains t0 t1 (expr_code ls e) → Gains t1 t2 (machine.TestClause ∷ []) → Gains t2 t3 (machine.JumpIfFalse 0 ∷ []) → Gains t3 t4 (body ++ (machine.LeaveBlock ∷ (machine.Jump 0 ∷ []))) → Aims t4 skip t5
+    → Gains t0 t5 (clause_front ls a body ++ machine.Jump 0 ∷ [])
 tested_clause {t0} {t1} {t2} {t3} {t4} {t5} ls a e body skip some e2 h0 h1 h2 h3 aim =
-    let rest = body ++ (LeaveBlock ∷ (Jump 0 ∷ [])) in
+    let rest = body ++ (machine.LeaveBlock ∷ (machine.Jump 0 ∷ [])) in
     let here : skip ≡ length t2.lines + 0 = omega (arith, e2) in
-    let far : length rest ≡ length body + 2 = omega (arith, length-append body (LeaveBlock ∷ (Jump 0 ∷ []))) in
-    let first = JumpIfFalse (length body + 2) in
-    let once = subst (Gains t2 t5) (ap (λ k. JumpIfFalse k ∷ rest) far) (aim t2 [] rest (JumpIfFalse 0) (Gains-append t2 t3 t4 (JumpIfFalse 0 ∷ []) rest h2 h3) here) in
-    let all = Gains-append t0 t1 t5 (expr_code ls e) (TestClause ∷ (first ∷ rest)) h0 (Gains-append t1 t2 t5 (TestClause ∷ []) (first ∷ rest) h1 once) in
-    let joins : expr_code ls e ++ (TestClause ∷ (first ∷ rest)) ≡ clause_front ls (Some e) body ++ Jump 0 ∷ [] =
-    ap (λ l. expr_code ls e ++ (TestClause ∷ (first ∷ l))) (sym (append_assoc body (LeaveBlock ∷ []) (Jump 0 ∷ [])))
-    ∙ sym (append_assoc (expr_code ls e) (TestClause ∷ (first ∷ (body ++ LeaveBlock ∷ []))) (Jump 0 ∷ [])) in
-    subst (λ x. Gains t0 t5 (clause_front ls x body ++ Jump 0 ∷ [])) (sym some) (subst (Gains t0 t5) joins all)
+    let far : length rest ≡ length body + 2 = omega (arith, length-append body (machine.LeaveBlock ∷ (machine.Jump 0 ∷ []))) in
+    let first = machine.JumpIfFalse (length body + 2) in
+    let once = subst (Gains t2 t5) (ap (λ k. machine.JumpIfFalse k ∷ rest) far) (aim t2 [] rest (machine.JumpIfFalse 0) (Gains-append t2 t3 t4 (machine.JumpIfFalse 0 ∷ []) rest h2 h3) here) in
+    let all = Gains-append t0 t1 t5 (expr_code ls e) (machine.TestClause ∷ (first ∷ rest)) h0 (Gains-append t1 t2 t5 (machine.TestClause ∷ []) (first ∷ rest) h1 once) in
+    let joins : expr_code ls e ++ (machine.TestClause ∷ (first ∷ rest)) ≡ clause_front ls (Some e) body ++ machine.Jump 0 ∷ [] =
+    ap (λ l. expr_code ls e ++ (machine.TestClause ∷ (first ∷ l))) (sym (append_assoc body (machine.LeaveBlock ∷ []) (machine.Jump 0 ∷ [])))
+    ∙ sym (append_assoc (expr_code ls e) (machine.TestClause ∷ (first ∷ (body ++ machine.LeaveBlock ∷ []))) (machine.Jump 0 ∷ [])) in
+    subst (λ x. Gains t0 t5 (clause_front ls x body ++ machine.Jump 0 ∷ [])) (sym some) (subst (Gains t0 t5) joins all)
 
 -- where the jump behind it stands
 pub tested_at : {t0 t1 t2 t3 t4 t5 : Contents} (ls : List Text) (a : Option Expr) (e : Expr) (body : List Instr) (end : ℕ) → a ≡ Some e → end + 1 ≡ length t4.lines
-    → Gains t0 t1 (expr_code ls e) → Gains t1 t2 (TestClause ∷ []) → Gains t2 t3 (JumpIfFalse 0 ∷ []) → Gains t3 t4 (body ++ (LeaveBlock ∷ (Jump 0 ∷ []))) → Gains t0 t5 (clause_front ls a body ++ Jump 0 ∷ [])
+    → Gains t0 t1 (expr_code ls e) → Gains t1 t2 (machine.TestClause ∷ []) → Gains t2 t3 (machine.JumpIfFalse 0 ∷ []) → Gains t3 t4 (body ++ (machine.LeaveBlock ∷ (machine.Jump 0 ∷ []))) → Gains t0 t5 (clause_front ls a body ++ machine.Jump 0 ∷ [])
     → end + 1 ≡ length t5.lines
 tested_at {t0} {t1} {t2} {t3} {t4} {t5} ls a e body end some here h0 h1 h2 h3 all =
-    let whole = subst (λ x. Gains t0 t5 (clause_front ls x body ++ Jump 0 ∷ [])) some all in
+    let whole = subst (λ x. Gains t0 t5 (clause_front ls x body ++ machine.Jump 0 ∷ [])) some all in
     omega (
       arith,
       here,
@@ -240,10 +241,10 @@ tested_at {t0} {t1} {t2} {t3} {t4} {t5} ls a e body end some here h0 h1 h2 h3 al
       length_gained h2,
       length_gained h3,
       length_gained whole,
-      length-append (clause_front ls (Some e) body) (Jump 0 ∷ []),
-      length-append (expr_code ls e) (TestClause ∷ (JumpIfFalse (length body + 2) ∷ (body ++ LeaveBlock ∷ []))),
-      length-append body (LeaveBlock ∷ []),
-      length-append body (LeaveBlock ∷ (Jump 0 ∷ [])),
+      length-append (clause_front ls (Some e) body) (machine.Jump 0 ∷ []),
+      length-append (expr_code ls e) (machine.TestClause ∷ (machine.JumpIfFalse (length body + 2) ∷ (body ++ machine.LeaveBlock ∷ []))),
+      length-append body (machine.LeaveBlock ∷ []),
+      length-append body (machine.LeaveBlock ∷ (machine.Jump 0 ∷ [])),
     )
 
 -- the clauses of a statement are those that stand there; so with their functions
@@ -255,7 +256,7 @@ clauses_number now first cs ds same h = subst (λ x. now ≡ first + length (fun
 
 -- one clause of several, whose jump is due; the functions of those behind it are numbered behind its own
 pub next_clause : {t1 t2 : Contents} (ls : List Text) (cs : List Handler) (i : ℕ) (c : Handler) (ss : List Stmt) (at now then : ℕ) → i < length cs → get_or cs i c ≡ c → ss ≡ c.2.items → then ≡ now + length (functions_in (body_of ss)) → at + 1 ≡ length t2.lines
-    → Gains t1 t2 (clause_front ls (clause_of c).0 (named_code ls (clause_of c).1 (stmts_code ls now (body_of ss))) ++ Jump 0 ∷ [])
+    → Gains t1 t2 (clause_front ls (clause_of c).0 (named_code ls (clause_of c).1 (stmts_code ls now (body_of ss))) ++ machine.Jump 0 ∷ [])
     → (end : Contents) (later : List ℕ) → Due t2 later (Handlers ls then (drop (i + 1) cs)) end → Due t1 (at ∷ later) (Handlers ls now (drop i cs)) end
 next_clause {t1} {t2} ls cs i c ss at now then lt is suite goes here h end later d =
     let body = named_code ls (clause_of c).1 (stmts_code ls now (clause_of c).2) in
@@ -263,14 +264,14 @@ next_clause {t1} {t2} ls cs i c ss at now then lt is suite goes here h end later
     let rest = Handlers ls (now + length (functions_in (clause_of c).2)) (drop (i + 1) cs) in
     let number : then ≡ now + length (functions_in (clause_of c).2) = goes ∙ ap (λ x. now + length (functions_in (body_of x))) suite in
     let others = subst (λ n. Due t2 later (Handlers ls n (drop (i + 1) cs)) end) number d in
-    let gains = subst (λ x. Gains t1 t2 (clause_front ls (clause_of c).0 (named_code ls (clause_of c).1 (stmts_code ls now (body_of x))) ++ Jump 0 ∷ [])) suite h in
-    let place : at ≡ length t1.lines + length front = omega (arith, here, length_gained gains, length-append front (Jump 0 ∷ [])) in
+    let gains = subst (λ x. Gains t1 t2 (clause_front ls (clause_of c).0 (named_code ls (clause_of c).1 (stmts_code ls now (body_of x))) ++ machine.Jump 0 ∷ [])) suite h in
+    let place : at ≡ length t1.lines + length front = omega (arith, here, length_gained gains, length-append front (machine.Jump 0 ∷ [])) in
     subst (λ l. Due t1 (at ∷ later) (Handlers ls now l) end) (sym (rest_is cs i c lt is))
-    (subst (λ l. Due t1 (at ∷ later) l end) (clause_whole ls (clause_of c).0 body rest) (Due-jump front rest (Jump 0) gains place others))
+    (subst (λ l. Due t1 (at ∷ later) l end) (clause_whole ls (clause_of c).0 body rest) (Due-jump front rest (machine.Jump 0) gains place others))
 
 -- where that jump stands
-pub clause_behind : {t1 t2 : Contents} (front : List Instr) (at : ℕ) → at + 1 ≡ length t2.lines → Gains t1 t2 (front ++ Jump 0 ∷ []) → length t1.lines ≤ at
-clause_behind front at here h = omega (arith, here, length_gained h, length-append front (Jump 0 ∷ []))
+pub clause_behind : {t1 t2 : Contents} (front : List Instr) (at : ℕ) → at + 1 ≡ length t2.lines → Gains t1 t2 (front ++ machine.Jump 0 ∷ []) → length t1.lines ≤ at
+clause_behind front at here h = omega (arith, here, length_gained h, length-append front (machine.Jump 0 ∷ []))
 
 -- the number moves on over a clause, and over the last
 pub next_clause_number : (cs : List Handler) (i : ℕ) (c : Handler) (ss : List Stmt) (now then all : ℕ) → i < length cs → get_or cs i c ≡ c → ss ≡ c.2.items → then ≡ now + length (functions_in (body_of ss))
@@ -287,7 +288,7 @@ pub last_clause_number : (cs : List Handler) (i now all : ℕ) → length cs ≤
 last_clause_number cs i now all le before = omega (arith, ap (λ l. length (functions_in_clauses (clauses_of (map clause_of l)))) (drop_all i cs le))
 
 -- behind the last one
-pub clauses_end : {t0 t1 t2 : Contents} (ls : List Text) (cs : List Handler) (i : ℕ) (jumps : List ℕ) (first now : ℕ) → length cs ≤ i → MakesAll t0 jumps (Handlers ls first cs) t1 (Handlers ls now (drop i cs)) → Gains t1 t2 (DoRaiseAgain ∷ [])
+pub clauses_end : {t0 t1 t2 : Contents} (ls : List Text) (cs : List Handler) (i : ℕ) (jumps : List ℕ) (first now : ℕ) → length cs ≤ i → MakesAll t0 jumps (Handlers ls first cs) t1 (Handlers ls now (drop i cs)) → Gains t1 t2 (machine.RaiseAgain ∷ [])
     → Due t0 jumps (Handlers ls first cs) t2
 clauses_end {t0} {t1} {t2} ls cs i jumps first now le before h =
     MakesAll-end jumps (Handlers ls first cs) (Handlers ls now (drop i cs)) before (subst (λ l. Gains t1 t2 (Handlers ls now l)) (sym (drop_all i cs le)) h)

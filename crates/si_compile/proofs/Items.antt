@@ -4,7 +4,8 @@ use Rattle.std.specs.Prelude.{slice_get}
 use Rattle.si_semantics.specs.Value.{Value}
 use Rattle.si_semantics.specs.Operations.{Iterator, Next, Item, Exhausted, Refuses, next_item}
 use Rattle.si_semantics.specs.Meaning.{State, Raises, Returns, Breaks, Continues, Result, Gives, Leaves, Asks, Cut, Meaning, visit, after_turn, turn_of, for_loop, over}
-use Rattle.si_semantics.specs.Machine.{NextItem, EnterLoop, DoContinue, LeaveBlock, Place, At, Block, Loop, Each, Table, Course, gives_item, starts_for, next}
+use Rattle.si_semantics.specs.Machine as machine
+use Rattle.si_semantics.specs.Machine.{Place, At, Block, Loop, Each, Table, Course, gives_item, starts_for, next}
 use Rattle.si_compile.specs.Code.{compiled}
 use Rattle.si_compile.specs.Correct.{Meets, Runs, end_at}
 use Rattle.si_compile.proofs.Steps.{go, quiet, spare, moved, visited, now, step, Line_is, line_at, later, called_less, both, to_end, weaker}
@@ -12,11 +13,11 @@ use Rattle.si_compile.proofs.Blocks.{popped, each_passes}
 
 -- a loop over items, from what is known of its parts: an item at start, its block from enter on, the body up to back, the else suite behind that, and `break` leads to out
 module _ (t : Table) (n : ℕ) (put : Value → Meaning (Unit {0})) (body last : Meaning (Unit {0})) (start enter back out end : ℕ) (bs : List Block)
-    (skip : ℕ) (items : slice_get t.lines start ≡ Some (NextItem skip)) (past : start + 1 + skip ≡ back + 1)
+    (skip : ℕ) (items : slice_get t.lines start ≡ Some (machine.NextItem skip)) (past : start + 1 + skip ≡ back + 1)
     (puts : (v : Value) (it : Iterator) (low q : ℕ) (s : State) (c : Course) → Meets t (At (start + 1) (v ∷ []) s.slots (Each it ∷ bs)) low (q + 1) s c → Runs t n (end_at (Each it ∷ bs) enter) (Each it ∷ bs) low q (put v s) c)
-    (from ahead : ℕ) (enters : slice_get t.lines enter ≡ Some (EnterLoop from ahead)) (to_start : enter + 1 - from ≡ start) (ahead_out : enter + 1 + ahead ≡ out)
+    (from ahead : ℕ) (enters : slice_get t.lines enter ≡ Some (machine.EnterLoop from ahead)) (to_start : enter + 1 - from ≡ start) (ahead_out : enter + 1 + ahead ≡ out)
     (bodies : (it : Iterator) (low q : ℕ) (s : State) (c : Course) → Meets t (At (enter + 1) [] s.slots (Loop start out ∷ Each it ∷ bs)) low q s c → Runs t n (end_at (Loop start out ∷ Each it ∷ bs) back) (Loop start out ∷ Each it ∷ bs) low q (body s) c)
-    (again : slice_get t.lines back ≡ Some DoContinue) (leaves : slice_get t.lines out ≡ Some LeaveBlock) (behind : out + 1 ≡ end)
+    (again : slice_get t.lines back ≡ Some machine.Continue) (leaves : slice_get t.lines out ≡ Some machine.LeaveBlock) (behind : out + 1 ≡ end)
     (lasts : (low q : ℕ) (s : State) (c : Course) → Meets t (At (back + 1) [] s.slots bs) low (q + 1) s c → Runs t n (end_at bs end) bs low q (last s) c) where
   -- what follows a turn's body, of which each end is known
   turn_runs : (it : Iterator) (low q : ℕ) (r : Result (Unit {0})) (f : Meaning (Unit {0})) (c : Course) → Runs t n (end_at (Loop start out ∷ Each it ∷ bs) back) (Loop start out ∷ Each it ∷ bs) low (q + 1) r c → ((s : State) (d : Course) → Meets t (At start [] s.slots (Each it ∷ bs)) low q s d → Runs t n (end_at bs end) bs low q (f s) d) → Runs t n (end_at bs end) bs low q (after_turn r f) c

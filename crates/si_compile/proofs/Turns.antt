@@ -4,7 +4,8 @@ use Rattle.std.specs.Prelude.{slice_get}
 use Rattle.si_semantics.specs.Value.{Value}
 use Rattle.si_semantics.specs.Operations.{is_true}
 use Rattle.si_semantics.specs.Meaning.{State, Raises, Returns, Breaks, Continues, Result, Gives, Leaves, Asks, Cut, Meaning, visit, after_turn, loop}
-use Rattle.si_semantics.specs.Machine.{JumpIfFalse, EnterLoop, DoContinue, At, Block, Loop, Table, Course, next}
+use Rattle.si_semantics.specs.Machine as machine
+use Rattle.si_semantics.specs.Machine.{At, Block, Loop, Table, Course, next}
 use Rattle.si_compile.specs.Code.{compiled}
 use Rattle.si_compile.specs.Correct.{Meets, Runs, value_at, end_at}
 use Rattle.si_compile.proofs.Steps.{go, quiet, spare, moved, visited, now, step, line_at, later, called_less, both, choice, weaker}
@@ -12,10 +13,10 @@ use Rattle.si_compile.proofs.Steps.{go, quiet, spare, moved, visited, now, step,
 -- a loop, from what is known of its parts: the test from start to middle, the body up to back, the else suite from behind that to end
 module _ (t : Table) (n : ℕ) (test : Meaning Value) (body last : Meaning (Unit {0})) (start middle back end : ℕ) (bs : List Block)
     (tests : (low q : ℕ) (s : State) (c : Course) → Meets t (At start [] s.slots bs) low q s c → Runs t n (value_at [] bs middle) bs low (q + 12) (test s) c)
-    (skip : ℕ) (jump : slice_get t.lines middle ≡ Some (JumpIfFalse skip)) (past : middle + 1 + skip ≡ back + 1)
-    (from ahead : ℕ) (enters : slice_get t.lines (middle + 1) ≡ Some (EnterLoop from ahead)) (to_start : middle + 1 + 1 - from ≡ start) (ahead_end : middle + 1 + 1 + ahead ≡ end)
+    (skip : ℕ) (jump : slice_get t.lines middle ≡ Some (machine.JumpIfFalse skip)) (past : middle + 1 + skip ≡ back + 1)
+    (from ahead : ℕ) (enters : slice_get t.lines (middle + 1) ≡ Some (machine.EnterLoop from ahead)) (to_start : middle + 1 + 1 - from ≡ start) (ahead_end : middle + 1 + 1 + ahead ≡ end)
     (bodies : (low q : ℕ) (s : State) (c : Course) → Meets t (At (middle + 1 + 1) [] s.slots (Loop start end ∷ bs)) low q s c → Runs t n (end_at (Loop start end ∷ bs) back) (Loop start end ∷ bs) low q (body s) c)
-    (again : slice_get t.lines back ≡ Some DoContinue)
+    (again : slice_get t.lines back ≡ Some machine.Continue)
     (lasts : (low q : ℕ) (s : State) (c : Course) → Meets t (At (back + 1) [] s.slots bs) low q s c → Runs t n (end_at bs end) bs low q (last s) c) where
   -- what follows a turn's body, of which each end is known
   turn_runs : (low q : ℕ) (r : Result (Unit {0})) (f : Meaning (Unit {0})) (c : Course) → Runs t n (end_at (Loop start end ∷ bs) back) (Loop start end ∷ bs) (low + 1) (q + 1) r c → ((s : State) (d : Course) → Meets t (At start [] s.slots bs) (low + 1) q s d → Runs t n (end_at bs end) bs low q (f s) d) → Runs t n (end_at bs end) bs low q (after_turn r f) c

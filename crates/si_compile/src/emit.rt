@@ -102,7 +102,7 @@ fn emit_augment(
     expr: &Expr,
 ) -> Result<(), NoMemory>
     ensures ok { OnOk result (Gains table.old table.new
-        (target_code locals.now (target_of target.now) ++ (expr_code locals.now (expr_of expr.now) ++ (machine.ApplyBinary operator ∷ bind_code locals.now (target_of target.now))))) }
+        (target_code locals.now (target_of target.now) ++ (expr_code locals.now (expr_of expr.now) ++ (machine.Binary operator ∷ bind_code locals.now (target_of target.now))))) }
     ensures extends { Extends table.old table.new }
 {
     emit_target(table, locals, target)?;
@@ -219,7 +219,7 @@ fn emit_return(table: &mut CodeTable, locals: &Names, value: &Option<Expr>) -> R
 
 /// A function is left with None.
 pub(crate) fn emit_end(table: &mut CodeTable) -> Result<(), NoMemory>
-    ensures ok { OnOk result (Gains table.old table.new (machine.Push Nothing ∷ (machine.DoReturn ∷ []))) }
+    ensures ok { OnOk result (Gains table.old table.new (machine.Push Nothing ∷ (machine.Return ∷ []))) }
     ensures extends { Extends table.old table.new }
 {
     table.put(Instr::PushNone)?;

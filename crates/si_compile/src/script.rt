@@ -219,7 +219,7 @@ fn emit_function(
     parameters: usize,
     body: &[Stmt],
 ) -> Result<(), NoMemory>
-    ensures ok { OnOk result (GainsRoutines table.old table.new (stmts_code locals.now 0 (body_of body.now) ++ (machine.Push Nothing ∷ (machine.DoReturn ∷ []))) ((record { at = length table.old.lines; parameters = parameters; locals = length locals.now }) ∷ [])) }
+    ensures ok { OnOk result (GainsRoutines table.old table.new (stmts_code locals.now 0 (body_of body.now) ++ (machine.Push Nothing ∷ (machine.Return ∷ []))) ((record { at = length table.old.lines; parameters = parameters; locals = length locals.now }) ∷ [])) }
     ensures number { OnOk result (number.new ≡ number.old + 1) }
     ensures extends { Extends table.old table.new }
 {

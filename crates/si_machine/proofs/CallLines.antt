@@ -8,7 +8,7 @@ use Rattle.si_semantics.specs.Text.{line_of as text_line}
 use Rattle.si_semantics.specs.World.{World, Ran}
 use Rattle.si_semantics.specs.Operations.{gave, printing, call_built_in, call_kind}
 use Rattle.si_semantics.specs.Machine as machine
-use Rattle.si_semantics.specs.Machine.{CallTop, At, Line, Entry, calls, goes, yields}
+use Rattle.si_semantics.specs.Machine.{At, Line, Entry, calls, goes, yields}
 use Rattle.si_plain.specs.declared.kind.Kind.{Kind}
 use Rattle.si_machine.specs.declared.value.Value.{Value}
 use Rattle.si_machine.specs.declared.value.Value.TheVariants as value
@@ -32,13 +32,13 @@ use Rattle.si_machine.proofs.Frames.{call_line, call_refused}
 
 -- ---- built-ins
 
-pub built_in_did : (n : ℕ) (f : BuiltIn) (v : Value) (args : List Value) (heap : Heap) (old new : State) → IsReady old → drop n old.operands.here ≡ value.BuiltIn f ∷ drop (n + 1) old.operands.here → args ≡ reverse (take n old.operands.here) → RunsIn (world_of old).store (λ w. call_built_in (built_in_of f) (map (value_in old) args) w) old.texts heap (Ok v) → new ≡ record (moved (old.pc + 1) (v ∷ drop (n + 1) old.operands.here) old) { texts = heap } → Does (CallTop n) old new Local
+pub built_in_did : (n : ℕ) (f : BuiltIn) (v : Value) (args : List Value) (heap : Heap) (old new : State) → IsReady old → drop n old.operands.here ≡ value.BuiltIn f ∷ drop (n + 1) old.operands.here → args ≡ reverse (take n old.operands.here) → RunsIn (world_of old).store (λ w. call_built_in (built_in_of f) (map (value_in old) args) w) old.texts heap (Ok v) → new ≡ record (moved (old.pc + 1) (v ∷ drop (n + 1) old.operands.here) old) { texts = heap } → Does (machine.Call n) old new Local
 built_in_did n f v args heap old new h top args_are runs e =
     let rest = drop (n + 1) old.operands.here in
     alike old new Local (call_line n (value.BuiltIn f) args old top args_are ∙ ap (λ x. yields_on x old rest) (runs.0 (world_of old) refl))
     (grown_did v rest heap old new h runs.2 (All-drop (IsThere old) (n + 1) old.operands.here h.sound.stacks.here) runs.1 e)
 
-pub built_in_raises : (n : ℕ) (f : BuiltIn) (cause : Cause) (args : List Value) (old new : State) (r : Step) → drop n old.operands.here ≡ value.BuiltIn f ∷ drop (n + 1) old.operands.here → args ≡ reverse (take n old.operands.here) → call_built_in (built_in_of f) (map (value_in old) args) (world_of old) ≡ threw old.table.names cause (world_of old) → IsRaised cause old new r → Does (CallTop n) old new r
+pub built_in_raises : (n : ℕ) (f : BuiltIn) (cause : Cause) (args : List Value) (old new : State) (r : Step) → drop n old.operands.here ≡ value.BuiltIn f ∷ drop (n + 1) old.operands.here → args ≡ reverse (take n old.operands.here) → call_built_in (built_in_of f) (map (value_in old) args) (world_of old) ≡ threw old.table.names cause (world_of old) → IsRaised cause old new r → Does (machine.Call n) old new r
 built_in_raises n f cause args old new r top args_are gives e =
     call_refused cause n (value.BuiltIn f) args old new r top args_are (ap (λ x. yields_on x old (drop (n + 1) old.operands.here)) gives) e
 
@@ -60,7 +60,7 @@ unwritten r NoneActive names w h = absurd h
 unwritten r (NotDefined slot) names w h = absurd h
 unwritten r (NotBound slot) names w h = absurd h
 
-pub print_raises : (n : ℕ) (cause : Cause) (args : List Value) (old new : State) (r : Step) → drop n old.operands.here ≡ value.BuiltIn Print ∷ drop (n + 1) old.operands.here → args ≡ reverse (take n old.operands.here) → IsUnwritten (text_line (world_of old).store (map (value_in old) args)) cause → IsRaised cause old new r → Does (CallTop n) old new r
+pub print_raises : (n : ℕ) (cause : Cause) (args : List Value) (old new : State) (r : Step) → drop n old.operands.here ≡ value.BuiltIn Print ∷ drop (n + 1) old.operands.here → args ≡ reverse (take n old.operands.here) → IsUnwritten (text_line (world_of old).store (map (value_in old) args)) cause → IsRaised cause old new r → Does (machine.Call n) old new r
 print_raises n cause args old new r top args_are is e =
     let w = world_of old in
     built_in_raises n Print cause args old new r top args_are (unwritten (text_line w.store (map (value_in old) args)) cause old.table.names w is) e
@@ -88,9 +88,9 @@ aside_did l old mid new Starved e did =
 
 -- ---- kinds
 
-pub made_did : (o : Object) (n : ℕ) (k : Kind) (old new : State) (r : Step) → IsReady old → drop n old.operands.here ≡ value.Kind k ∷ drop (n + 1) old.operands.here → FitsObject old.texts o → call_kind k (map (value_in old) (reverse (take n old.operands.here))) (world_of old) ≡ gave (pure.Address (length (world_of old).store)) (record (world_of old) { store = (world_of old).store ++ object_in old o ∷ [] }) → IsMade o n old new r → Does (CallTop n) old new r
+pub made_did : (o : Object) (n : ℕ) (k : Kind) (old new : State) (r : Step) → IsReady old → drop n old.operands.here ≡ value.Kind k ∷ drop (n + 1) old.operands.here → FitsObject old.texts o → call_kind k (map (value_in old) (reverse (take n old.operands.here))) (world_of old) ≡ gave (pure.Address (length (world_of old).store)) (record (world_of old) { store = (world_of old).store ++ object_in old o ∷ [] }) → IsMade o n old new r → Does (machine.Call n) old new r
 made_did o n k old new Ended h top fits gives e = absurd e
-made_did o n k old new Starved h top fits gives e = starved_store (line_of (CallTop n) old) old new e.0 e.1
+made_did o n k old new Starved h top fits gives e = starved_store (line_of (machine.Call n) old) old new e.0 e.1
 made_did o n k old new Local h top fits gives e =
     let F = IsThere old in
     let O = FitsObject old.texts in
@@ -131,7 +131,7 @@ many_refused k [] w names h = absurd (let no : ⊥ = omega (arith, h) in no)
 many_refused k (v ∷ []) w names h = absurd (let no : ⊥ = omega (arith, h) in no)
 many_refused k (v ∷ u ∷ vs) w names h = refl
 
-pub kind_refused : (n : ℕ) (k : Kind) (old new : State) (r : Step) → drop n old.operands.here ≡ value.Kind k ∷ drop (n + 1) old.operands.here → 1 < n → n < length old.operands.here → IsRaised WrongArguments old new r → Does (CallTop n) old new r
+pub kind_refused : (n : ℕ) (k : Kind) (old new : State) (r : Step) → drop n old.operands.here ≡ value.Kind k ∷ drop (n + 1) old.operands.here → 1 < n → n < length old.operands.here → IsRaised WrongArguments old new r → Does (machine.Call n) old new r
 kind_refused n k old new r top many within e =
     let args = reverse (take n old.operands.here) in
     let g = value_in old in

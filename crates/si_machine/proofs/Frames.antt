@@ -11,7 +11,7 @@ use Rattle.si_semantics.specs.Operations.{refused, too_long, load_local, call_by
 use Rattle.si_semantics.specs.Meaning as meaning
 use Rattle.si_semantics.specs.Meaning.{Returns, slot_at, choose, max_calls}
 use Rattle.si_semantics.specs.Machine as machine
-use Rattle.si_semantics.specs.Machine.{leave, depth, calls, enters, CallTop, CallByName, DoReturn, LoadLocal, StoreLocal, UnbindLocal, on_callee, At, Ending, Line, Entry, Place, goes, yields, stuck}
+use Rattle.si_semantics.specs.Machine.{leave, depth, calls, enters, on_callee, At, Ending, Line, Entry, Place, goes, yields, stuck}
 use Rattle.si_code.specs.Views.{text_at, entry_of, entries_of}
 use Rattle.si_code.specs.declared.routine.Routine.{Routine}
 use Rattle.si_machine.specs.declared.value.Value.{Value}
@@ -54,7 +54,7 @@ reverse_map f (x ∷ xs) =
 abbrev pub calls_on : Value → List Value → State → List Value → Line
 calls_on f args s rest = calls (entries_of s.table) (value_in s f) (map (value_in s) args) (s.pc + 1) (map (value_in s) rest) (slots_of s) (blocks_of s) (world_of s)
 
-pub call_line : (n : ℕ) (f : Value) (args : List Value) (s : State) → drop n s.operands.here ≡ f ∷ drop (n + 1) s.operands.here → args ≡ reverse (take n s.operands.here) → line_of (CallTop n) s ≡ calls_on f args s (drop (n + 1) s.operands.here)
+pub call_line : (n : ℕ) (f : Value) (args : List Value) (s : State) → drop n s.operands.here ≡ f ∷ drop (n + 1) s.operands.here → args ≡ reverse (take n s.operands.here) → line_of (machine.Call n) s ≡ calls_on f args s (drop (n + 1) s.operands.here)
 call_line n f args s top args_are =
     let g = value_in s in
     let es = entries_of s.table in
@@ -64,17 +64,17 @@ call_line n f args s top args_are =
     ∙ ap (λ vs. calls es (g f) vs (s.pc + 1) (map g (drop (n + 1) s.operands.here)) (slots_of s) (blocks_of s) w) given
 
 -- a call that raises an exception
-pub call_refused : (cause : Cause) (n : ℕ) (f : Value) (args : List Value) (old new : State) (r : Step) → drop n old.operands.here ≡ f ∷ drop (n + 1) old.operands.here → args ≡ reverse (take n old.operands.here) → calls_on f args old (drop (n + 1) old.operands.here) ≡ yields_on (threw old.table.names cause (world_of old)) old (drop (n + 1) old.operands.here) → IsRaised cause old new r → Does (CallTop n) old new r
+pub call_refused : (cause : Cause) (n : ℕ) (f : Value) (args : List Value) (old new : State) (r : Step) → drop n old.operands.here ≡ f ∷ drop (n + 1) old.operands.here → args ≡ reverse (take n old.operands.here) → calls_on f args old (drop (n + 1) old.operands.here) ≡ yields_on (threw old.table.names cause (world_of old)) old (drop (n + 1) old.operands.here) → IsRaised cause old new r → Does (machine.Call n) old new r
 call_refused cause n f args old new r top args_are gives e =
     alike old new r (call_line n f args old top args_are ∙ gives) e
 
-pub call_raises : (n : ℕ) (f : Value) (args : List Value) (old new : State) (r : Step) → drop n old.operands.here ≡ f ∷ drop (n + 1) old.operands.here → args ≡ reverse (take n old.operands.here) → ((es : List Entry) (vs : List pure.Value) (next : ℕ) (ops : List pure.Value) (slots : List (Option pure.Value)) (bs : List machine.Block) (w : World) → calls es (value_in old f) vs next ops slots bs w ≡ yields (threw old.table.names NotCallable w) next ops slots bs) → IsRaised NotCallable old new r → Does (CallTop n) old new r
+pub call_raises : (n : ℕ) (f : Value) (args : List Value) (old new : State) (r : Step) → drop n old.operands.here ≡ f ∷ drop (n + 1) old.operands.here → args ≡ reverse (take n old.operands.here) → ((es : List Entry) (vs : List pure.Value) (next : ℕ) (ops : List pure.Value) (slots : List (Option pure.Value)) (bs : List machine.Block) (w : World) → calls es (value_in old f) vs next ops slots bs w ≡ yields (threw old.table.names NotCallable w) next ops slots bs) → IsRaised NotCallable old new r → Does (machine.Call n) old new r
 call_raises n f args old new r top args_are gives e =
     let g = value_in old in
     call_refused NotCallable n f args old new r top args_are (gives (entries_of old.table) (map g args) (old.pc + 1) (map g (drop (n + 1) old.operands.here)) (slots_of old) (blocks_of old) (world_of old)) e
 
 -- a line is printed
-pub print_did : (t : pure.Text) (n : ℕ) (args : List Value) (old mid new : State) (r : Step) → IsReady old → drop n old.operands.here ≡ value.BuiltIn Print ∷ drop (n + 1) old.operands.here → args ≡ reverse (take n old.operands.here) → mid ≡ record old { line = mid.line } → text_line (world_of old).store (map (value_in old) args) ≡ Ok t → string_bytes mid.line ≡ encode_utf8_all t → IsPrinted n mid new r → Does (CallTop n) old new r
+pub print_did : (t : pure.Text) (n : ℕ) (args : List Value) (old mid new : State) (r : Step) → IsReady old → drop n old.operands.here ≡ value.BuiltIn Print ∷ drop (n + 1) old.operands.here → args ≡ reverse (take n old.operands.here) → mid ≡ record old { line = mid.line } → text_line (world_of old).store (map (value_in old) args) ≡ Ok t → string_bytes mid.line ≡ encode_utf8_all t → IsPrinted n mid new r → Does (machine.Call n) old new r
 print_did t n args old mid new Ended h top args_are m written line e = absurd e
 print_did t n args old mid new Starved h top args_are m written line e =
     let M : State → Type 0 = λ s. (new ≡ record s { standing = standing.Starved; printed = new.printed }) × (string_bytes new.printed ≡ string_bytes s.printed) in
@@ -115,7 +115,7 @@ slot_seen texts (Some v ∷ xs) zero = refl
 slot_seen texts (x ∷ xs) (suc k) = slot_seen texts xs k
 
 -- the line that loads a local, by what its slot has
-load_line : (x : pure.Text) (k : ℕ) (o : Option Value) (s : State) → slot_in k s.slots.here ≡ o → line_of (LoadLocal x k) s ≡ yields_on (load_local x (bound_in s o) (world_of s)) s s.operands.here
+load_line : (x : pure.Text) (k : ℕ) (o : Option Value) (s : State) → slot_in k s.slots.here ≡ o → line_of (machine.LoadLocal x k) s ≡ yields_on (load_local x (bound_in s o) (world_of s)) s s.operands.here
 load_line x k o s is = ap (λ p. yields_on (load_local x p (world_of s)) s s.operands.here) (slot_seen s.texts s.slots.here k ∙ ap (bound_in s) is)
 
 load_unbound : (names : List pure.Text) (j : ℕ) (w : World) → load_local (text_at names j) None w ≡ threw names (not_bound_cause names j) w
@@ -125,7 +125,7 @@ load_unbound names j w = pick (nat_lt max_length (length (not_bound (text_at nam
     pick true = refl
     pick false = refl
 
-pub unbound_local_did : (j k : ℕ) (old new : State) (r : Step) → slot_in k old.slots.here ≡ None → IsRaised (not_bound_cause old.table.names j) old new r → Does (LoadLocal (text_at old.table.names j) k) old new r
+pub unbound_local_did : (j k : ℕ) (old new : State) (r : Step) → slot_in k old.slots.here ≡ None → IsRaised (not_bound_cause old.table.names j) old new r → Does (machine.LoadLocal (text_at old.table.names j) k) old new r
 unbound_local_did j k old new r is e =
     let names = old.table.names in
     alike old new r (load_line (text_at names j) k None old is ∙ ap (λ f. yields_on f old old.operands.here) (load_unbound names j (world_of old))) e
@@ -149,22 +149,22 @@ local_set k o rest old new h fits below e =
     subst P (map-set (bound_in old) old.slots.here k o) (placed_did (old.pc + 1) (with_operands rest old.operands) slots old.blocks old new h stacks e)
 
 -- a slot is bound to the topmost operand
-pub store_local_did : (k : ℕ) (v : Value) (rest : List Value) (old new : State) → IsReady old → old.operands.here ≡ v ∷ rest → new ≡ record (moved (old.pc + 1) rest old) { slots = record old.slots { here = slice_set old.slots.here k (Some v) } } → Does (StoreLocal k) old new Local
+pub store_local_did : (k : ℕ) (v : Value) (rest : List Value) (old new : State) → IsReady old → old.operands.here ≡ v ∷ rest → new ≡ record (moved (old.pc + 1) rest old) { slots = record old.slots { here = slice_set old.slots.here k (Some v) } } → Does (machine.StoreLocal k) old new Local
 store_local_did k v rest old new h top e =
-    alike old new Local (ap (line_on (StoreLocal k) old) top) (local_set k (Some v) rest old new h (topmost old h v rest top) (below old h v rest top) e)
+    alike old new Local (ap (line_on (machine.StoreLocal k) old) top) (local_set k (Some v) rest old new h (topmost old h v rest top) (below old h v rest top) e)
 
 -- a slot is unbound
-pub unbind_local_did : (k : ℕ) (old new : State) → IsReady old → new ≡ record old { pc = old.pc + 1; slots = record old.slots { here = slice_set old.slots.here k None } } → Does (UnbindLocal k) old new Local
+pub unbind_local_did : (k : ℕ) (old new : State) → IsReady old → new ≡ record old { pc = old.pc + 1; slots = record old.slots { here = slice_set old.slots.here k None } } → Does (machine.UnbindLocal k) old new Local
 unbind_local_did k old new h e = local_set k None old.operands.here old new h tt h.sound.stacks.here e
 
 -- ---- calls with an argument by name
 
-pub named_raises : (cause : Cause) (n : ℕ) (f : Value) (old new : State) (r : Step) → drop n old.operands.here ≡ f ∷ drop (n + 1) old.operands.here → ((texts names : List pure.Text) (w : World) → call_by_name (value_of texts f) w ≡ threw names cause w) → IsRaised cause old new r → Does (CallByName n) old new r
+pub named_raises : (cause : Cause) (n : ℕ) (f : Value) (old new : State) (r : Step) → drop n old.operands.here ≡ f ∷ drop (n + 1) old.operands.here → ((texts names : List pure.Text) (w : World) → call_by_name (value_of texts f) w ≡ threw names cause w) → IsRaised cause old new r → Does (machine.CallByName n) old new r
 named_raises cause n f old new r top gives e =
     let g = value_in old in
     let w = world_of old in
     let rest = drop (n + 1) old.operands.here in
-    let line : line_of (CallByName n) old ≡ yields_on (threw old.table.names cause w) old rest =
+    let line : line_of (machine.CallByName n) old ≡ yields_on (threw old.table.names cause w) old rest =
     ap (λ vs. on_callee vs (λ u ops. yields (call_by_name u w) (old.pc + 1) ops (slots_of old) (blocks_of old)) (stuck w)) (drop_map g n old.operands.here ∙ ap (map g) top)
     ∙ ap (λ f. yields_on f old rest) (gives old.texts old.table.names w) in
     alike old new r line e
@@ -223,8 +223,8 @@ back_did after v bs old new h fits blocks one e =
     placed_did after new_ops (caller_slots old.slots) bs old new h (caller_sound vs bs old k fit one blocks)
     (e ∙ ap (λ o. make o (back old.slots.below)) (back_operands v old.operands.below there.0) ∙ ap (make new_ops) (back_slots old.slots.below there.1))
 
-pub return_line : (v : Value) (ops : List Value) (s : State) → s.operands.here ≡ v ∷ ops → line_of DoReturn s ≡ goes (leave (Returns (value_in s v)) (world_of s) (slots_of s) (blocks_of s)) (world_of s)
-return_line v ops s top = ap (line_on DoReturn s) top
+pub return_line : (v : Value) (ops : List Value) (s : State) → s.operands.here ≡ v ∷ ops → line_of machine.Return s ≡ goes (leave (Returns (value_in s v)) (world_of s) (slots_of s) (blocks_of s)) (world_of s)
+return_line v ops s top = ap (line_on machine.Return s) top
 
 -- ---- calls of functions
 
@@ -262,7 +262,7 @@ arguments_count n ops f texts top =
     length-map (reverse (take n ops)) (value_of texts) ∙ length-reverse (take n ops) ∙ length-take-le n ops (omega (arith, long))
 
 -- the line of a call of a function, by what fits: the number of arguments, and one call more
-entered_line : (number : ℕ) (name n : ℕ) (f : Routine) (fit room : Bool) (s : State) → IsSound s → drop n s.operands.here ≡ value.Function number name ∷ drop (n + 1) s.operands.here → slice_get s.table.routines number ≡ Some f → nat_eq n f.parameters ≡ fit → nat_lt (length s.operands.below) max_calls ≡ room → line_of (CallTop n) s ≡ choose fit (choose room (goes (At f.at [] (meaning.entered f.locals (map (value_in s) (reverse (take n s.operands.here)))) (machine.Frame (s.pc + 1) (map (value_in s) (drop (n + 1) s.operands.here)) (slots_of s) ∷ blocks_of s)) (world_of s)) (yields_on (too_deep (world_of s)) s (drop (n + 1) s.operands.here))) (yields_on (wrong_arguments (world_of s)) s (drop (n + 1) s.operands.here))
+entered_line : (number : ℕ) (name n : ℕ) (f : Routine) (fit room : Bool) (s : State) → IsSound s → drop n s.operands.here ≡ value.Function number name ∷ drop (n + 1) s.operands.here → slice_get s.table.routines number ≡ Some f → nat_eq n f.parameters ≡ fit → nat_lt (length s.operands.below) max_calls ≡ room → line_of (machine.Call n) s ≡ choose fit (choose room (goes (At f.at [] (meaning.entered f.locals (map (value_in s) (reverse (take n s.operands.here)))) (machine.Frame (s.pc + 1) (map (value_in s) (drop (n + 1) s.operands.here)) (slots_of s) ∷ blocks_of s)) (world_of s)) (yields_on (too_deep (world_of s)) s (drop (n + 1) s.operands.here))) (yields_on (wrong_arguments (world_of s)) s (drop (n + 1) s.operands.here))
 entered_line number name n f fit room s h top is fits has =
     let args = reverse (take n s.operands.here) in
     let vs = map (value_in s) args in
@@ -276,15 +276,15 @@ entered_line number name n f fit room s h top is fits has =
     ∙ ap (λ b. choose b (choose (nat_lt (length s.operands.below) max_calls) go deep) wrong) fits
     ∙ ap (λ b. choose fit (choose b go deep) wrong) has
 
-pub missing_raises : (number n : ℕ) (old new : State) (r : Step) → IsReady old → IsCallee number n old.operands.here → slice_get old.table.routines number ≡ None → IsRaised NotCallable old new r → Does (CallTop n) old new r
+pub missing_raises : (number n : ℕ) (old new : State) (r : Step) → IsReady old → IsCallee number n old.operands.here → slice_get old.table.routines number ≡ None → IsRaised NotCallable old new r → Does (machine.Call n) old new r
 missing_raises number n old new r h callee is e =
     call_refused NotCallable n (value.Function number callee.0) (reverse (take n old.operands.here)) old new r callee.1 refl (function_line number callee.0 (reverse (take n old.operands.here)) None old (drop (n + 1) old.operands.here) h.sound is) e
 
-pub arguments_raise : (number n : ℕ) (f : Routine) (old new : State) (r : Step) → IsReady old → IsCallee number n old.operands.here → slice_get old.table.routines number ≡ Some f → n ≢ f.parameters → IsRaised WrongArguments old new r → Does (CallTop n) old new r
+pub arguments_raise : (number n : ℕ) (f : Routine) (old new : State) (r : Step) → IsReady old → IsCallee number n old.operands.here → slice_get old.table.routines number ≡ Some f → n ≢ f.parameters → IsRaised WrongArguments old new r → Does (machine.Call n) old new r
 arguments_raise number n f old new r h callee is fits e =
     alike old new r (entered_line number callee.0 n f false (nat_lt (length old.operands.below) max_calls) old h.sound callee.1 is (ne_eqb n f.parameters fits) refl) e
 
-pub depth_raises : (number n : ℕ) (f : Routine) (old new : State) (r : Step) → IsReady old → IsCallee number n old.operands.here → slice_get old.table.routines number ≡ Some f → n ≡ f.parameters → max_calls ≤ length old.operands.below → IsRaised TooDeep old new r → Does (CallTop n) old new r
+pub depth_raises : (number n : ℕ) (f : Routine) (old new : State) (r : Step) → IsReady old → IsCallee number n old.operands.here → slice_get old.table.routines number ≡ Some f → n ≡ f.parameters → max_calls ≤ length old.operands.below → IsRaised TooDeep old new r → Does (machine.Call n) old new r
 depth_raises number n f old new r h callee is fits has e =
     alike old new r (entered_line number callee.0 n f true false old h.sound callee.1 is (eq-eqb n f.parameters fits) (le-ltb (length old.operands.below) max_calls has)) e
 
@@ -312,9 +312,9 @@ entered_fit : (heap : Heap) (vs : List Value) (more : ℕ) → All (Fits heap) v
 entered_fit heap [] more h = unbound_fit heap more
 entered_fit heap (v ∷ vs) more h = All-cons (FitsBound heap) (Some v) (passed vs ++ unbound more) (All-head (Fits heap) v vs h) (entered_fit heap vs more (All-tail (Fits heap) v vs h))
 
-pub entered_did : (number n : ℕ) (f : Routine) (old new : State) (r : Step) → IsReady old → IsCallee number n old.operands.here → slice_get old.table.routines number ≡ Some f → n ≡ f.parameters → length old.operands.below < max_calls → IsEntered f n old new r → Does (CallTop n) old new r
+pub entered_did : (number n : ℕ) (f : Routine) (old new : State) (r : Step) → IsReady old → IsCallee number n old.operands.here → slice_get old.table.routines number ≡ Some f → n ≡ f.parameters → length old.operands.below < max_calls → IsEntered f n old new r → Does (machine.Call n) old new r
 entered_did number n f old new Ended h callee is fits has e = absurd e
-entered_did number n f old new Starved h callee is fits has e = starved_did (line_of (CallTop n) old) old new e
+entered_did number n f old new Starved h callee is fits has e = starved_did (line_of (machine.Call n) old) old new e
 entered_did number n f old new Local h callee is fits has e =
     let F = IsThere old in
     let L = FitsBound old.texts in

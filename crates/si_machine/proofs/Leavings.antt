@@ -319,14 +319,14 @@ ended {l} old new r e h =
 
 -- ---- return
 
-pub return_left : (v : Value) (ops : List Value) (old new : State) (r : Step) → old.operands.here ≡ v ∷ ops → Did (leave_line (Returns v) old) old new r → Does machine.DoReturn old new r
+pub return_left : (v : Value) (ops : List Value) (old new : State) (r : Step) → old.operands.here ≡ v ∷ ops → Did (leave_line (Returns v) old) old new r → Does machine.Return old new r
 return_left v ops old new r top did =
     alike old new r (return_line v ops old top) did
 
 top_reached : (q : Leaving) (b : Block) (rest bs : List Block) → bs ≡ b ∷ rest → concerns q b ≡ true → reached q bs ≡ b ∷ rest
 top_reached q b rest bs top is = ap (reached q) top ∙ ap (λ c. cond c (b ∷ rest) (reached q rest)) is
 
-pub return_back : (after : ℕ) (v : Value) (ops : List Value) (rest : List Block) (old new : State) → IsReady old → old.operands.here ≡ v ∷ ops → old.blocks ≡ Frame after ∷ rest → new ≡ record (back_at after v old) { blocks = rest } → Does machine.DoReturn old new Local
+pub return_back : (after : ℕ) (v : Value) (ops : List Value) (rest : List Block) (old new : State) → IsReady old → old.operands.here ≡ v ∷ ops → old.blocks ≡ Frame after ∷ rest → new ≡ record (back_at after v old) { blocks = rest } → Does machine.Return old new Local
 return_back after v ops rest old new h top is e =
     return_left v ops old new Local top (frame_did (Returns v) after rest old new h tt (topmost old h v ops top) (top_reached (Returns v) (Frame after) rest old.blocks is refl) e)
 

@@ -13,7 +13,7 @@ use Rattle.si_semantics.specs.World.{World, Ran}
 use Rattle.si_semantics.specs.Life as life
 use Rattle.si_semantics.specs.Operations.{operate, operate_unary, gave, refused, too_long, found, or_else, load_global, built_in, built_in_kinds, kind_named}
 use Rattle.si_semantics.specs.Machine as machine
-use Rattle.si_semantics.specs.Machine.{Instr, Push, LoadGlobal, StoreGlobal, UnbindGlobal, ApplyUnary, ApplyBinary, Discard, At, Ending, Closed, Line, act, goes, yields}
+use Rattle.si_semantics.specs.Machine.{Instr, At, Ending, Closed, Line, act, goes, yields}
 use Rattle.si_semantics.proofs.Names.{same_is, same_self, other_is}
 use Rattle.si_code.specs.Views.{text_at, entries_of}
 use Rattle.si_machine.specs.declared.value.Value.{Value}
@@ -359,7 +359,7 @@ load_none names k w e f =
     pick true = refl
     pick false = refl
 
-pub bound_did : (k : ℕ) (v : Value) (old new : State) (r : Step) → IsReady old → AllPairs (λ x y. x ≢ y) old.table.names → slice_get old.globals.items k ≡ Some (Some v) → IsPushed v old new r → Does (LoadGlobal (text_at old.table.names k)) old new r
+pub bound_did : (k : ℕ) (v : Value) (old new : State) (r : Step) → IsReady old → AllPairs (λ x y. x ≢ y) old.table.names → slice_get old.globals.items k ≡ Some (Some v) → IsPushed v old new r → Does (machine.LoadGlobal (text_at old.table.names k)) old new r
 bound_did k v old new r h d at e =
     let w = world_of old in
     let x = text_at old.table.names k in
@@ -367,7 +367,7 @@ bound_did k v old new r h d at e =
     let fits : Fits old.texts v = get_fits (FitsBound old.texts) old.globals.items k (Some v) h.sound.heap.globals at in
     subst P (sym (load_found x (value_in old v) w (slot_read old.table.names old.globals.items old.texts k (Some v) d h.sound.code.slots at))) (pushed_did (value_in old v) v old new r h fits refl e)
 
-pub provided_did : (k : ℕ) (v : Value) (old new : State) (r : Step) → IsReady old → AllPairs (λ x y. x ≢ y) old.table.names → slice_get old.globals.items k ≡ Some None → slice_get old.built_ins.items k ≡ Some (Some v) → IsPushed v old new r → Does (LoadGlobal (text_at old.table.names k)) old new r
+pub provided_did : (k : ℕ) (v : Value) (old new : State) (r : Step) → IsReady old → AllPairs (λ x y. x ≢ y) old.table.names → slice_get old.globals.items k ≡ Some None → slice_get old.built_ins.items k ≡ Some (Some v) → IsPushed v old new r → Does (machine.LoadGlobal (text_at old.table.names k)) old new r
 provided_did k v old new r h d at has e =
     let w = world_of old in
     let x = text_at old.table.names k in
@@ -376,7 +376,7 @@ provided_did k v old new r h d at has e =
     let alone = built_alone v (subst IsBuilt read (all_built x)) in
     subst P (sym (load_built_in x (value_of [] v) w (slot_read old.table.names old.globals.items old.texts k None d h.sound.code.slots at) read)) (pushed_did (value_of [] v) v old new r h (alone.1 old.texts) (alone.0 old.texts) e)
 
-pub unbound_did : (k : ℕ) (old new : State) (r : Step) → IsReady old → AllPairs (λ x y. x ≢ y) old.table.names → slice_get old.globals.items k ≡ Some None → slice_get old.built_ins.items k ≡ Some None → IsRaised (not_defined_cause old.table.names k) old new r → Does (LoadGlobal (text_at old.table.names k)) old new r
+pub unbound_did : (k : ℕ) (old new : State) (r : Step) → IsReady old → AllPairs (λ x y. x ≢ y) old.table.names → slice_get old.globals.items k ≡ Some None → slice_get old.built_ins.items k ≡ Some None → IsRaised (not_defined_cause old.table.names k) old new r → Does (machine.LoadGlobal (text_at old.table.names k)) old new r
 unbound_did k old new r h d at has e =
     let w = world_of old in
     let P : Ran → Type 0 = λ f. Did (yields f (old.pc + 1) (operands_of old) (slots_of old) (blocks_of old)) old new r in
@@ -384,53 +384,53 @@ unbound_did k old new r h d at has e =
     subst P (sym (load_none old.table.names k w (slot_read old.table.names old.globals.items old.texts k None d h.sound.code.slots at) read)) e
 
 -- an operand gives way to what an operator gives for it
-pub unary_did : (o : tree.UnaryOperator) (x v : Value) (rest : List Value) (old new : State) → IsReady old → old.operands.here ≡ x ∷ rest → ((names : List pure.Text) (w : World) → operate_unary o (value_in old x) w ≡ gave (value_in old v) w) → ((heap : Heap) → Fits heap v) → new ≡ moved (old.pc + 1) (v ∷ rest) old → Does (ApplyUnary o) old new Local
+pub unary_did : (o : tree.UnaryOperator) (x v : Value) (rest : List Value) (old new : State) → IsReady old → old.operands.here ≡ x ∷ rest → ((names : List pure.Text) (w : World) → operate_unary o (value_in old x) w ≡ gave (value_in old v) w) → ((heap : Heap) → Fits heap v) → new ≡ moved (old.pc + 1) (v ∷ rest) old → Does (machine.Unary o) old new Local
 unary_did o x v rest old new h top gives fits e =
     let w = world_of old in
-    let line : line_of (ApplyUnary o) old ≡ goes (At (old.pc + 1) (value_in old v ∷ map (value_in old) rest) (slots_of old) (blocks_of old)) w =
-    ap (line_on (ApplyUnary o) old) top
+    let line : line_of (machine.Unary o) old ≡ goes (At (old.pc + 1) (value_in old v ∷ map (value_in old) rest) (slots_of old) (blocks_of old)) w =
+    ap (line_on (machine.Unary o) old) top
     ∙ ap (λ f. yields f (old.pc + 1) (map (value_in old) rest) (slots_of old) (blocks_of old)) (gives old.table.names w) in
     alike old new Local line (advanced_did (value_in old v) v rest old new h (below old h x rest top) (fits old.texts) refl e)
 
-pub unary_raises : (o : tree.UnaryOperator) (x : Value) (rest : List Value) (cause : Cause) (old new : State) (r : Step) → old.operands.here ≡ x ∷ rest → ((names : List pure.Text) (w : World) → operate_unary o (value_in old x) w ≡ threw names cause w) → IsRaised cause old new r → Does (ApplyUnary o) old new r
+pub unary_raises : (o : tree.UnaryOperator) (x : Value) (rest : List Value) (cause : Cause) (old new : State) (r : Step) → old.operands.here ≡ x ∷ rest → ((names : List pure.Text) (w : World) → operate_unary o (value_in old x) w ≡ threw names cause w) → IsRaised cause old new r → Does (machine.Unary o) old new r
 unary_raises o x rest cause old new r top gives e =
     let w = world_of old in
-    let line : line_of (ApplyUnary o) old ≡ yields (threw old.table.names cause w) (old.pc + 1) (map (value_in old) rest) (slots_of old) (blocks_of old) =
-    ap (line_on (ApplyUnary o) old) top
+    let line : line_of (machine.Unary o) old ≡ yields (threw old.table.names cause w) (old.pc + 1) (map (value_in old) rest) (slots_of old) (blocks_of old) =
+    ap (line_on (machine.Unary o) old) top
     ∙ ap (λ f. yields f (old.pc + 1) (map (value_in old) rest) (slots_of old) (blocks_of old)) (gives old.table.names w) in
     alike old new r line e
 
 -- two operands give way to what an operator gives for them
-binary_line : (o : tree.BinaryOperator) (x y : Value) (rest : List Value) (s : State) (f : Ran) → s.operands.here ≡ y ∷ x ∷ rest → operate o (value_in s x) (value_in s y) (world_of s) ≡ f → line_of (ApplyBinary o) s ≡ yields f (s.pc + 1) (map (value_in s) rest) (slots_of s) (blocks_of s)
+binary_line : (o : tree.BinaryOperator) (x y : Value) (rest : List Value) (s : State) (f : Ran) → s.operands.here ≡ y ∷ x ∷ rest → operate o (value_in s x) (value_in s y) (world_of s) ≡ f → line_of (machine.Binary o) s ≡ yields f (s.pc + 1) (map (value_in s) rest) (slots_of s) (blocks_of s)
 binary_line o x y rest s f top gives =
-    ap (line_on (ApplyBinary o) s) top
+    ap (line_on (machine.Binary o) s) top
     ∙ ap (λ g. yields g (s.pc + 1) (map (value_in s) rest) (slots_of s) (blocks_of s)) gives
 
-pub binary_did : (o : tree.BinaryOperator) (x y v : Value) (rest : List Value) (texts : Heap) (old new : State) → IsReady old → old.operands.here ≡ y ∷ x ∷ rest → Runs (λ w. operate o (value_in old x) (value_in old y) w) old.texts texts (Ok v) → new ≡ record (moved (old.pc + 1) (v ∷ rest) old) { texts = texts } → Does (ApplyBinary o) old new Local
+pub binary_did : (o : tree.BinaryOperator) (x y v : Value) (rest : List Value) (texts : Heap) (old new : State) → IsReady old → old.operands.here ≡ y ∷ x ∷ rest → Runs (λ w. operate o (value_in old x) (value_in old y) w) old.texts texts (Ok v) → new ≡ record (moved (old.pc + 1) (v ∷ rest) old) { texts = texts } → Does (machine.Binary o) old new Local
 binary_did o x y v rest texts old new h top runs e =
     alike old new Local (binary_line o x y rest old (gave (value_of texts v) (world_of old)) top (runs.0 (world_of old))) (grown_did v rest texts old new h runs.2 (below_two old h y x rest top) runs.1 e)
 
-pub binary_raises : (o : tree.BinaryOperator) (x y : Value) (rest : List Value) (cause : Cause) (old new : State) (r : Step) → old.operands.here ≡ y ∷ x ∷ rest → ((names : List pure.Text) (w : World) → operate o (value_in old x) (value_in old y) w ≡ threw names cause w) → IsRaised cause old new r → Does (ApplyBinary o) old new r
+pub binary_raises : (o : tree.BinaryOperator) (x y : Value) (rest : List Value) (cause : Cause) (old new : State) (r : Step) → old.operands.here ≡ y ∷ x ∷ rest → ((names : List pure.Text) (w : World) → operate o (value_in old x) (value_in old y) w ≡ threw names cause w) → IsRaised cause old new r → Does (machine.Binary o) old new r
 binary_raises o x y rest cause old new r top gives e =
     let w = world_of old in
     alike old new r (binary_line o x y rest old (threw old.table.names cause w) top (gives old.table.names w)) e
 
-pub discard_did : (v : Value) (rest : List Value) (old new : State) → IsReady old → old.operands.here ≡ v ∷ rest → new ≡ moved (old.pc + 1) rest old → Does Discard old new Local
+pub discard_did : (v : Value) (rest : List Value) (old new : State) → IsReady old → old.operands.here ≡ v ∷ rest → new ≡ moved (old.pc + 1) rest old → Does machine.Discard old new Local
 discard_did v rest old new h top e =
-    alike old new Local (ap (line_on Discard old) top) (discarded_did v rest old new h top e)
+    alike old new Local (ap (line_on machine.Discard old) top) (discarded_did v rest old new h top e)
 
-pub store_did : (k : ℕ) (v : Value) (rest : List Value) (old new : State) → IsReady old → AllPairs (λ x y. x ≢ y) old.table.names → k < length old.globals.items → old.operands.here ≡ v ∷ rest → new.globals.items ≡ slice_set old.globals.items k (Some v) → new ≡ record (moved (old.pc + 1) rest old) { globals = new.globals } → Does (StoreGlobal (text_at old.table.names k)) old new Local
+pub store_did : (k : ℕ) (v : Value) (rest : List Value) (old new : State) → IsReady old → AllPairs (λ x y. x ≢ y) old.table.names → k < length old.globals.items → old.operands.here ≡ v ∷ rest → new.globals.items ≡ slice_set old.globals.items k (Some v) → new ≡ record (moved (old.pc + 1) rest old) { globals = new.globals } → Does (machine.StoreGlobal (text_at old.table.names k)) old new Local
 store_did k v rest old new h d p top items e =
-    alike old new Local (ap (line_on (StoreGlobal (text_at old.table.names k)) old) top) (rebound_did k (Some v) rest old new h d p (topmost old h v rest top) (below old h v rest top) items e)
+    alike old new Local (ap (line_on (machine.StoreGlobal (text_at old.table.names k)) old) top) (rebound_did k (Some v) rest old new h d p (topmost old h v rest top) (below old h v rest top) items e)
 
-pub unbind_did : (k : ℕ) (old new : State) → IsReady old → AllPairs (λ x y. x ≢ y) old.table.names → k < length old.globals.items → new.globals.items ≡ slice_set old.globals.items k None → new ≡ record old { pc = old.pc + 1; globals = new.globals } → Does (UnbindGlobal (text_at old.table.names k)) old new Local
+pub unbind_did : (k : ℕ) (old new : State) → IsReady old → AllPairs (λ x y. x ≢ y) old.table.names → k < length old.globals.items → new.globals.items ≡ slice_set old.globals.items k None → new ≡ record old { pc = old.pc + 1; globals = new.globals } → Does (machine.UnbindGlobal (text_at old.table.names k)) old new Local
 unbind_did k old new h d p items e = rebound_did k None old.operands.here old new h d p tt h.sound.stacks.here items e
 
-pub store_lacks : (x : pure.Text) (s : State) → s.operands.here ≡ [] → IsOpen (line_of (StoreGlobal x) s) → ⊥
-store_lacks x s none h = h (ap (λ vs. (line_on (StoreGlobal x) s vs).place) none)
+pub store_lacks : (x : pure.Text) (s : State) → s.operands.here ≡ [] → IsOpen (line_of (machine.StoreGlobal x) s) → ⊥
+store_lacks x s none h = h (ap (λ vs. (line_on (machine.StoreGlobal x) s vs).place) none)
 
 -- a literal is put on the operands
-pub literal_did : (place : ℕ) (old new : State) (r : Step) → IsReady old → place < length old.table.literals → IsPushed (value.Str place) old new r → Does (Push (pure.Str (text_at old.table.literals place))) old new r
+pub literal_did : (place : ℕ) (old new : State) (r : Step) → IsReady old → place < length old.table.literals → IsPushed (value.Str place) old new r → Does (machine.Push (pure.Str (text_at old.table.literals place))) old new r
 literal_did place old new r h p e =
     let m = length old.table.literals in
     let short : m ≤ length old.texts = literals_there old.table.literals old.texts h.sound.heap.literals in
@@ -438,7 +438,7 @@ literal_did place old new r h p e =
     pushed_did (pure.Str (text_at old.table.literals place)) (value.Str place) old new r h (omega arith) (ap pure.Str same) e
 
 -- a function is put on the operands, under its name
-pub function_did : (number place : ℕ) (old new : State) (r : Step) → IsReady old → place < length old.table.literals → IsPushed (value.Function number place) old new r → Does (Push (pure.Function (text_at old.table.literals place) number)) old new r
+pub function_did : (number place : ℕ) (old new : State) (r : Step) → IsReady old → place < length old.table.literals → IsPushed (value.Function number place) old new r → Does (machine.Push (pure.Function (text_at old.table.literals place) number)) old new r
 function_did number place old new r h p e =
     let m = length old.table.literals in
     let short : m ≤ length old.texts = literals_there old.table.literals old.texts h.sound.heap.literals in

@@ -7,7 +7,7 @@ use Rattle.si_semantics.specs.Value as pure
 use Rattle.si_semantics.specs.World.{Ran}
 use Rattle.si_semantics.specs.Operations.{gave, raised_again, Iterator, iterator_of, Next, Item, Exhausted, next_item, catches}
 use Rattle.si_semantics.specs.Machine as machine
-use Rattle.si_semantics.specs.Machine.{Instr, TestClause, DoRaiseAgain, StartFor, NextItem, At, Line, act, goes, raises, yields, starts_for, gives_item}
+use Rattle.si_semantics.specs.Machine.{Instr, At, Line, act, goes, raises, yields, starts_for, gives_item}
 use Rattle.si_code.specs.Views.{entries_of}
 use Rattle.si_machine.specs.declared.value.Value.{Value}
 use Rattle.si_machine.specs.declared.items.Items.{Items}
@@ -33,48 +33,48 @@ abbrev pub line_in : Instr → State → List Block → Line
 line_in i s bs = act (entries_of s.table) i (s.pc + 1) (operands_of s) (slots_of s) (blocks_in s bs) (world_of s)
 
 -- the line of a test, by what it gives
-test_line : (x : ℕ) (v : Value) (ops : List Value) (rest : List Block) (f : Ran) (s : State) → s.operands.here ≡ v ∷ ops → s.blocks ≡ Handling x ∷ rest → catches (value_in s v) x (world_of s) ≡ f → line_of TestClause s ≡ yields f (s.pc + 1) (map (value_in s) ops) (slots_of s) (blocks_of s)
+test_line : (x : ℕ) (v : Value) (ops : List Value) (rest : List Block) (f : Ran) (s : State) → s.operands.here ≡ v ∷ ops → s.blocks ≡ Handling x ∷ rest → catches (value_in s v) x (world_of s) ≡ f → line_of machine.TestClause s ≡ yields f (s.pc + 1) (map (value_in s) ops) (slots_of s) (blocks_of s)
 test_line x v ops rest f s top inside is =
-    ap (line_on TestClause s) top
-    ∙ ap (λ bs. act (entries_of s.table) TestClause (s.pc + 1) (map (value_in s) (v ∷ ops)) (slots_of s) (blocks_in s bs) (world_of s)) inside
+    ap (line_on machine.TestClause s) top
+    ∙ ap (λ bs. act (entries_of s.table) machine.TestClause (s.pc + 1) (map (value_in s) (v ∷ ops)) (slots_of s) (blocks_in s bs) (world_of s)) inside
     ∙ ap (λ g. yields g (s.pc + 1) (map (value_in s) ops) (slots_of s) (blocks_in s (Handling x ∷ rest))) is
     ∙ ap (λ bs. yields f (s.pc + 1) (map (value_in s) ops) (slots_of s) (blocks_in s bs)) (sym inside)
 
-pub tested : (x : ℕ) (v u : Value) (ops : List Value) (rest : List Block) (old new : State) → IsReady old → old.operands.here ≡ v ∷ ops → old.blocks ≡ Handling x ∷ rest → catches (value_in old v) x (world_of old) ≡ gave (value_in old u) (world_of old) → ((heap : Heap) → Fits heap u) → new ≡ moved (old.pc + 1) (u ∷ ops) old → Does TestClause old new Local
+pub tested : (x : ℕ) (v u : Value) (ops : List Value) (rest : List Block) (old new : State) → IsReady old → old.operands.here ≡ v ∷ ops → old.blocks ≡ Handling x ∷ rest → catches (value_in old v) x (world_of old) ≡ gave (value_in old u) (world_of old) → ((heap : Heap) → Fits heap u) → new ≡ moved (old.pc + 1) (u ∷ ops) old → Does machine.TestClause old new Local
 tested x v u ops rest old new h top inside is fits e =
     alike old new Local (test_line x v ops rest (gave (value_in old u) (world_of old)) old top inside is)
     (advanced_did (value_in old u) u ops old new h (below old h v ops top) (fits old.texts) refl e)
 
-pub test_raises : (x : ℕ) (v : Value) (ops : List Value) (rest : List Block) (cause : Cause) (old new : State) (r : Step) → old.operands.here ≡ v ∷ ops → old.blocks ≡ Handling x ∷ rest → catches (value_in old v) x (world_of old) ≡ threw old.table.names cause (world_of old) → IsRaised cause old new r → Does TestClause old new r
+pub test_raises : (x : ℕ) (v : Value) (ops : List Value) (rest : List Block) (cause : Cause) (old new : State) (r : Step) → old.operands.here ≡ v ∷ ops → old.blocks ≡ Handling x ∷ rest → catches (value_in old v) x (world_of old) ≡ threw old.table.names cause (world_of old) → IsRaised cause old new r → Does machine.TestClause old new r
 test_raises x v ops rest cause old new r top inside is e =
     alike old new r (test_line x v ops rest (threw old.table.names cause (world_of old)) old top inside is) e
 
-again_line : (o : Option ℕ) (s : State) → active_of s.blocks ≡ o → line_of DoRaiseAgain s ≡ raises (raised_again o (world_of s)) (slots_of s) (blocks_of s)
+again_line : (o : Option ℕ) (s : State) → active_of s.blocks ≡ o → line_of machine.RaiseAgain s ≡ raises (raised_again o (world_of s)) (slots_of s) (blocks_of s)
 again_line o s is = ap (λ a. raises (raised_again a (world_of s)) (slots_of s) (blocks_of s)) (active_same s.texts s.blocks s.operands.below s.slots.below ∙ is)
 
-pub raised_anew : (x : ℕ) (old new : State) (r : Step) → active_of old.blocks ≡ Some x → Did (leave_line (Raises x) old) old new r → Does DoRaiseAgain old new r
+pub raised_anew : (x : ℕ) (old new : State) (r : Step) → active_of old.blocks ≡ Some x → Did (leave_line (Raises x) old) old new r → Does machine.RaiseAgain old new r
 raised_anew x old new r is did =
     alike old new r (again_line (Some x) old is) did
 
-pub none_active : (old new : State) (r : Step) → active_of old.blocks ≡ None → IsRaised NoneActive old new r → Does DoRaiseAgain old new r
+pub none_active : (old new : State) (r : Step) → active_of old.blocks ≡ None → IsRaised NoneActive old new r → Does machine.RaiseAgain old new r
 none_active old new r is did =
     alike old new r (again_line None old is) did
 
 -- for
-for_line : (v : Value) (ops : List Value) (o : Option Iterator) (s : State) → s.operands.here ≡ v ∷ ops → iterator_of (value_in s v) (world_of s) ≡ o → line_of StartFor s ≡ starts_for o (s.pc + 1) (map (value_in s) ops) (slots_of s) (blocks_of s) (world_of s)
-for_line v ops o s top is = ap (line_on StartFor s) top ∙ ap (λ i. starts_for i (s.pc + 1) (map (value_in s) ops) (slots_of s) (blocks_of s) (world_of s)) is
+for_line : (v : Value) (ops : List Value) (o : Option Iterator) (s : State) → s.operands.here ≡ v ∷ ops → iterator_of (value_in s v) (world_of s) ≡ o → line_of machine.StartFor s ≡ starts_for o (s.pc + 1) (map (value_in s) ops) (slots_of s) (blocks_of s) (world_of s)
+for_line v ops o s top is = ap (line_on machine.StartFor s) top ∙ ap (λ i. starts_for i (s.pc + 1) (map (value_in s) ops) (slots_of s) (blocks_of s) (world_of s)) is
 
-pub for_started : (v : Value) (ops : List Value) (items : Items) (old new : State) → IsReady old → old.operands.here ≡ v ∷ ops → Some (items_of old.texts items) ≡ iterator_of (value_in old v) (world_of old) → FitsItems old.texts items → new ≡ record old { pc = old.pc + 1; operands = with_operands ops old.operands; blocks = Each items ∷ old.blocks } → Does StartFor old new Local
+pub for_started : (v : Value) (ops : List Value) (items : Items) (old new : State) → IsReady old → old.operands.here ≡ v ∷ ops → Some (items_of old.texts items) ≡ iterator_of (value_in old v) (world_of old) → FitsItems old.texts items → new ≡ record old { pc = old.pc + 1; operands = with_operands ops old.operands; blocks = Each items ∷ old.blocks } → Does machine.StartFor old new Local
 for_started v ops items old new h top is fits e =
     alike old new Local (for_line v ops (Some (items_of old.texts items)) old top (sym is))
     (blocks_did (old.pc + 1) ops (Each items ∷ old.blocks) old new h (below old h v ops top) refl (All-cons (FitsBlock old.texts) (Each items) old.blocks fits h.sound.stacks.blocks) e)
 
-item_line : (n : ℕ) (items : Items) (rest : List Block) (o : Next) (s : State) → s.blocks ≡ Each items ∷ rest → o ≡ next_item (items_of s.texts items) (world_of s) → line_of (NextItem n) s ≡ gives_item o (s.pc + 1) (s.pc + 1 + n) (operands_of s) (slots_of s) (blocks_in s rest) (world_of s)
+item_line : (n : ℕ) (items : Items) (rest : List Block) (o : Next) (s : State) → s.blocks ≡ Each items ∷ rest → o ≡ next_item (items_of s.texts items) (world_of s) → line_of (machine.NextItem n) s ≡ gives_item o (s.pc + 1) (s.pc + 1 + n) (operands_of s) (slots_of s) (blocks_in s rest) (world_of s)
 item_line n items rest o s top is =
-    ap (line_in (NextItem n) s) top
+    ap (line_in (machine.NextItem n) s) top
     ∙ ap (λ i. gives_item i (s.pc + 1) (s.pc + 1 + n) (operands_of s) (slots_of s) (blocks_in s rest) (world_of s)) (sym is)
 
-pub item_given : (n : ℕ) (items more_items : Items) (item : Value) (rest : List Block) (heap : Heap) (old new : State) → IsReady old → old.blocks ≡ Each items ∷ rest → GivesNext old.texts heap items (Some (item, more_items)) → new ≡ record (moved (old.pc + 1) (item ∷ old.operands.here) old) { texts = heap; blocks = Each more_items ∷ rest } → Does (NextItem n) old new Local
+pub item_given : (n : ℕ) (items more_items : Items) (item : Value) (rest : List Block) (heap : Heap) (old new : State) → IsReady old → old.blocks ≡ Each items ∷ rest → GivesNext old.texts heap items (Some (item, more_items)) → new ≡ record (moved (old.pc + 1) (item ∷ old.operands.here) old) { texts = heap; blocks = Each more_items ∷ rest } → Does (machine.NextItem n) old new Local
 item_given n items more_items item rest heap old new h top gives e =
     let k = h.sound.stacks in
     let B : List Block → Type 0 = λ l. All (FitsBlock old.texts) l in
@@ -89,7 +89,7 @@ pub where_room : {A E P : Type 0} (r : Result A E) → is_err r ≡ false → On
 where_room (Ok x) has h = h
 where_room (Err x) has h = absurd (false≢true (sym has))
 
-pub items_ended : (n : ℕ) (items : Items) (rest : List Block) (old new : State) → IsReady old → old.blocks ≡ Each items ∷ rest → next_item (items_of old.texts items) (world_of old) ≡ Exhausted → new ≡ record old { pc = old.pc + 1 + n; blocks = rest } → Does (NextItem n) old new Local
+pub items_ended : (n : ℕ) (items : Items) (rest : List Block) (old new : State) → IsReady old → old.blocks ≡ Each items ∷ rest → next_item (items_of old.texts items) (world_of old) ≡ Exhausted → new ≡ record old { pc = old.pc + 1 + n; blocks = rest } → Does (machine.NextItem n) old new Local
 items_ended n items rest old new h top is e =
     let B : List Block → Type 0 = λ l. All (FitsBlock old.texts) l in
     alike old new Local (item_line n items rest Exhausted old top (sym is))

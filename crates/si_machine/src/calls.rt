@@ -54,8 +54,8 @@ impl State {
 
     /// Calls what lies below so many arguments.
     pub fn call(&mut self, count: u32) -> Step
-        requires ready { IsReadyFor (machine.CallTop count) self.old }
-        ensures { Does (machine.CallTop count) self.old self.new result }
+        requires ready { IsReadyFor (machine.Call count) self.old }
+        ensures { Does (machine.Call count) self.old self.new result }
     {
         let count = count as usize;
         let Some((callee, _)) = self.operands.call(count) else {
@@ -77,9 +77,9 @@ impl State {
     // A call of a built-in.
     #[inline(never)]
     fn call_provided(&mut self, function: BuiltIn, count: usize) -> Step
-        requires ready { IsReadyFor (machine.CallTop count) self.old }
+        requires ready { IsReadyFor (machine.Call count) self.old }
         requires callee { drop count self.old.operands.here ≡ Value.BuiltIn function ∷ drop (count + 1) self.old.operands.here }
-        ensures { Does (machine.CallTop count) self.old self.new result }
+        ensures { Does (machine.Call count) self.old self.new result }
     {
         match function {
             BuiltIn::Print => self.call_print(count),
@@ -92,9 +92,9 @@ impl State {
     // A call of `print`: what it prints is written aside first.
     #[inline(never)]
     fn call_print(&mut self, count: usize) -> Step
-        requires ready { IsReadyFor (machine.CallTop count) self.old }
+        requires ready { IsReadyFor (machine.Call count) self.old }
         requires callee { drop count self.old.operands.here ≡ Value.BuiltIn BuiltIn.Print ∷ drop (count + 1) self.old.operands.here }
-        ensures { Does (machine.CallTop count) self.old self.new result }
+        ensures { Does (machine.Call count) self.old self.new result }
     {
         let Some((_, arguments)) = self.operands.call(count) else {
             unreachable!();
@@ -116,10 +116,10 @@ impl State {
     // A call of any other built-in.
     #[inline(never)]
     fn call_built_in(&mut self, function: BuiltIn, count: usize) -> Step
-        requires ready { IsReadyFor (machine.CallTop count) self.old }
+        requires ready { IsReadyFor (machine.Call count) self.old }
         requires other { function ≢ BuiltIn.Print }
         requires callee { drop count self.old.operands.here ≡ Value.BuiltIn function ∷ drop (count + 1) self.old.operands.here }
-        ensures { Does (machine.CallTop count) self.old self.new result }
+        ensures { Does (machine.Call count) self.old self.new result }
     {
         let Some((_, arguments)) = self.operands.call(count) else {
             unreachable!();
@@ -143,9 +143,9 @@ impl State {
     // A call of a kind: a new exception with an argument, or without one.
     #[inline(never)]
     fn call_kind(&mut self, kind: Kind, count: usize) -> Step
-        requires ready { IsReadyFor (machine.CallTop count) self.old }
+        requires ready { IsReadyFor (machine.Call count) self.old }
         requires callee { drop count self.old.operands.here ≡ Value.Kind kind ∷ drop (count + 1) self.old.operands.here }
-        ensures { Does (machine.CallTop count) self.old self.new result }
+        ensures { Does (machine.Call count) self.old self.new result }
     {
         if count == 0 {
             self.make(Object::Made(kind, None), count)
@@ -190,8 +190,8 @@ impl State {
 
     /// Leaves the call with the value on top.
     pub fn return_value(&mut self) -> Step
-        requires ready { IsReadyFor machine.DoReturn self.old }
-        ensures { Does machine.DoReturn self.old self.new result }
+        requires ready { IsReadyFor machine.Return self.old }
+        ensures { Does machine.Return self.old self.new result }
     {
         let Some(value) = self.operands.top() else {
             unreachable!();
@@ -207,9 +207,9 @@ impl State {
 
     // A call of the function of a number, with the topmost operands.
     fn call_function(&mut self, number: u32, count: usize) -> Step
-        requires ready { IsReadyFor (machine.CallTop count) self.old }
+        requires ready { IsReadyFor (machine.Call count) self.old }
         requires callee { IsCallee number count self.old.operands.here }
-        ensures { Does (machine.CallTop count) self.old self.new result }
+        ensures { Does (machine.Call count) self.old self.new result }
     {
         match self.table.routine(number) {
             Some(routine) => {

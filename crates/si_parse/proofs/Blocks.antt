@@ -3,7 +3,8 @@ use Rattle.std.proofs.Common.{◌≡◌, ℕ, zero, suc, ◌<◌, List, [], ◌�
 use Rattle.std.specs.Prelude.{option_map, flat_map, if◌then◌else◌}
 use Rattle.std.proofs.lemmas.List.{append-nil}
 use Rattle.si_semantics.specs.Value.{Text}
-use Rattle.si_semantics.specs.Tree.{Expr, Constant, Name, Unary, Binary, Call, Boolean, Compare, Conditional, Stmt, Target, Named, Evaluate, Assign, Augment, Pass, If, While, For, Break, Continue, Define, Return, Global, Raise, Try, Finally, Stmts}
+use Rattle.si_semantics.specs.Tree as tree
+use Rattle.si_semantics.specs.Tree.{Expr, Stmt, Target, Stmts}
 use Rattle.si_semantics.specs.Tokens as token
 use Rattle.si_semantics.specs.Grammar.{Terminal, NAME, Sign, Word, NEWLINE, INDENT, DEDENT, Many, Behind, Spells, max_depth, IsExpression, Simple, stmts_of, Lines, Block, Suite, Branch, Tested, Otherwise, elifs_of, Compound, Nests, IsTarget}
 use Rattle.si_parse.specs.inner.Reading.{then_read, rest_of, name_at, parameters_by, defined_by, define_by, expression_at, LineParser, is_dedent, many_by, indented_by, suite_from, suite_by, branch_by, with_branch, elif_by, is_none, no_elif, elifs_by, otherwise_from, otherwise_by, joined_if, if_by, joined_while, while_by, target_from, target_by, joined_for, for_by, Header, if_header, while_header, for_header, try_header, def_header, header_at, compound_by, with_compound, block_from, block_at, after}
@@ -41,20 +42,20 @@ dedent_only (_ ∷ ts) h = cc
 abbrev TargetRead : List Terminal → Target × List Terminal → Type 0
 TargetRead ts x = (f : List Terminal) × (ts ≡ f ++ Word token.InWord ∷ x.1) × IsTarget x.0 f
 
-target_behind : (f ts : List Terminal) (y : Text) (o : Option (List Terminal)) → after (Word token.InWord) ts ≡ o → Spells max_depth 18 (Name y) f → (x : Target × List Terminal) → option_map {U = Target × List Terminal} (λ rest. (Named y, rest)) o ≡ Some x → TargetRead (f ++ ts) x
+target_behind : (f ts : List Terminal) (y : Text) (o : Option (List Terminal)) → after (Word token.InWord) ts ≡ o → Spells max_depth 18 (tree.Name y) f → (x : Target × List Terminal) → option_map {U = Target × List Terminal} (λ rest. (tree.Named y, rest)) o ≡ Some x → TargetRead (f ++ ts) x
 target_behind f ts y None is spelled x h = cc
 target_behind f ts y (Some rest) is spelled x h =
-    let P : Target × List Terminal → Type 0 = TargetRead (f ++ ts) in subst P (some_inj (Named y, rest) x h) (f, ap (λ t. f ++ t) (after_in_some ts rest is), spelled)
+    let P : Target × List Terminal → Type 0 = TargetRead (f ++ ts) in subst P (some_inj (tree.Named y, rest) x h) (f, ap (λ t. f ++ t) (after_in_some ts rest is), spelled)
 
 target_is : (f ts : List Terminal) (e : Expr) → Spells max_depth 16 e f → (x : Target × List Terminal) → target_from e (after (Word token.InWord) ts) ≡ Some x → TargetRead (f ++ ts) x
-target_is f ts (Name y) spelled x h = target_behind f ts y (after (Word token.InWord) ts) refl (name_tighter max_depth 16 18 y f spelled) x h
-target_is f ts (Constant v) spelled x h = cc
-target_is f ts (Unary op e) spelled x h = cc
-target_is f ts (Binary op e g) spelled x h = cc
-target_is f ts (Call e args names) spelled x h = cc
-target_is f ts (Boolean op e others) spelled x h = cc
-target_is f ts (Compare e cs) spelled x h = cc
-target_is f ts (Conditional e g i) spelled x h = cc
+target_is f ts (tree.Name y) spelled x h = target_behind f ts y (after (Word token.InWord) ts) refl (name_tighter max_depth 16 18 y f spelled) x h
+target_is f ts (tree.Constant v) spelled x h = cc
+target_is f ts (tree.Unary op e) spelled x h = cc
+target_is f ts (tree.Binary op e g) spelled x h = cc
+target_is f ts (tree.Call e args names) spelled x h = cc
+target_is f ts (tree.Boolean op e others) spelled x h = cc
+target_is f ts (tree.Compare e cs) spelled x h = cc
+target_is f ts (tree.Conditional e g i) spelled x h = cc
 
 target_reads : (ts : List Terminal) (x : Target × List Terminal) → target_by ts ≡ Some x → TargetRead ts x
 target_reads ts x h =
@@ -63,10 +64,10 @@ target_reads ts x h =
     let P : List Terminal → Type 0 = λ t. TargetRead t x in
     subst P (sym a.0.split) (target_is a.0.front s.0.2 s.0.0 (spells_deeper s.0.1 max_depth a.1 16 s.0.0 a.0.front a.0.spelled) x s.2)
 
-target_complete : (x : Text) (f more : List Terminal) → IsTarget (Named x) f → target_by (f ++ Word token.InWord ∷ more) ≡ Some (Named x, more)
+target_complete : (x : Text) (f more : List Terminal) → IsTarget (tree.Named x) f → target_by (f ++ Word token.InWord ∷ more) ≡ Some (tree.Named x, more)
 target_complete x f more h =
-    let loose = spells_looser max_depth 16 18 (Name x) f (omega arith) h in
-    let c = expression_complete max_depth max_depth 16 (Name x) f (Word token.InWord ∷ more) (omega arith) (omega arith) loose (omega arith) refl in
+    let loose = spells_looser max_depth 16 18 (tree.Name x) f (omega arith) h in
+    let c = expression_complete max_depth max_depth 16 (tree.Name x) f (Word token.InWord ∷ more) (omega arith) (omega arith) loose (omega arith) refl in
     ap (λ o. then_read o (λ r. target_from r.0 (after (Word token.InWord) r.2))) c.3
 
 -- ---- what is read is in the grammar
@@ -172,7 +173,7 @@ module _ (L : Lines) (line : LineParser) (sound : LineSound L line) where
       let g = elifs_reads b.0.1 e.0 e.1 in
       let i = otherwise_reads e.0.1 (after (Word token.ElseWord) e.0.1) refl o.0 o.1 in
       let P : Stmt × List Terminal → Type 0 = CompoundRead (Word token.IfWord ∷ ts) in
-      subst P (some_inj (If b.0.0.0 b.0.0.1 (elifs_of e.0.0 (stmts_of o.0.0)), o.0.1) r o.2) (
+      subst P (some_inj (tree.If b.0.0.0 b.0.0.1 (elifs_of e.0.0 (stmts_of o.0.0)), o.0.1) r o.2) (
         Word token.IfWord ∷ (f.0 ++ (g.0 ++ i.0)),
         ap (λ t. Word token.IfWord ∷ t) (f.1 ∙ ap (λ t. f.0 ++ t) (g.1 ∙ ap (λ t. g.0 ++ t) i.1 ∙ sym (append_assoc g.0 i.0 o.0.1)) ∙ sym (append_assoc f.0 (g.0 ++ i.0) o.0.1)),
         (e.0.0, stmts_of o.0.0, f.0, g.0, i.0, refl, refl, f.2, g.2, i.2),
@@ -185,7 +186,7 @@ module _ (L : Lines) (line : LineParser) (sound : LineSound L line) where
       let f = branch_reads ts b.0 b.1 in
       let g = otherwise_reads b.0.1 (after (Word token.ElseWord) b.0.1) refl o.0 o.1 in
       let P : Stmt × List Terminal → Type 0 = CompoundRead (Word token.WhileWord ∷ ts) in
-      subst P (some_inj (While b.0.0.0 b.0.0.1 (stmts_of o.0.0), o.0.1) r o.2) (
+      subst P (some_inj (tree.While b.0.0.0 b.0.0.1 (stmts_of o.0.0), o.0.1) r o.2) (
         Word token.WhileWord ∷ (f.0 ++ g.0),
         ap (λ t. Word token.WhileWord ∷ t) (f.1 ∙ ap (λ t. f.0 ++ t) g.1 ∙ sym (append_assoc f.0 g.0 o.0.1)),
         (f.0, g.0, refl, f.2, g.2),
@@ -201,7 +202,7 @@ module _ (L : Lines) (line : LineParser) (sound : LineSound L line) where
       let g = otherwise_reads b.0.1 (after (Word token.ElseWord) b.0.1) refl o.0 o.1 in
       let behind : x.0.1 ≡ (f.0 ++ g.0) ++ o.0.1 = f.1 ∙ ap (λ t. f.0 ++ t) g.1 ∙ sym (append_assoc f.0 g.0 o.0.1) in
       let P : Stmt × List Terminal → Type 0 = CompoundRead (Word token.ForWord ∷ ts) in
-      subst P (some_inj (For x.0.0 b.0.0.0 b.0.0.1 (stmts_of o.0.0), o.0.1) r o.2) (
+      subst P (some_inj (tree.For x.0.0 b.0.0.0 b.0.0.1 (stmts_of o.0.0), o.0.1) r o.2) (
         Word token.ForWord ∷ (e.0 ++ Word token.InWord ∷ (f.0 ++ g.0)),
         ap (λ t. Word token.ForWord ∷ t) (e.1 ∙ ap (λ t. e.0 ++ Word token.InWord ∷ t) behind ∙ sym (append_assoc e.0 (Word token.InWord ∷ (f.0 ++ g.0)) o.0.1)),
         (e.0, f.0, g.0, refl, e.2, f.2, g.2),
@@ -212,13 +213,13 @@ module _ (L : Lines) (line : LineParser) (sound : LineSound L line) where
       let n = then_read_some (name_at ts) (λ n. then_read (after (Sign token.LeftParenthesis) n.1) (λ rest. then_read (parameters_by rest) (defined_by line n.0))) r h in
       let o = then_read_some (after (Sign token.LeftParenthesis) n.0.1) (λ rest. then_read (parameters_by rest) (defined_by line n.0.0)) r n.2 in
       let p = then_read_some (parameters_by o.0) (defined_by line n.0.0) r o.2 in
-      let b = then_read_some (suite_by line p.0.1) (λ b. Some (Define n.0.0 p.0.0 (stmts_of b.0), b.1)) r p.2 in
+      let b = then_read_some (suite_by line p.0.1) (λ b. Some (tree.Define n.0.0 p.0.0 (stmts_of b.0), b.1)) r p.2 in
       let g = parameters_reads o.0 p.0 p.1 in
       let s = suite_reads p.0.1 b.0 b.1 in
       let P : Stmt × List Terminal → Type 0 = CompoundRead (Word token.DefWord ∷ ts) in
       let opened : n.0.1 ≡ Sign token.LeftParenthesis ∷ ((g.0 ++ Sign token.RightParenthesis ∷ s.0) ++ b.0.1) =
       after_open_some n.0.1 o.0 o.1 ∙ ap (λ t. Sign token.LeftParenthesis ∷ t) (g.1 ∙ ap (λ t. g.0 ++ Sign token.RightParenthesis ∷ t) s.1 ∙ sym (append_assoc g.0 (Sign token.RightParenthesis ∷ s.0) b.0.1)) in
-      subst P (some_inj (Define n.0.0 p.0.0 (stmts_of b.0.0), b.0.1) r b.2) (
+      subst P (some_inj (tree.Define n.0.0 p.0.0 (stmts_of b.0.0), b.0.1) r b.2) (
         Word token.DefWord ∷ (NAME n.0.0 ∷ (Sign token.LeftParenthesis ∷ (g.0 ++ Sign token.RightParenthesis ∷ s.0))),
         ap (λ t. Word token.DefWord ∷ t) (name_at_some ts n.0 n.1 ∙ ap (λ t. NAME n.0.0 ∷ t) opened),
         (g.0, s.0, refl, g.2, g.3, s.2),
@@ -277,33 +278,33 @@ line_begun line f more h =
     }
 
 compound_begun : (L : Lines) (s : Stmt) (f more : List Terminal) → Compound L s f → Begun f more
-compound_begun L (If test body other) f more h =
+compound_begun L (tree.If test body other) f more h =
     let P : List Terminal → Type 0 = λ f. Begun f more in
     subst P (sym h.5) (record { ends = record { elifs = refl; elses = refl; excepts = refl; finals = refl; some = omega arith }; in_block = refl; long = omega arith })
-compound_begun L (While test body other) f more h =
+compound_begun L (tree.While test body other) f more h =
     let P : List Terminal → Type 0 = λ f. Begun f more in
     subst P (sym h.2) (record { ends = record { elifs = refl; elses = refl; excepts = refl; finals = refl; some = omega arith }; in_block = refl; long = omega arith })
-compound_begun L (For t over body other) f more h =
+compound_begun L (tree.For t over body other) f more h =
     let P : List Terminal → Type 0 = λ f. Begun f more in
     subst P (sym h.3) (record { ends = record { elifs = refl; elses = refl; excepts = refl; finals = refl; some = omega arith }; in_block = refl; long = omega arith })
-compound_begun L (Try body cs other) f more h =
+compound_begun L (tree.Try body cs other) f more h =
     let P : List Terminal → Type 0 = λ f. Begun f more in
     subst P (sym h.2) (record { ends = record { elifs = refl; elses = refl; excepts = refl; finals = refl; some = omega arith }; in_block = refl; long = omega arith })
-compound_begun L (Finally body cs other last) f more h =
+compound_begun L (tree.Finally body cs other last) f more h =
     let P : List Terminal → Type 0 = λ f. Begun f more in
     subst P (sym h.3) (record { ends = record { elifs = refl; elses = refl; excepts = refl; finals = refl; some = omega arith }; in_block = refl; long = omega arith })
-compound_begun L (Define x ps body) f more h =
+compound_begun L (tree.Define x ps body) f more h =
     let P : List Terminal → Type 0 = λ f. Begun f more in
     subst P (sym h.2) (record { ends = record { elifs = refl; elses = refl; excepts = refl; finals = refl; some = omega arith }; in_block = refl; long = omega arith })
-compound_begun L (Return a) f more h = absurd h
-compound_begun L (Raise a) f more h = absurd h
-compound_begun L (Global xs) f more h = absurd h
-compound_begun L (Evaluate e) f more h = absurd h
-compound_begun L (Assign t e) f more h = absurd h
-compound_begun L (Augment t op e) f more h = absurd h
-compound_begun L Pass f more h = absurd h
-compound_begun L Break f more h = absurd h
-compound_begun L Continue f more h = absurd h
+compound_begun L (tree.Return a) f more h = absurd h
+compound_begun L (tree.Raise a) f more h = absurd h
+compound_begun L (tree.Global xs) f more h = absurd h
+compound_begun L (tree.Evaluate e) f more h = absurd h
+compound_begun L (tree.Assign t e) f more h = absurd h
+compound_begun L (tree.Augment t op e) f more h = absurd h
+compound_begun L tree.Pass f more h = absurd h
+compound_begun L tree.Break f more h = absurd h
+compound_begun L tree.Continue f more h = absurd h
 
 pub begun : (n : ℕ) (ss : List Stmt) (f more : List Terminal) → Nests n ss f → Begun f more
 begun zero ss f more h = line_begun ss f more h
@@ -398,7 +399,7 @@ module _ (L : Lines) (line : LineParser) (complete : LineComplete L line) (begin
   otherwise_complete last f more (inr h) e =
       let s = suite_complete last h.0 more h.2 in (s.0, s.1, ap (λ t. otherwise_by line (t ++ more)) h.1 ∙ s.2, ap (λ t. no_elif (t ++ more)) h.1)
 
-  if_complete : (test : Expr) (body other : Stmts) (f more : List Terminal) → Compound L (If test body other) f → Ends more → (g : List Terminal) × (f ≡ Word token.IfWord ∷ g) × (if_by line (g ++ more) ≡ Some (If test body other, more))
+  if_complete : (test : Expr) (body other : Stmts) (f more : List Terminal) → Compound L (tree.If test body other) f → Ends more → (g : List Terminal) × (f ≡ Word token.IfWord ∷ g) × (if_by line (g ++ more) ≡ Some (tree.If test body other, more))
   if_complete test body other f more h e =
       let o = otherwise_complete h.1 h.4 more h.9 e in
       let some : 0 < length (h.4 ++ more) = omega (arith, length-append h.4 more, e.some) in
@@ -409,11 +410,11 @@ module _ (L : Lines) (line : LineParser) (complete : LineComplete L line) (begin
             ∙ ap (λ o. then_read o (λ b. then_read (elifs_by line b.1) (λ es. then_read (otherwise_by line es.1) (joined_if b.0 es.0)))) (branch_complete (test, body) h.2 (h.3 ++ (h.4 ++ more)) h.7)
             ∙ ap (λ o. then_read o (λ es. then_read (otherwise_by line es.1) (joined_if (test, body) es.0))) (elifs_complete h.0 h.3 (h.4 ++ more) some o.3 h.8)
             ∙ ap (λ o. then_read o (joined_if (test, body) h.0)) o.2
-            ∙ ap (λ last. Some (If test body (elifs_of h.0 last), more)) (sym o.1)
-            ∙ ap (λ rest. Some (If test body rest, more)) (sym h.6),
+            ∙ ap (λ last. Some (tree.If test body (elifs_of h.0 last), more)) (sym o.1)
+            ∙ ap (λ rest. Some (tree.If test body rest, more)) (sym h.6),
       )
 
-  while_complete : (test : Expr) (body other : Stmts) (f more : List Terminal) → Compound L (While test body other) f → Ends more → (g : List Terminal) × (f ≡ Word token.WhileWord ∷ g) × (while_by line (g ++ more) ≡ Some (While test body other, more))
+  while_complete : (test : Expr) (body other : Stmts) (f more : List Terminal) → Compound L (tree.While test body other) f → Ends more → (g : List Terminal) × (f ≡ Word token.WhileWord ∷ g) × (while_by line (g ++ more) ≡ Some (tree.While test body other, more))
   while_complete test body other f more h e =
       let o = otherwise_complete other h.1 more h.4 e in (
         h.0 ++ h.1,
@@ -421,10 +422,10 @@ module _ (L : Lines) (line : LineParser) (complete : LineComplete L line) (begin
         ap (while_by line) (append_assoc h.0 h.1 more)
             ∙ ap (λ o. then_read o (λ b. then_read (otherwise_by line b.1) (joined_while b.0))) (branch_complete (test, body) h.0 (h.1 ++ more) h.3)
             ∙ ap (λ o. then_read o (joined_while (test, body))) o.2
-            ∙ ap (λ last. Some (While test body last, more)) (sym o.1),
+            ∙ ap (λ last. Some (tree.While test body last, more)) (sym o.1),
       )
 
-  for_complete : (x : Text) (over : Expr) (body other : Stmts) (f more : List Terminal) → Compound L (For (Named x) over body other) f → Ends more → (g : List Terminal) × (f ≡ Word token.ForWord ∷ g) × (for_by line (g ++ more) ≡ Some (For (Named x) over body other, more))
+  for_complete : (x : Text) (over : Expr) (body other : Stmts) (f more : List Terminal) → Compound L (tree.For (tree.Named x) over body other) f → Ends more → (g : List Terminal) × (f ≡ Word token.ForWord ∷ g) × (for_by line (g ++ more) ≡ Some (tree.For (tree.Named x) over body other, more))
   for_complete x over body other f more h e =
       let o = otherwise_complete other h.2 more h.6 e in
       let split : (h.0 ++ Word token.InWord ∷ (h.1 ++ h.2)) ++ more ≡ h.0 ++ Word token.InWord ∷ (h.1 ++ (h.2 ++ more)) =
@@ -433,20 +434,20 @@ module _ (L : Lines) (line : LineParser) (complete : LineComplete L line) (begin
         h.3,
         ap (for_by line) split
             ∙ ap (λ o. then_read o (λ x. then_read (branch_by line x.1) (λ b. then_read (otherwise_by line b.1) (joined_for x.0 b.0)))) (target_complete x h.0 (h.1 ++ (h.2 ++ more)) h.4)
-            ∙ ap (λ o. then_read o (λ b. then_read (otherwise_by line b.1) (joined_for (Named x) b.0))) (branch_complete (over, body) h.1 (h.2 ++ more) h.5)
-            ∙ ap (λ o. then_read o (joined_for (Named x) (over, body))) o.2
-            ∙ ap (λ last. Some (For (Named x) over body last, more)) (sym o.1),
+            ∙ ap (λ o. then_read o (λ b. then_read (otherwise_by line b.1) (joined_for (tree.Named x) b.0))) (branch_complete (over, body) h.1 (h.2 ++ more) h.5)
+            ∙ ap (λ o. then_read o (joined_for (tree.Named x) (over, body))) o.2
+            ∙ ap (λ last. Some (tree.For (tree.Named x) over body last, more)) (sym o.1),
       )
 
-  define_complete : (x : Text) (ps : List Text) (body : Stmts) (f more : List Terminal) → Compound L (Define x ps body) f → (g : List Terminal) × (f ≡ Word token.DefWord ∷ g) × (define_by line (g ++ more) ≡ Some (Define x ps body, more))
+  define_complete : (x : Text) (ps : List Text) (body : Stmts) (f more : List Terminal) → Compound L (tree.Define x ps body) f → (g : List Terminal) × (f ≡ Word token.DefWord ∷ g) × (define_by line (g ++ more) ≡ Some (tree.Define x ps body, more))
   define_complete x ps body f more h =
       let s = suite_complete body h.1 more h.5 in (
         NAME x ∷ (Sign token.LeftParenthesis ∷ (h.0 ++ Sign token.RightParenthesis ∷ h.1)),
         h.2,
         ap (λ t. then_read (parameters_by t) (defined_by line x)) (append_assoc h.0 (Sign token.RightParenthesis ∷ h.1) more)
             ∙ ap (λ o. then_read o (defined_by line x)) (parameters_complete ps h.0 (h.1 ++ more) h.3 h.4)
-            ∙ ap (λ o. then_read o (λ b. Some (Define x ps (stmts_of b.0), b.1))) s.2
-            ∙ ap (λ l. Some (Define x ps l, more)) (sym s.1),
+            ∙ ap (λ o. then_read o (λ b. Some (tree.Define x ps (stmts_of b.0), b.1))) s.2
+            ∙ ap (λ l. Some (tree.Define x ps l, more)) (sym s.1),
       )
 
   abbrev Read : List Stmt → List Stmt → List Terminal → List Terminal → Type 0
@@ -457,39 +458,39 @@ module _ (L : Lines) (line : LineParser) (complete : LineComplete L line) (begin
       ap (block_from line body (f ++ more)) (header_not (f ++ more) (line_starts ss f more h)) ∙ line_complete body ss f more h
 
   compound_read : (body : List Stmt) (s : Stmt) (f more : List Terminal) → Compound L s f → Ends more → Read body (s ∷ []) f more
-  compound_read body (If test rest other) f more h e =
+  compound_read body (tree.If test rest other) f more h e =
       let c = if_complete test rest other f more h e in
-      let P : List Terminal → Type 0 = λ f. Read body (If test rest other ∷ []) f more in
+      let P : List Terminal → Type 0 = λ f. Read body (tree.If test rest other ∷ []) f more in
       subst P (sym c.1) (ap (λ o. then_read o (with_compound body)) c.2)
-  compound_read body (While test rest other) f more h e =
+  compound_read body (tree.While test rest other) f more h e =
       let c = while_complete test rest other f more h e in
-      let P : List Terminal → Type 0 = λ f. Read body (While test rest other ∷ []) f more in
+      let P : List Terminal → Type 0 = λ f. Read body (tree.While test rest other ∷ []) f more in
       subst P (sym c.1) (ap (λ o. then_read o (with_compound body)) c.2)
-  compound_read body (For (Named x) over rest other) f more h e =
+  compound_read body (tree.For (tree.Named x) over rest other) f more h e =
       let c = for_complete x over rest other f more h e in
-      let P : List Terminal → Type 0 = λ f. Read body (For (Named x) over rest other ∷ []) f more in
+      let P : List Terminal → Type 0 = λ f. Read body (tree.For (tree.Named x) over rest other ∷ []) f more in
       subst P (sym c.1) (ap (λ o. then_read o (with_compound body)) c.2)
-  compound_read body (Try rest cs other) f more h e =
+  compound_read body (tree.Try rest cs other) f more h e =
       let c = try_complete L line suite_complete rest cs other f more h (record { no_except = e.excepts; no_else = e.elses; some = e.some }) e.finals in
-      let P : List Terminal → Type 0 = λ f. Read body (Try rest cs other ∷ []) f more in
+      let P : List Terminal → Type 0 = λ f. Read body (tree.Try rest cs other ∷ []) f more in
       subst P (sym c.1) (ap (λ o. then_read o (with_compound body)) c.2)
-  compound_read body (Finally rest cs other last) f more h e =
+  compound_read body (tree.Finally rest cs other last) f more h e =
       let c = finally_complete L line suite_complete rest cs other last f more h in
-      let P : List Terminal → Type 0 = λ f. Read body (Finally rest cs other last ∷ []) f more in
+      let P : List Terminal → Type 0 = λ f. Read body (tree.Finally rest cs other last ∷ []) f more in
       subst P (sym c.1) (ap (λ o. then_read o (with_compound body)) c.2)
-  compound_read body (Define x ps rest) f more h e =
+  compound_read body (tree.Define x ps rest) f more h e =
       let c = define_complete x ps rest f more h in
-      let P : List Terminal → Type 0 = λ f. Read body (Define x ps rest ∷ []) f more in
+      let P : List Terminal → Type 0 = λ f. Read body (tree.Define x ps rest ∷ []) f more in
       subst P (sym c.1) (ap (λ o. then_read o (with_compound body)) c.2)
-  compound_read body (Return x) f more h e = absurd h
-  compound_read body (Raise x) f more h e = absurd h
-  compound_read body (Global xs) f more h e = absurd h
-  compound_read body (Evaluate x) f more h e = absurd h
-  compound_read body (Assign t v) f more h e = absurd h
-  compound_read body (Augment t op v) f more h e = absurd h
-  compound_read body Pass f more h e = absurd h
-  compound_read body Break f more h e = absurd h
-  compound_read body Continue f more h e = absurd h
+  compound_read body (tree.Return x) f more h e = absurd h
+  compound_read body (tree.Raise x) f more h e = absurd h
+  compound_read body (tree.Global xs) f more h e = absurd h
+  compound_read body (tree.Evaluate x) f more h e = absurd h
+  compound_read body (tree.Assign t v) f more h e = absurd h
+  compound_read body (tree.Augment t op v) f more h e = absurd h
+  compound_read body tree.Pass f more h e = absurd h
+  compound_read body tree.Break f more h e = absurd h
+  compound_read body tree.Continue f more h e = absurd h
 
 pub block_complete : (n : ℕ) → LineComplete (Nests n) (block_at n)
 unfolding block_at

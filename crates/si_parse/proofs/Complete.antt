@@ -4,7 +4,7 @@ use Rattle.std.specs.Prelude.{nat_lt, not, ◌&&◌, if◌then◌else◌}
 use Rattle.std.proofs.lemmas.Bool.Decides.{nat_tests}
 use Rattle.std.proofs.lemmas.List.{append-nil}
 use Rattle.si_semantics.specs.Value.{Nothing, Truth, Int, Str, Provided, Function, Range, Class, Address}
-use Rattle.si_semantics.specs.Tree.{BinaryOperator, UnaryOperator, ComparisonOperator, BooleanOperator, Expr, Constant, Name, Unary, Binary, Call, Boolean, Compare, Conditional}
+use Rattle.si_semantics.specs.Tree.{BinaryOperator, UnaryOperator, ComparisonOperator, BooleanOperator, Expr}
 use Rattle.si_semantics.specs.Tree as tree
 use Rattle.si_semantics.specs.Tokens.{Symbol, Keyword}
 use Rattle.si_semantics.specs.Tokens as token
@@ -32,7 +32,7 @@ not_closed : (m l : ℕ) (e : Expr) (f : List Terminal) → Spells m l e f → (
 not_closed m l e f h x = close_not (f ++ x) (expression_begins m l e f h x)
 
 -- what is spelled has a depth, so a name is spelled at that depth
-spelled_name : (m l : ℕ) (e : Expr) (f : List Terminal) → Spells m l e f → (x : List ℕ) → Spells m 1 (Name x) (NAME x ∷ [])
+spelled_name : (m l : ℕ) (e : Expr) (f : List Terminal) → Spells m l e f → (x : List ℕ) → Spells m 1 (tree.Name x) (NAME x ∷ [])
 spelled_name zero l e f h x = absurd h
 spelled_name (suc m) l e f h x = inl refl
 
@@ -52,9 +52,9 @@ strings_complete text s (STRING literal ∷ ts) rest h b =
 strings_complete text s (_ ∷ ts) rest h b = absurd h
 
 abbrev with_text : List ℕ × List Terminal → Parsed
-with_text r = Some (Constant (Str r.0), 1, r.1)
+with_text r = Some (tree.Constant (Str r.0), 1, r.1)
 
-string_operand : (sub : Parser) (l : ℕ) (s : List ℕ) (f rest : List Terminal) → 0 < length f → length s ≤ max_length → Strings s f → begins_str rest ≡ false → operand_by sub l (f ++ rest) ≡ Some (Constant (Str s), 1, rest)
+string_operand : (sub : Parser) (l : ℕ) (s : List ℕ) (f rest : List Terminal) → 0 < length f → length s ≤ max_length → Strings s f → begins_str rest ≡ false → operand_by sub l (f ++ rest) ≡ Some (tree.Constant (Str s), 1, rest)
 string_operand sub l s [] rest some few h b = absurd (omega arith)
 string_operand sub l s (STRING literal ∷ ts) rest some few h b =
     ap (λ (o : Option (List ℕ × List Terminal)). then_read (then_read o short) with_text) (strings_complete [] s (STRING literal ∷ ts) rest h b)
@@ -113,8 +113,8 @@ module _ (n : ℕ) (sub : Parser) (complete : IsComplete n sub) where
         by None is = refl
         by (Some name) is =
             let c = complete m 1 e f more le (omega arith) h ends.0 ends.1 in
-            let d = complete m 1 (Name name.0) (NAME name.0 ∷ []) (Sign token.Equal ∷ name.1) le (omega arith) (spelled_name m 1 e f h name.0) (omega arith) refl in
-            let same = some_inj (e, c.0, more) (Name name.0, d.0, Sign token.Equal ∷ name.1) (sym c.3 ∙ ap (sub 1) (named_at_some (f ++ more) name is) ∙ d.3) in
+            let d = complete m 1 (tree.Name name.0) (NAME name.0 ∷ []) (Sign token.Equal ∷ name.1) le (omega arith) (spelled_name m 1 e f h name.0) (omega arith) refl in
+            let same = some_inj (e, c.0, more) (tree.Name name.0, d.0, Sign token.Equal ∷ name.1) (sym c.3 ∙ ap (sub 1) (named_at_some (f ++ more) name is) ∙ d.3) in
             let bad : None ≡ Some name.1 = sym ends.2 ∙ ap (λ r. after (Sign token.Equal) r.2) same in cc
 
     argument_read : (a : Argument) (f more : List Terminal) → Passes (Spells m) a f → Follows more → (r : Argued) × (argument_by sub (f ++ more) ≡ Some r) × (r.2 ≡ more) × Read a r
@@ -292,7 +292,7 @@ module _ (n : ℕ) (sub : Parser) (complete : IsComplete n sub) where
     )
 
     binary_reached : (m : ℕ) → m ≤ n → Hypothesis m → (level : ℕ) (op : BinaryOperator) (a b : Expr) (f g rest : List Terminal) → level ≤ level_of op → Spells m (left_level op) a f → Spells m (right_level op) b g → strength_at rest ≤ level → begins_str rest ≡ false → l ≤ level
-        → Reaches (suc m) (Binary op a b) (f ++ Sign (symbol_of op) ∷ g) rest
+        → Reaches (suc m) (tree.Binary op a b) (f ++ Sign (symbol_of op) ∷ g) rest
     binary_reached m le ih level op a b f g rest under ha hb weak plain at =
         let tail = Sign (symbol_of op) ∷ g in
         let role = role_of_symbol op in
@@ -302,15 +302,15 @@ module _ (n : ℕ) (sub : Parser) (complete : IsComplete n sub) where
         let right = complete m (right_level op) b g rest le (right_bound op) hb (right_weaker op rest (omega arith)) plain in
         let d = max left.0 right.0 + 1 in
         let shallow : d ≤ n + 1 = omega (arith, left.2, right.1) in
-        extends m a (Binary op a b) f tail rest d left (omega arith) (omega (arith, left.2, right.1)) (omega arith)
+        extends m a (tree.Binary op a b) f tail rest d left (omega arith) (omega (arith, left.2, right.1)) (omega arith)
         (
         ap (extended_by sub (n + 1) a left.0 (tail ++ rest)) role
-        ∙ ap (λ r. then_read r (λ r. within (n + 1) (Binary op a r.0) (max left.0 r.1 + 1) r.2)) right.3
-        ∙ within_ok (n + 1) (Binary op a b) d rest shallow
+        ∙ ap (λ r. then_read r (λ r. within (n + 1) (tree.Binary op a r.0) (max left.0 r.1 + 1) r.2)) right.3
+        ∙ within_ok (n + 1) (tree.Binary op a b) d rest shallow
         )
 
     call_reached : (m : ℕ) → (le : m ≤ n) → Hypothesis m → (a : Expr) (args : tree.Exprs) (names : List (List ℕ)) (passed : List Argument) (f g rest : List Terminal) → Spells m 18 a f
-        → IsPassed passed (items_of args) names → Separated (Passes (Spells m)) token.Comma passed g → Reaches (suc m) (Call a args names) (f ++ Sign token.LeftParenthesis ∷ (g ++ Sign token.RightParenthesis ∷ [])) rest
+        → IsPassed passed (items_of args) names → Separated (Passes (Spells m)) token.Comma passed g → Reaches (suc m) (tree.Call a args names) (f ++ Sign token.LeftParenthesis ∷ (g ++ Sign token.RightParenthesis ∷ [])) rest
     call_reached m le ih a args names passed f g rest ha once hs =
         let tail = Sign token.LeftParenthesis ∷ (g ++ Sign token.RightParenthesis ∷ []) in
         let left = ih 18 a f (tail ++ rest) ha (omega arith) refl (omega arith) in
@@ -318,24 +318,24 @@ module _ (n : ℕ) (sub : Parser) (complete : IsComplete n sub) where
         let d = max left.0 right.0 + 1 in
         let shallow : d ≤ n + 1 = omega (arith, left.2, right.1) in
         let same : (g ++ Sign token.RightParenthesis ∷ []) ++ rest ≡ g ++ Sign token.RightParenthesis ∷ rest = append_assoc g (Sign token.RightParenthesis ∷ []) rest in
-        extends m a (Call a args names) f tail rest d left (omega arith) (omega (arith, left.2, right.1)) (omega arith)
+        extends m a (tree.Call a args names) f tail rest d left (omega arith) (omega (arith, left.2, right.1)) (omega arith)
         (
         ap (λ t. call_by sub (n + 1) a left.0 t) same
         ∙ ap (λ r. then_read r (called (n + 1) a left.0)) right.2
-        ∙ ap (λ p. then_read p (λ p. within (n + 1) (Call a (exprs_of p.0) p.1) d rest)) (passed_complete passed (items_of args) names once)
-        ∙ ap (λ t. within (n + 1) (Call a t names) d rest) (exprs_of_items args)
-        ∙ within_ok (n + 1) (Call a args names) d rest shallow
+        ∙ ap (λ p. then_read p (λ p. within (n + 1) (tree.Call a (exprs_of p.0) p.1) d rest)) (passed_complete passed (items_of args) names once)
+        ∙ ap (λ t. within (n + 1) (tree.Call a t names) d rest) (exprs_of_items args)
+        ∙ within_ok (n + 1) (tree.Call a args names) d rest shallow
         )
 
     unary_reached : (m : ℕ) → m ≤ n → (level : ℕ) (op : UnaryOperator) (a : Expr) (f rest : List Terminal) → level ≤ prefix_level op → Spells m (prefix_level op) a f → strength_at rest ≤ level → begins_str rest ≡ false → l ≤ level
-        → Reaches (suc m) (Unary op a) (prefix_of op ∷ f) rest
+        → Reaches (suc m) (tree.Unary op a) (prefix_of op ∷ f) rest
     unary_reached m le level op a f rest under ha weak plain at =
         let inner = complete m (prefix_level op) a f rest le (prefix_bound op) ha (prefix_gap op rest (omega arith)) plain in
-        starts (suc m) (Unary op a) (prefix_of op ∷ f) rest (inner.0 + 1) (omega arith) (omega (arith, inner.1))
+        starts (suc m) (tree.Unary op a) (prefix_of op ∷ f) rest (inner.0 + 1) (omega arith) (omega (arith, inner.1))
         (
         ap (operand_from sub l (prefix_of op ∷ (f ++ rest))) (prefix_begins op (f ++ rest))
-        ∙ ap (λ b. if b then then_read (sub (prefix_level op) (f ++ rest)) (λ r. Some (Unary op r.0, r.1 + 1, r.2)) else None) (le_to l (prefix_level op) (omega arith))
-        ∙ ap (λ r. then_read r (λ r. Some (Unary op r.0, r.1 + 1, r.2))) inner.3
+        ∙ ap (λ b. if b then then_read (sub (prefix_level op) (f ++ rest)) (λ r. Some (tree.Unary op r.0, r.1 + 1, r.2)) else None) (le_to l (prefix_level op) (omega arith))
+        ∙ ap (λ r. then_read r (λ r. Some (tree.Unary op r.0, r.1 + 1, r.2))) inner.3
         )
 
     bracket_reached : (m : ℕ) → m ≤ n → (e : Expr) (f rest : List Terminal) → Spells m 1 e f → Reaches (suc m) e (Sign token.LeftParenthesis ∷ (f ++ Sign token.RightParenthesis ∷ [])) rest
@@ -349,7 +349,7 @@ module _ (n : ℕ) (sub : Parser) (complete : IsComplete n sub) where
         )
 
     compare_reached : (m : ℕ) → m ≤ n → Hypothesis m → (level : ℕ) (a : Expr) (cs : tree.Comparisons) (f g rest : List Terminal) → level ≤ 8 → Spells m 10 a f → 0 < length (links_of cs) → Many (Compares (Spells m)) (links_of cs) g
-        → strength_at rest ≤ level → begins_str rest ≡ false → l ≤ level → Reaches (suc m) (Compare a cs) (f ++ g) rest
+        → strength_at rest ≤ level → begins_str rest ≡ false → l ≤ level → Reaches (suc m) (tree.Compare a cs) (f ++ g) rest
     compare_reached m le ih level a cs f g rest under ha some hs weak plain at =
         let first = links_begin m (links_of cs) g rest some hs in
         let strength : strength_at (g ++ rest) ≡ 9 = ap strength_of first.0 in
@@ -359,16 +359,16 @@ module _ (n : ℕ) (sub : Parser) (complete : IsComplete n sub) where
         let chain = chain_complete (λ o e. (o, e)) comparison_at (compared_by sub) (Compares (Spells m)) m 10 (link_complete m le) (link_begins m) (length (g ++ rest)) ([], 0) (links_of cs) g rest fuel (omega arith) hs (omega arith, plain) (comparison_none rest (omega arith)) in
         let d = max left.0 chain.0 + 1 in
         let shallow : d ≤ n + 1 = omega (arith, left.2, chain.1) in
-        extends m a (Compare a cs) f g rest d left (omega arith) (omega (arith, left.2, chain.1)) (omega arith)
+        extends m a (tree.Compare a cs) f g rest d left (omega arith) (omega (arith, left.2, chain.1)) (omega arith)
         (
         ap (extended_by sub (n + 1) a left.0 (g ++ rest)) first.0
-        ∙ ap (λ r. then_read r (λ r. within (n + 1) (Compare a (chain_of r.0.0)) (max left.0 r.0.1 + 1) r.1)) chain.2
-        ∙ ap (λ t. within (n + 1) (Compare a t) d rest) (chain_of_links cs)
-        ∙ within_ok (n + 1) (Compare a cs) d rest shallow
+        ∙ ap (λ r. then_read r (λ r. within (n + 1) (tree.Compare a (chain_of r.0.0)) (max left.0 r.0.1 + 1) r.1)) chain.2
+        ∙ ap (λ t. within (n + 1) (tree.Compare a t) d rest) (chain_of_links cs)
+        ∙ within_ok (n + 1) (tree.Compare a cs) d rest shallow
         )
 
     boolean_reached : (m : ℕ) → m ≤ n → Hypothesis m → (level : ℕ) (op : BooleanOperator) (a : Expr) (others : tree.Exprs) (f g rest : List Terminal) → level ≤ boolean_level op → Spells m (item_level op) a f
-        → 0 < length (items_of others) → Many (Item m op) (items_of others) g → strength_at rest ≤ level → begins_str rest ≡ false → l ≤ level → Reaches (suc m) (Boolean op a others) (f ++ g) rest
+        → 0 < length (items_of others) → Many (Item m op) (items_of others) g → strength_at rest ≤ level → begins_str rest ≡ false → l ≤ level → Reaches (suc m) (tree.Boolean op a others) (f ++ g) rest
     boolean_reached m le ih level op a others f g rest under ha some hs weak plain at =
         let first = items_begin m op (items_of others) g rest some hs in
         let bounds = boolean_strength op in
@@ -380,16 +380,16 @@ module _ (n : ℕ) (sub : Parser) (complete : IsComplete n sub) where
         fuel (omega arith) hs (omega (arith, bounds.0, bounds.1), plain) (ap (with_word op) (boolean_none op rest (omega arith))) in
         let d = max left.0 chain.0 + 1 in
         let shallow : d ≤ n + 1 = omega (arith, left.2, chain.1) in
-        extends m a (Boolean op a others) f g rest d left (omega (arith, bounds.1)) (omega (arith, left.2, chain.1)) (omega arith)
+        extends m a (tree.Boolean op a others) f g rest d left (omega (arith, bounds.1)) (omega (arith, left.2, chain.1)) (omega arith)
         (
         ap (extended_by sub (n + 1) a left.0 (g ++ rest)) first.0
-        ∙ ap (λ r. then_read r (λ r. within (n + 1) (Boolean op a (exprs_of r.0.0)) (max left.0 r.0.1 + 1) r.1)) chain.2
-        ∙ ap (λ t. within (n + 1) (Boolean op a t) d rest) (exprs_of_items others)
-        ∙ within_ok (n + 1) (Boolean op a others) d rest shallow
+        ∙ ap (λ r. then_read r (λ r. within (n + 1) (tree.Boolean op a (exprs_of r.0.0)) (max left.0 r.0.1 + 1) r.1)) chain.2
+        ∙ ap (λ t. within (n + 1) (tree.Boolean op a t) d rest) (exprs_of_items others)
+        ∙ within_ok (n + 1) (tree.Boolean op a others) d rest shallow
         )
 
     conditional_reached : (m : ℕ) → m ≤ n → Hypothesis m → (level : ℕ) (test value other : Expr) (f g h rest : List Terminal) → level ≤ 1 → Spells m 3 value f → Spells m 3 test g → Spells m 1 other h
-        → strength_at rest ≤ level → begins_str rest ≡ false → l ≤ level → Reaches (suc m) (Conditional test value other) (f ++ Word token.IfWord ∷ (g ++ Word token.ElseWord ∷ h)) rest
+        → strength_at rest ≤ level → begins_str rest ≡ false → l ≤ level → Reaches (suc m) (tree.Conditional test value other) (f ++ Word token.IfWord ∷ (g ++ Word token.ElseWord ∷ h)) rest
     conditional_reached m le ih level test value other f g h rest under hv ht ho weak plain at =
         let tail = Word token.IfWord ∷ (g ++ Word token.ElseWord ∷ h) in
         let left = ih 3 value f (tail ++ rest) hv (omega arith) refl (omega arith) in
@@ -398,12 +398,12 @@ module _ (n : ℕ) (sub : Parser) (complete : IsComplete n sub) where
         let d = max left.0 (max mid.0 right.0) + 1 in
         let shallow : d ≤ n + 1 = omega (arith, left.2, mid.1, right.1) in
         let same : (g ++ Word token.ElseWord ∷ h) ++ rest ≡ g ++ Word token.ElseWord ∷ (h ++ rest) = append_assoc g (Word token.ElseWord ∷ h) rest in
-        extends m value (Conditional test value other) f tail rest d left (omega arith) (omega (arith, left.2, mid.1, right.1)) (omega arith)
+        extends m value (tree.Conditional test value other) f tail rest d left (omega arith) (omega (arith, left.2, mid.1, right.1)) (omega arith)
         (
         ap (conditional_by sub (n + 1) value left.0) same
         ∙ ap (λ t. then_read t (λ t. then_read (after (Word token.ElseWord) t.2) (other_by sub (n + 1) value left.0 t))) mid.3
-        ∙ ap (λ o. then_read o (λ o. within (n + 1) (Conditional test value o.0) (max left.0 (max mid.0 o.1) + 1) o.2)) right.3
-        ∙ within_ok (n + 1) (Conditional test value other) d rest shallow
+        ∙ ap (λ o. then_read o (λ o. within (n + 1) (tree.Conditional test value o.0) (max left.0 (max mid.0 o.1) + 1) o.2)) right.3
+        ∙ within_ok (n + 1) (tree.Conditional test value other) d rest shallow
         )
 
     moved : (m : ℕ) (e : Expr) (f g rest : List Terminal) → g ≡ f → Reaches m e f rest → Reaches m e g rest
@@ -411,37 +411,37 @@ module _ (n : ℕ) (sub : Parser) (complete : IsComplete n sub) where
 
     reached : (m : ℕ) → m ≤ n + 1 → Hypothesis m
     reached zero le level e front rest h weak plain at = absurd h
-    reached (suc m) le level (Name x) front rest (inl h) weak plain at =
-        moved (suc m) (Name x) (NAME x ∷ []) front rest h (starts (suc m) (Name x) (NAME x ∷ []) rest 1 (omega arith) (omega arith) refl)
-    reached (suc m) le level (Constant (Int i)) front rest (inl h) weak plain at =
-        moved (suc m) (Constant (Int i)) (NUMBER h.0 ∷ []) front rest h.1
-        (starts (suc m) (Constant (Int i)) (NUMBER h.0 ∷ []) rest 1 (omega arith) (omega arith) (ap (λ o. then_read o (λ n. Some (Constant (Int n), 1, rest))) h.2))
-    reached (suc m) le level (Constant (Str s)) front rest (inl h) weak plain at =
-        starts (suc m) (Constant (Str s)) front rest 1 (omega arith) (omega arith) (string_operand sub l s front rest h.0 h.1 h.2 plain)
-    reached (suc m) le level (Constant Nothing) front rest (inl h) weak plain at =
-        moved (suc m) (Constant Nothing) (Word token.NoneWord ∷ []) front rest h (starts (suc m) (Constant Nothing) (Word token.NoneWord ∷ []) rest 1 (omega arith) (omega arith) refl)
-    reached (suc m) le level (Constant (Truth true)) front rest (inl h) weak plain at =
-        moved (suc m) (Constant (Truth true)) (Word token.TrueWord ∷ []) front rest h (starts (suc m) (Constant (Truth true)) (Word token.TrueWord ∷ []) rest 1 (omega arith) (omega arith) refl)
-    reached (suc m) le level (Constant (Truth false)) front rest (inl h) weak plain at =
-        moved (suc m) (Constant (Truth false)) (Word token.FalseWord ∷ []) front rest h (starts (suc m) (Constant (Truth false)) (Word token.FalseWord ∷ []) rest 1 (omega arith) (omega arith) refl)
-    reached (suc m) le level (Constant (Provided b)) front rest (inl h) weak plain at = absurd h
-    reached (suc m) le level (Unary op a) front rest (inl h) weak plain at =
-        moved (suc m) (Unary op a) (prefix_of op ∷ h.0) front rest h.1 (unary_reached m (omega arith) level op a h.0 rest h.2 h.3 weak plain at)
-    reached (suc m) le level (Binary op a b) front rest (inl h) weak plain at =
-        moved (suc m) (Binary op a b) (h.0 ++ Sign (symbol_of op) ∷ h.1) front rest h.2 (binary_reached m (omega arith) (reached m (omega arith)) level op a b h.0 h.1 rest h.3 h.4 h.5 weak plain at)
-    reached (suc m) le level (Constant (Function x i)) front rest (inl h) weak plain at = absurd h
-    reached (suc m) le level (Constant (Range a b c)) front rest (inl h) weak plain at = absurd h
-    reached (suc m) le level (Constant (Class i)) front rest (inl h) weak plain at = absurd h
-    reached (suc m) le level (Constant (Address x)) front rest (inl h) weak plain at = absurd h
-    reached (suc m) le level (Call a args names) front rest (inl h) weak plain at =
-        moved (suc m) (Call a args names) (h.0 ++ Sign token.LeftParenthesis ∷ (h.1 ++ Sign token.RightParenthesis ∷ [])) front rest h.3
+    reached (suc m) le level (tree.Name x) front rest (inl h) weak plain at =
+        moved (suc m) (tree.Name x) (NAME x ∷ []) front rest h (starts (suc m) (tree.Name x) (NAME x ∷ []) rest 1 (omega arith) (omega arith) refl)
+    reached (suc m) le level (tree.Constant (Int i)) front rest (inl h) weak plain at =
+        moved (suc m) (tree.Constant (Int i)) (NUMBER h.0 ∷ []) front rest h.1
+        (starts (suc m) (tree.Constant (Int i)) (NUMBER h.0 ∷ []) rest 1 (omega arith) (omega arith) (ap (λ o. then_read o (λ n. Some (tree.Constant (Int n), 1, rest))) h.2))
+    reached (suc m) le level (tree.Constant (Str s)) front rest (inl h) weak plain at =
+        starts (suc m) (tree.Constant (Str s)) front rest 1 (omega arith) (omega arith) (string_operand sub l s front rest h.0 h.1 h.2 plain)
+    reached (suc m) le level (tree.Constant Nothing) front rest (inl h) weak plain at =
+        moved (suc m) (tree.Constant Nothing) (Word token.NoneWord ∷ []) front rest h (starts (suc m) (tree.Constant Nothing) (Word token.NoneWord ∷ []) rest 1 (omega arith) (omega arith) refl)
+    reached (suc m) le level (tree.Constant (Truth true)) front rest (inl h) weak plain at =
+        moved (suc m) (tree.Constant (Truth true)) (Word token.TrueWord ∷ []) front rest h (starts (suc m) (tree.Constant (Truth true)) (Word token.TrueWord ∷ []) rest 1 (omega arith) (omega arith) refl)
+    reached (suc m) le level (tree.Constant (Truth false)) front rest (inl h) weak plain at =
+        moved (suc m) (tree.Constant (Truth false)) (Word token.FalseWord ∷ []) front rest h (starts (suc m) (tree.Constant (Truth false)) (Word token.FalseWord ∷ []) rest 1 (omega arith) (omega arith) refl)
+    reached (suc m) le level (tree.Constant (Provided b)) front rest (inl h) weak plain at = absurd h
+    reached (suc m) le level (tree.Unary op a) front rest (inl h) weak plain at =
+        moved (suc m) (tree.Unary op a) (prefix_of op ∷ h.0) front rest h.1 (unary_reached m (omega arith) level op a h.0 rest h.2 h.3 weak plain at)
+    reached (suc m) le level (tree.Binary op a b) front rest (inl h) weak plain at =
+        moved (suc m) (tree.Binary op a b) (h.0 ++ Sign (symbol_of op) ∷ h.1) front rest h.2 (binary_reached m (omega arith) (reached m (omega arith)) level op a b h.0 h.1 rest h.3 h.4 h.5 weak plain at)
+    reached (suc m) le level (tree.Constant (Function x i)) front rest (inl h) weak plain at = absurd h
+    reached (suc m) le level (tree.Constant (Range a b c)) front rest (inl h) weak plain at = absurd h
+    reached (suc m) le level (tree.Constant (Class i)) front rest (inl h) weak plain at = absurd h
+    reached (suc m) le level (tree.Constant (Address x)) front rest (inl h) weak plain at = absurd h
+    reached (suc m) le level (tree.Call a args names) front rest (inl h) weak plain at =
+        moved (suc m) (tree.Call a args names) (h.0 ++ Sign token.LeftParenthesis ∷ (h.1 ++ Sign token.RightParenthesis ∷ [])) front rest h.3
         (call_reached m (omega arith) (reached m (omega arith)) a args names h.2 h.0 h.1 rest h.5 h.6 h.7)
-    reached (suc m) le level (Compare a cs) front rest (inl h) weak plain at =
-        moved (suc m) (Compare a cs) (h.0 ++ h.1) front rest h.2 (compare_reached m (omega arith) (reached m (omega arith)) level a cs h.0 h.1 rest h.3 h.4 h.5 h.6 weak plain at)
-    reached (suc m) le level (Boolean op a others) front rest (inl h) weak plain at =
-        moved (suc m) (Boolean op a others) (h.0 ++ h.1) front rest h.2 (boolean_reached m (omega arith) (reached m (omega arith)) level op a others h.0 h.1 rest h.3 h.4 h.5 h.6 weak plain at)
-    reached (suc m) le level (Conditional test value other) front rest (inl h) weak plain at =
-        moved (suc m) (Conditional test value other) (h.0 ++ Word token.IfWord ∷ (h.1 ++ Word token.ElseWord ∷ h.2)) front rest h.3
+    reached (suc m) le level (tree.Compare a cs) front rest (inl h) weak plain at =
+        moved (suc m) (tree.Compare a cs) (h.0 ++ h.1) front rest h.2 (compare_reached m (omega arith) (reached m (omega arith)) level a cs h.0 h.1 rest h.3 h.4 h.5 h.6 weak plain at)
+    reached (suc m) le level (tree.Boolean op a others) front rest (inl h) weak plain at =
+        moved (suc m) (tree.Boolean op a others) (h.0 ++ h.1) front rest h.2 (boolean_reached m (omega arith) (reached m (omega arith)) level op a others h.0 h.1 rest h.3 h.4 h.5 h.6 weak plain at)
+    reached (suc m) le level (tree.Conditional test value other) front rest (inl h) weak plain at =
+        moved (suc m) (tree.Conditional test value other) (h.0 ++ Word token.IfWord ∷ (h.1 ++ Word token.ElseWord ∷ h.2)) front rest h.3
         (conditional_reached m (omega arith) (reached m (omega arith)) level test value other h.0 h.1 h.2 rest h.4 h.5 h.6 h.7 weak plain at)
     reached (suc m) le level e front rest (inr h) weak plain at =
         moved (suc m) e (Sign token.LeftParenthesis ∷ (h.0 ++ Sign token.RightParenthesis ∷ [])) front rest h.1 (bracket_reached m (omega arith) e h.0 rest h.2)

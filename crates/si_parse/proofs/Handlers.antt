@@ -3,7 +3,8 @@ use Rattle.std.proofs.Common.{◌≡◌, ◌<◌, List, [], ◌∷◌, ◌++◌,
 use Rattle.std.specs.Prelude.{if◌then◌else◌}
 use Rattle.std.proofs.lemmas.List.{append-nil}
 use Rattle.si_semantics.specs.Value.{Text}
-use Rattle.si_semantics.specs.Tree.{Expr, Stmt, Try, Finally, Stmts, Clauses, NoClauses, MoreClauses}
+use Rattle.si_semantics.specs.Tree as tree
+use Rattle.si_semantics.specs.Tree.{Expr, Stmt, Stmts, Clauses}
 use Rattle.si_semantics.specs.Tokens as token
 use Rattle.si_semantics.specs.Grammar.{Terminal, NAME, Sign, Word, Many, Behind, max_depth, IsExpression, stmts_of, Lines, Suite, Otherwise, Clause, clauses_of, clause_list, Excepts, bare_is_last, Handlers, Compound}
 use Rattle.si_parse.specs.inner.Reading.{then_read, is_none, after_catch, no_catch, name_at, expression_at, LineParser, suite_by, otherwise_from, otherwise_by, Catch, caught_from, caught_by, clause_by, with_clause, catch_by, catches_by, bare_from, bare_by, clauses_by, Handled, handled_from, handlers_by, tried, finally_from, try_by, after}
@@ -20,8 +21,8 @@ clauses_are [] = refl
 clauses_are (c ∷ cs) = ap (λ l. c ∷ l) (clauses_are cs)
 
 list_is : (cs : Clauses) → clauses_of (clause_list cs) ≡ cs
-list_is NoClauses = refl
-list_is (MoreClauses a y b cs) = ap (λ l. MoreClauses a y b l) (list_is cs)
+list_is tree.NoClauses = refl
+list_is (tree.MoreClauses a y b cs) = ap (λ l. tree.MoreClauses a y b l) (list_is cs)
 
 abbrev and_clause : List Clause → Clause → List Clause
 and_clause cs c = cs ++ c ∷ []
@@ -241,20 +242,20 @@ module _ (L : Lines) (line : LineParser) (suite_reads : SuiteSound L line) where
         let P : Stmt × List Terminal → Type 0 = TryRead (f ++ (g ++ ts)) in
         let Q : List Clause → Type 0 = λ l. (0 < length l) × Handlers L l (stmts_of last) g in
         let q : Q (clause_list (clauses_of (c ∷ cs))) = subst Q (sym (clauses_are (c ∷ cs))) (omega arith, hc) in
-        subst P (some_inj (Try body (clauses_of (c ∷ cs)) (stmts_of last), ts) r h)
+        subst P (some_inj (tree.Try body (clauses_of (c ∷ cs)) (stmts_of last), ts) r h)
         (Word token.TryWord ∷ (f ++ g), ap (λ t. Word token.TryWord ∷ t) (sym (append_assoc f g ts)), (f, g, refl, hb, q.0, q.1))
 
     finally_reads : (body : Stmts) (f g : List Terminal) (c : Handled × List Terminal) → Suite L body f → Handlers L c.0.0 (stmts_of c.0.1) g → (o : Option (List Terminal)) → after (Word token.FinallyWord) c.1 ≡ o
         → (r : Stmt × List Terminal) → finally_from line body c o ≡ Some r → TryRead (f ++ (g ++ c.1)) r
     finally_reads body f g c hb hc None is r h = tried_reads body f g c.1 c.0.0 c.0.1 hb hc r h
     finally_reads body f g c hb hc (Some rest) is r h =
-        let b = then_read_some (suite_by line rest) (λ b. Some (Finally body (clauses_of c.0.0) (stmts_of c.0.1) (stmts_of b.0), b.1)) r h in
+        let b = then_read_some (suite_by line rest) (λ b. Some (tree.Finally body (clauses_of c.0.0) (stmts_of c.0.1) (stmts_of b.0), b.1)) r h in
         let s = suite_reads rest b.0 b.1 in
         let Q : List Clause → Type 0 = λ l. Handlers L l (stmts_of c.0.1) g in
         let q : Q (clause_list (clauses_of c.0.0)) = subst Q (sym (clauses_are c.0.0)) hc in
         let tail = Word token.FinallyWord ∷ s.0 in
         let P : Stmt × List Terminal → Type 0 = TryRead (f ++ (g ++ c.1)) in
-        subst P (some_inj (Finally body (clauses_of c.0.0) (stmts_of c.0.1) (stmts_of b.0.0), b.0.1) r b.2) (
+        subst P (some_inj (tree.Finally body (clauses_of c.0.0) (stmts_of c.0.1) (stmts_of b.0.0), b.0.1) r b.2) (
           Word token.TryWord ∷ (f ++ (g ++ tail)),
           ap (λ t. Word token.TryWord ∷ t) (
               ap (λ t. f ++ t) (ap (λ t. g ++ t) (after_finally_some c.1 rest is ∙ ap (λ t. Word token.FinallyWord ∷ t) s.1) ∙ sym (append_assoc g tail b.0.1))
@@ -398,7 +399,7 @@ module _ (L : Lines) (line : LineParser) (suite_complete : SuiteComplete L line)
   abbrev TryFound : Stmt → List Terminal → List Terminal → Type 0
   TryFound s f more = (g : List Terminal) × (f ≡ Word token.TryWord ∷ g) × (try_by line (g ++ more) ≡ Some (s, more))
 
-  pub try_complete : (body : Stmts) (cs : Clauses) (other : Stmts) (f more : List Terminal) → Compound L (Try body cs other) f → Closes more → after (Word token.FinallyWord) more ≡ None → TryFound (Try body cs other) f more
+  pub try_complete : (body : Stmts) (cs : Clauses) (other : Stmts) (f more : List Terminal) → Compound L (tree.Try body cs other) f → Closes more → after (Word token.FinallyWord) more ≡ None → TryFound (tree.Try body cs other) f more
   try_complete body cs other f more h e not_finally =
       let s = suite_complete body h.0 (h.1 ++ more) h.3 in
       let m = handlers_complete (clause_list cs) other h.1 more h.5 e in (
@@ -409,12 +410,12 @@ module _ (L : Lines) (line : LineParser) (suite_complete : SuiteComplete L line)
             ∙ ap (λ o. then_read o (λ h. finally_from line (stmts_of s.0) h (after (Word token.FinallyWord) h.1))) m.2
             ∙ ap (λ o. finally_from line (stmts_of s.0) ((clause_list cs, m.0), more) o) not_finally
             ∙ tried_some (stmts_of s.0) (clause_list cs) m.0 more h.4
-            ∙ ap (λ b. Some (Try b (clauses_of (clause_list cs)) (stmts_of m.0), more)) (sym s.1)
-            ∙ ap (λ l. Some (Try body l (stmts_of m.0), more)) (list_is cs)
-            ∙ ap (λ o. Some (Try body cs o, more)) (sym m.1),
+            ∙ ap (λ b. Some (tree.Try b (clauses_of (clause_list cs)) (stmts_of m.0), more)) (sym s.1)
+            ∙ ap (λ l. Some (tree.Try body l (stmts_of m.0), more)) (list_is cs)
+            ∙ ap (λ o. Some (tree.Try body cs o, more)) (sym m.1),
       )
 
-  pub finally_complete : (body : Stmts) (cs : Clauses) (other last : Stmts) (f more : List Terminal) → Compound L (Finally body cs other last) f → TryFound (Finally body cs other last) f more
+  pub finally_complete : (body : Stmts) (cs : Clauses) (other last : Stmts) (f more : List Terminal) → Compound L (tree.Finally body cs other last) f → TryFound (tree.Finally body cs other last) f more
   finally_complete body cs other last f more h =
       let tail = Word token.FinallyWord ∷ h.2 in
       let s = suite_complete body h.0 (h.1 ++ (tail ++ more)) h.4 in
@@ -425,9 +426,9 @@ module _ (L : Lines) (line : LineParser) (suite_complete : SuiteComplete L line)
         ap (try_by line) (append_assoc h.0 (h.1 ++ tail) more ∙ ap (λ t. h.0 ++ t) (append_assoc h.1 tail more))
             ∙ ap (λ o. then_read o (λ b. then_read (handlers_by line b.1) (λ h. finally_from line (stmts_of b.0) h (after (Word token.FinallyWord) h.1)))) s.2
             ∙ ap (λ o. then_read o (λ h. finally_from line (stmts_of s.0) h (after (Word token.FinallyWord) h.1))) m.2
-            ∙ ap (λ o. then_read o (λ b. Some (Finally (stmts_of s.0) (clauses_of (clause_list cs)) (stmts_of m.0) (stmts_of b.0), b.1))) l.2
-            ∙ ap (λ b. Some (Finally b (clauses_of (clause_list cs)) (stmts_of m.0) (stmts_of l.0), more)) (sym s.1)
-            ∙ ap (λ c. Some (Finally body c (stmts_of m.0) (stmts_of l.0), more)) (list_is cs)
-            ∙ ap (λ o. Some (Finally body cs o (stmts_of l.0), more)) (sym m.1)
-            ∙ ap (λ z. Some (Finally body cs other z, more)) (sym l.1),
+            ∙ ap (λ o. then_read o (λ b. Some (tree.Finally (stmts_of s.0) (clauses_of (clause_list cs)) (stmts_of m.0) (stmts_of b.0), b.1))) l.2
+            ∙ ap (λ b. Some (tree.Finally b (clauses_of (clause_list cs)) (stmts_of m.0) (stmts_of l.0), more)) (sym s.1)
+            ∙ ap (λ c. Some (tree.Finally body c (stmts_of m.0) (stmts_of l.0), more)) (list_is cs)
+            ∙ ap (λ o. Some (tree.Finally body cs o (stmts_of l.0), more)) (sym m.1)
+            ∙ ap (λ z. Some (tree.Finally body cs other z, more)) (sym l.1),
       )

@@ -2,7 +2,7 @@
 use Rattle.std.proofs.Common.{◌≡◌, ℕ, zero, suc, ◌+◌, ◌≤◌, List, [], ◌∷◌, ◌++◌, inl, inr, Option, Some, None, refl, sym, ap, ◌∙◌, subst, arith, add-one}
 use Rattle.std.specs.Prelude.{option_map}
 use Rattle.si_semantics.specs.Value.{Nothing, Truth, Int, Str, Provided, Function, Range, Class, Address}
-use Rattle.si_semantics.specs.Tree.{UnaryOperator, ComparisonOperator, BooleanOperator, Expr, Constant, Name, Unary, Binary, Call, Boolean, Compare, Conditional, Exprs, NoExprs, MoreExprs, Comparisons, NoComparisons, MoreComparisons}
+use Rattle.si_semantics.specs.Tree.{UnaryOperator, ComparisonOperator, BooleanOperator, Expr, Exprs, Comparisons}
 use Rattle.si_semantics.specs.Tree as tree
 use Rattle.si_semantics.specs.Tokens.{Symbol, Keyword}
 use Rattle.si_semantics.specs.Tokens as token
@@ -44,21 +44,21 @@ pub behind_mono : (E F : Language) (t : Terminal) (l : ℕ) → Within E F → (
 behind_mono E F t l w e ts h = (h.0, h.1, w l e h.0 h.2)
 
 produces_mono : (E F : Language) → Within E F → (l : ℕ) (e : Expr) (ts : List Terminal) → Produces E l e ts → Produces F l e ts
-produces_mono E F w l (Name x) ts h = h
-produces_mono E F w l (Constant (Int n)) ts h = h
-produces_mono E F w l (Constant (Str s)) ts h = h
-produces_mono E F w l (Constant Nothing) ts h = h
-produces_mono E F w l (Constant (Truth b)) ts h = h
-produces_mono E F w l (Constant (Provided b)) ts h = h
-produces_mono E F w l (Unary op a) ts h = (h.0, h.1, h.2, w (prefix_level op) a h.0 h.3)
-produces_mono E F w l (Binary op a b) ts h = (h.0, h.1, h.2, h.3, w _ a h.0 h.4, w _ b h.1 h.5)
-produces_mono E F w l (Constant (Function x k)) ts h = h
-produces_mono E F w l (Constant (Range a b c)) ts h = h
-produces_mono E F w l (Constant (Class k)) ts h = h
-produces_mono E F w l (Constant (Address x)) ts h = h
-produces_mono E F w l (Call a args names) ts h = (h.0, h.1, h.2, h.3, h.4, w _ a h.0 h.5, h.6, separated_mono (Passes E) (Passes F) token.Comma (passes_mono E F w) h.2 h.1 h.7)
-produces_mono E F w l (Compare a cs) ts h = (h.0, h.1, h.2, h.3, w 10 a h.0 h.4, h.5, many_mono (Compares E) (Compares F) (compares_mono E F w) (links_of cs) h.1 h.6)
-produces_mono E F w l (Boolean op a others) ts h = (
+produces_mono E F w l (tree.Name x) ts h = h
+produces_mono E F w l (tree.Constant (Int n)) ts h = h
+produces_mono E F w l (tree.Constant (Str s)) ts h = h
+produces_mono E F w l (tree.Constant Nothing) ts h = h
+produces_mono E F w l (tree.Constant (Truth b)) ts h = h
+produces_mono E F w l (tree.Constant (Provided b)) ts h = h
+produces_mono E F w l (tree.Unary op a) ts h = (h.0, h.1, h.2, w (prefix_level op) a h.0 h.3)
+produces_mono E F w l (tree.Binary op a b) ts h = (h.0, h.1, h.2, h.3, w _ a h.0 h.4, w _ b h.1 h.5)
+produces_mono E F w l (tree.Constant (Function x k)) ts h = h
+produces_mono E F w l (tree.Constant (Range a b c)) ts h = h
+produces_mono E F w l (tree.Constant (Class k)) ts h = h
+produces_mono E F w l (tree.Constant (Address x)) ts h = h
+produces_mono E F w l (tree.Call a args names) ts h = (h.0, h.1, h.2, h.3, h.4, w _ a h.0 h.5, h.6, separated_mono (Passes E) (Passes F) token.Comma (passes_mono E F w) h.2 h.1 h.7)
+produces_mono E F w l (tree.Compare a cs) ts h = (h.0, h.1, h.2, h.3, w 10 a h.0 h.4, h.5, many_mono (Compares E) (Compares F) (compares_mono E F w) (links_of cs) h.1 h.6)
+produces_mono E F w l (tree.Boolean op a others) ts h = (
   h.0,
   h.1,
   h.2,
@@ -67,25 +67,25 @@ produces_mono E F w l (Boolean op a others) ts h = (
   h.5,
   many_mono (Behind (Word (word_of op)) (E (item_level op))) (Behind (Word (word_of op)) (F (item_level op))) (behind_mono E F (Word (word_of op)) (item_level op) w) (items_of others) h.1 h.6,
 )
-produces_mono E F w l (Conditional test value other) ts h = (h.0, h.1, h.2, h.3, h.4, w 3 value h.0 h.5, w 3 test h.1 h.6, w 1 other h.2 h.7)
+produces_mono E F w l (tree.Conditional test value other) ts h = (h.0, h.1, h.2, h.3, h.4, w 3 value h.0 h.5, w 3 test h.1 h.6, w 1 other h.2 h.7)
 
 produces_looser : (E : Language) (k l : ℕ) (e : Expr) (ts : List Terminal) → k ≤ l → Produces E l e ts → Produces E k e ts
-produces_looser E k l (Name x) ts le h = h
-produces_looser E k l (Constant (Int n)) ts le h = h
-produces_looser E k l (Constant (Str s)) ts le h = h
-produces_looser E k l (Constant Nothing) ts le h = h
-produces_looser E k l (Constant (Truth b)) ts le h = h
-produces_looser E k l (Constant (Provided b)) ts le h = h
-produces_looser E k l (Unary op a) ts le h = (h.0, h.1, omega (arith, h.2), h.3)
-produces_looser E k l (Binary op a b) ts le h = (h.0, h.1, h.2, omega (arith, h.3), h.4, h.5)
-produces_looser E k l (Constant (Function x i)) ts le h = h
-produces_looser E k l (Constant (Range a b c)) ts le h = h
-produces_looser E k l (Constant (Class i)) ts le h = h
-produces_looser E k l (Constant (Address x)) ts le h = h
-produces_looser E k l (Call a args names) ts le h = (h.0, h.1, h.2, h.3, omega (arith, h.4), h.5, h.6, h.7)
-produces_looser E k l (Compare a cs) ts le h = (h.0, h.1, h.2, omega (arith, h.3), h.4, h.5, h.6)
-produces_looser E k l (Boolean op a others) ts le h = (h.0, h.1, h.2, omega (arith, h.3), h.4, h.5, h.6)
-produces_looser E k l (Conditional test value other) ts le h = (h.0, h.1, h.2, h.3, omega (arith, h.4), h.5, h.6, h.7)
+produces_looser E k l (tree.Name x) ts le h = h
+produces_looser E k l (tree.Constant (Int n)) ts le h = h
+produces_looser E k l (tree.Constant (Str s)) ts le h = h
+produces_looser E k l (tree.Constant Nothing) ts le h = h
+produces_looser E k l (tree.Constant (Truth b)) ts le h = h
+produces_looser E k l (tree.Constant (Provided b)) ts le h = h
+produces_looser E k l (tree.Unary op a) ts le h = (h.0, h.1, omega (arith, h.2), h.3)
+produces_looser E k l (tree.Binary op a b) ts le h = (h.0, h.1, h.2, omega (arith, h.3), h.4, h.5)
+produces_looser E k l (tree.Constant (Function x i)) ts le h = h
+produces_looser E k l (tree.Constant (Range a b c)) ts le h = h
+produces_looser E k l (tree.Constant (Class i)) ts le h = h
+produces_looser E k l (tree.Constant (Address x)) ts le h = h
+produces_looser E k l (tree.Call a args names) ts le h = (h.0, h.1, h.2, h.3, omega (arith, h.4), h.5, h.6, h.7)
+produces_looser E k l (tree.Compare a cs) ts le h = (h.0, h.1, h.2, omega (arith, h.3), h.4, h.5, h.6)
+produces_looser E k l (tree.Boolean op a others) ts le h = (h.0, h.1, h.2, omega (arith, h.3), h.4, h.5, h.6)
+produces_looser E k l (tree.Conditional test value other) ts le h = (h.0, h.1, h.2, h.3, omega (arith, h.4), h.5, h.6, h.7)
 
 pub spells_looser : (n k l : ℕ) (e : Expr) (ts : List Terminal) → k ≤ l → Spells n l e ts → Spells n k e ts
 spells_looser zero k l e ts le h = h
@@ -99,7 +99,7 @@ spells_deeper (suc m) (suc n) le l e ts (inl h) = inl (produces_mono (Spells m) 
 spells_deeper (suc m) (suc n) le l e ts (inr h) = inr (h.0, h.1, spells_deeper m n (omega arith) 1 e h.0 h.2)
 
 -- a name is of every level
-pub name_tighter : (n k l : ℕ) (x : List ℕ) (ts : List Terminal) → Spells n k (Name x) ts → Spells n l (Name x) ts
+pub name_tighter : (n k l : ℕ) (x : List ℕ) (ts : List Terminal) → Spells n k (tree.Name x) ts → Spells n l (tree.Name x) ts
 name_tighter zero k l x ts h = absurd h
 name_tighter (suc n) k l x ts (inl h) = inl h
 name_tighter (suc n) k l x ts (inr h) = inr h
@@ -310,13 +310,13 @@ links_of_chain [] = refl
 links_of_chain (x ∷ links) = ap (λ l. x ∷ l) (links_of_chain links)
 
 pub chain_of_links : (cs : Comparisons) → chain_of (links_of cs) ≡ cs
-chain_of_links NoComparisons = refl
-chain_of_links (MoreComparisons op e cs) = ap (MoreComparisons op e) (chain_of_links cs)
+chain_of_links tree.NoComparisons = refl
+chain_of_links (tree.MoreComparisons op e cs) = ap (tree.MoreComparisons op e) (chain_of_links cs)
 
 pub items_of_exprs : (es : List Expr) → items_of (exprs_of es) ≡ es
 items_of_exprs [] = refl
 items_of_exprs (e ∷ es) = ap (λ l. e ∷ l) (items_of_exprs es)
 
 pub exprs_of_items : (es : Exprs) → exprs_of (items_of es) ≡ es
-exprs_of_items NoExprs = refl
-exprs_of_items (MoreExprs e es) = ap (MoreExprs e) (exprs_of_items es)
+exprs_of_items tree.NoExprs = refl
+exprs_of_items (tree.MoreExprs e es) = ap (tree.MoreExprs e) (exprs_of_items es)

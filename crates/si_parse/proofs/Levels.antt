@@ -1,6 +1,6 @@
 -- Levels of productions and strengths of terminals.
 use Rattle.std.proofs.Common.{◌≡◌, ℕ, ◌<◌, ◌≤◌, List, [], ◌∷◌, ◌++◌, ◌⊎◌, inl, inr, ⊎_elim, Some, None, refl, arith}
-use Rattle.si_semantics.specs.Tree.{BinaryOperator, Add, Subtract, Multiply, FloorDivide, Modulo, Power, BitOr, BitXor, BitAnd, ShiftLeft, ShiftRight, UnaryOperator, ComparisonOperator, BooleanOperator}
+use Rattle.si_semantics.specs.Tree.{BinaryOperator, UnaryOperator, ComparisonOperator, BooleanOperator}
 use Rattle.si_semantics.specs.Tree as tree
 use Rattle.si_semantics.specs.Tokens.{Symbol}
 use Rattle.si_semantics.specs.Tokens as token
@@ -10,109 +10,109 @@ use Rattle.si_parse.specs.inner.Reading.{Continuation, operator, arguments, comp
 -- ---- operators between two operands
 
 left_least : (op : BinaryOperator) → 10 ≤ left_level op
-left_least BitOr = omega arith
-left_least BitXor = omega arith
-left_least BitAnd = omega arith
-left_least ShiftLeft = omega arith
-left_least ShiftRight = omega arith
-left_least Add = omega arith
-left_least Subtract = omega arith
-left_least Multiply = omega arith
-left_least FloorDivide = omega arith
-left_least Modulo = omega arith
-left_least Power = omega arith
+left_least tree.BitOr = omega arith
+left_least tree.BitXor = omega arith
+left_least tree.BitAnd = omega arith
+left_least tree.ShiftLeft = omega arith
+left_least tree.ShiftRight = omega arith
+left_least tree.Add = omega arith
+left_least tree.Subtract = omega arith
+left_least tree.Multiply = omega arith
+left_least tree.FloorDivide = omega arith
+left_least tree.Modulo = omega arith
+left_least tree.Power = omega arith
 
 left_most : (op : BinaryOperator) → left_level op ≤ 18
-left_most BitOr = omega arith
-left_most BitXor = omega arith
-left_most BitAnd = omega arith
-left_most ShiftLeft = omega arith
-left_most ShiftRight = omega arith
-left_most Add = omega arith
-left_most Subtract = omega arith
-left_most Multiply = omega arith
-left_most FloorDivide = omega arith
-left_most Modulo = omega arith
-left_most Power = omega arith
+left_most tree.BitOr = omega arith
+left_most tree.BitXor = omega arith
+left_most tree.BitAnd = omega arith
+left_most tree.ShiftLeft = omega arith
+left_most tree.ShiftRight = omega arith
+left_most tree.Add = omega arith
+left_most tree.Subtract = omega arith
+left_most tree.Multiply = omega arith
+left_most tree.FloorDivide = omega arith
+left_most tree.Modulo = omega arith
+left_most tree.Power = omega arith
 
 left_gap : (op : BinaryOperator) → left_level op ≤ 17 → left_level op < 16
-left_gap BitOr h = omega arith
-left_gap BitXor h = omega arith
-left_gap BitAnd h = omega arith
-left_gap ShiftLeft h = omega arith
-left_gap ShiftRight h = omega arith
-left_gap Add h = omega arith
-left_gap Subtract h = omega arith
-left_gap Multiply h = omega arith
-left_gap FloorDivide h = omega arith
-left_gap Modulo h = omega arith
-left_gap Power h = absurd (omega arith)
+left_gap tree.BitOr h = omega arith
+left_gap tree.BitXor h = omega arith
+left_gap tree.BitAnd h = omega arith
+left_gap tree.ShiftLeft h = omega arith
+left_gap tree.ShiftRight h = omega arith
+left_gap tree.Add h = omega arith
+left_gap tree.Subtract h = omega arith
+left_gap tree.Multiply h = omega arith
+left_gap tree.FloorDivide h = omega arith
+left_gap tree.Modulo h = omega arith
+left_gap tree.Power h = absurd (omega arith)
 
 pub right_stops : (op : BinaryOperator) (k : ℕ) → k < right_level op → k ≤ level_of op
-right_stops BitOr k h = omega arith
-right_stops BitXor k h = omega arith
-right_stops BitAnd k h = omega arith
-right_stops ShiftLeft k h = omega arith
-right_stops ShiftRight k h = omega arith
-right_stops Add k h = omega arith
-right_stops Subtract k h = omega arith
-right_stops Multiply k h = omega arith
-right_stops FloorDivide k h = omega arith
-right_stops Modulo k h = omega arith
-right_stops Power k h = omega arith
+right_stops tree.BitOr k h = omega arith
+right_stops tree.BitXor k h = omega arith
+right_stops tree.BitAnd k h = omega arith
+right_stops tree.ShiftLeft k h = omega arith
+right_stops tree.ShiftRight k h = omega arith
+right_stops tree.Add k h = omega arith
+right_stops tree.Subtract k h = omega arith
+right_stops tree.Multiply k h = omega arith
+right_stops tree.FloorDivide k h = omega arith
+right_stops tree.Modulo k h = omega arith
+right_stops tree.Power k h = omega arith
 
 pub right_bound : (op : BinaryOperator) → right_level op ≤ 16
-right_bound BitOr = omega arith
-right_bound BitXor = omega arith
-right_bound BitAnd = omega arith
-right_bound ShiftLeft = omega arith
-right_bound ShiftRight = omega arith
-right_bound Add = omega arith
-right_bound Subtract = omega arith
-right_bound Multiply = omega arith
-right_bound FloorDivide = omega arith
-right_bound Modulo = omega arith
-right_bound Power = omega arith
+right_bound tree.BitOr = omega arith
+right_bound tree.BitXor = omega arith
+right_bound tree.BitAnd = omega arith
+right_bound tree.ShiftLeft = omega arith
+right_bound tree.ShiftRight = omega arith
+right_bound tree.Add = omega arith
+right_bound tree.Subtract = omega arith
+right_bound tree.Multiply = omega arith
+right_bound tree.FloorDivide = omega arith
+right_bound tree.Modulo = omega arith
+right_bound tree.Power = omega arith
 
 pub level_under : (op : BinaryOperator) → level_of op ≤ left_level op
-level_under BitOr = omega arith
-level_under BitXor = omega arith
-level_under BitAnd = omega arith
-level_under ShiftLeft = omega arith
-level_under ShiftRight = omega arith
-level_under Add = omega arith
-level_under Subtract = omega arith
-level_under Multiply = omega arith
-level_under FloorDivide = omega arith
-level_under Modulo = omega arith
-level_under Power = omega arith
+level_under tree.BitOr = omega arith
+level_under tree.BitXor = omega arith
+level_under tree.BitAnd = omega arith
+level_under tree.ShiftLeft = omega arith
+level_under tree.ShiftRight = omega arith
+level_under tree.Add = omega arith
+level_under tree.Subtract = omega arith
+level_under tree.Multiply = omega arith
+level_under tree.FloorDivide = omega arith
+level_under tree.Modulo = omega arith
+level_under tree.Power = omega arith
 
 -- an operator that continues an expression of a level is of that level
 pub level_reached : (op : BinaryOperator) (l : ℕ) → l ≤ 16 → l ≤ left_level op → l ≤ level_of op
-level_reached BitOr l le h = h
-level_reached BitXor l le h = h
-level_reached BitAnd l le h = h
-level_reached ShiftLeft l le h = h
-level_reached ShiftRight l le h = h
-level_reached Add l le h = h
-level_reached Subtract l le h = h
-level_reached Multiply l le h = h
-level_reached FloorDivide l le h = h
-level_reached Modulo l le h = h
-level_reached Power l le h = omega arith
+level_reached tree.BitOr l le h = h
+level_reached tree.BitXor l le h = h
+level_reached tree.BitAnd l le h = h
+level_reached tree.ShiftLeft l le h = h
+level_reached tree.ShiftRight l le h = h
+level_reached tree.Add l le h = h
+level_reached tree.Subtract l le h = h
+level_reached tree.Multiply l le h = h
+level_reached tree.FloorDivide l le h = h
+level_reached tree.Modulo l le h = h
+level_reached tree.Power l le h = omega arith
 
 pub role_of_symbol : (op : BinaryOperator) → role_of (symbol_of op) ≡ operator op
-role_of_symbol BitOr = refl
-role_of_symbol BitXor = refl
-role_of_symbol BitAnd = refl
-role_of_symbol ShiftLeft = refl
-role_of_symbol ShiftRight = refl
-role_of_symbol Add = refl
-role_of_symbol Subtract = refl
-role_of_symbol Multiply = refl
-role_of_symbol FloorDivide = refl
-role_of_symbol Modulo = refl
-role_of_symbol Power = refl
+role_of_symbol tree.BitOr = refl
+role_of_symbol tree.BitXor = refl
+role_of_symbol tree.BitAnd = refl
+role_of_symbol tree.ShiftLeft = refl
+role_of_symbol tree.ShiftRight = refl
+role_of_symbol tree.Add = refl
+role_of_symbol tree.Subtract = refl
+role_of_symbol tree.Multiply = refl
+role_of_symbol tree.FloorDivide = refl
+role_of_symbol tree.Modulo = refl
+role_of_symbol tree.Power = refl
 
 -- ---- strengths
 
@@ -178,17 +178,17 @@ conditional_gap ts h = condition_gap (continuation_at ts) h
 
 -- what may follow an operator's tree may follow its right operand
 pub right_weaker : (op : BinaryOperator) (ts : List Terminal) → strength_at ts ≤ level_of op → strength_at ts < right_level op
-right_weaker BitOr ts h = omega arith
-right_weaker BitXor ts h = omega arith
-right_weaker BitAnd ts h = omega arith
-right_weaker ShiftLeft ts h = omega arith
-right_weaker ShiftRight ts h = omega arith
-right_weaker Add ts h = omega arith
-right_weaker Subtract ts h = omega arith
-right_weaker Multiply ts h = omega arith
-right_weaker FloorDivide ts h = omega arith
-right_weaker Modulo ts h = omega arith
-right_weaker Power ts h = strength_gap ts h
+right_weaker tree.BitOr ts h = omega arith
+right_weaker tree.BitXor ts h = omega arith
+right_weaker tree.BitAnd ts h = omega arith
+right_weaker tree.ShiftLeft ts h = omega arith
+right_weaker tree.ShiftRight ts h = omega arith
+right_weaker tree.Add ts h = omega arith
+right_weaker tree.Subtract ts h = omega arith
+right_weaker tree.Multiply ts h = omega arith
+right_weaker tree.FloorDivide ts h = omega arith
+right_weaker tree.Modulo ts h = omega arith
+right_weaker tree.Power ts h = strength_gap ts h
 
 -- ---- levels that lie apart from the strengths of chains
 
@@ -218,30 +218,30 @@ pub at_comparison : Apart 8
 at_comparison = record { condition = inr (omega arith); disjunction = inr (omega arith); conjunction = inr (omega arith); comparison = inl (omega arith) }
 
 right_least : (op : BinaryOperator) → 11 ≤ right_level op
-right_least BitOr = omega arith
-right_least BitXor = omega arith
-right_least BitAnd = omega arith
-right_least ShiftLeft = omega arith
-right_least ShiftRight = omega arith
-right_least Add = omega arith
-right_least Subtract = omega arith
-right_least Multiply = omega arith
-right_least FloorDivide = omega arith
-right_least Modulo = omega arith
-right_least Power = omega arith
+right_least tree.BitOr = omega arith
+right_least tree.BitXor = omega arith
+right_least tree.BitAnd = omega arith
+right_least tree.ShiftLeft = omega arith
+right_least tree.ShiftRight = omega arith
+right_least tree.Add = omega arith
+right_least tree.Subtract = omega arith
+right_least tree.Multiply = omega arith
+right_least tree.FloorDivide = omega arith
+right_least tree.Modulo = omega arith
+right_least tree.Power = omega arith
 
 level_least : (op : BinaryOperator) → 10 ≤ level_of op
-level_least BitOr = omega arith
-level_least BitXor = omega arith
-level_least BitAnd = omega arith
-level_least ShiftLeft = omega arith
-level_least ShiftRight = omega arith
-level_least Add = omega arith
-level_least Subtract = omega arith
-level_least Multiply = omega arith
-level_least FloorDivide = omega arith
-level_least Modulo = omega arith
-level_least Power = omega arith
+level_least tree.BitOr = omega arith
+level_least tree.BitXor = omega arith
+level_least tree.BitAnd = omega arith
+level_least tree.ShiftLeft = omega arith
+level_least tree.ShiftRight = omega arith
+level_least tree.Add = omega arith
+level_least tree.Subtract = omega arith
+level_least tree.Multiply = omega arith
+level_least tree.FloorDivide = omega arith
+level_least tree.Modulo = omega arith
+level_least tree.Power = omega arith
 
 pub right_apart : (op : BinaryOperator) → Apart (right_level op)
 right_apart op = high (right_level op) (omega (arith, right_least op))

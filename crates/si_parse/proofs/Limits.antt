@@ -2,7 +2,8 @@
 use Rattle.std.proofs.Common.{◌≡◌, ℕ, zero, suc, ◌+◌, ◌≤◌, List, [], ◌∷◌, ◌++◌, Bool, true, false, inl, inr, map, Option, Some, None, refl, sym, ap, ◌∙◌, subst, arith}
 use Rattle.std.specs.Prelude.{flat_map, if◌then◌else◌}
 use Rattle.si_semantics.specs.Value.{Text, Nothing, Truth, Int, Str, Provided, Function, Range, Class, Address}
-use Rattle.si_semantics.specs.Tree.{BooleanOperator, Expr, Constant, Name, Unary, Binary, Call, Boolean, Compare, Conditional, Exprs, NoExprs, MoreExprs, Comparisons, NoComparisons, MoreComparisons, Stmt, Evaluate, Assign, Augment, Pass, If, While, For, Break, Continue, Define, Return, Global, Raise, Try, Finally, Stmts, NoStmts, MoreStmts, Clauses, NoClauses, MoreClauses}
+use Rattle.si_semantics.specs.Tree as tree
+use Rattle.si_semantics.specs.Tree.{BooleanOperator, Expr, Exprs, Comparisons, Stmt, Stmts, Clauses}
 use Rattle.si_semantics.specs.Tokens as token
 use Rattle.si_semantics.specs.Text.{max_length}
 use Rattle.si_semantics.specs.Grammar.{Terminal, Word, left_level, right_level, prefix_level, item_level, word_of, Many, Behind, Following, Separated, Argument, Positional, ByName, Passes, IsPassed, items_of, exprs_of, links_of, Compares, Spells, max_depth, max_parameters, Small, Simple, stmts_of, Lines, Suite, Branch, Tested, Otherwise, elifs_of, clause_list, Excepts, Handlers, Compound, Nests, max_nesting, Derives}
@@ -36,10 +37,10 @@ argument_bounded : (n : ℕ) → Bounded n → (a : Argument) (f : List Terminal
 argument_bounded n b (Positional e) f h = b 1 e f h
 argument_bounded n b (ByName x e) f h = b 1 e h.0 h.2
 
-none_low : (n : ℕ) → AreLow n NoExprs
+none_low : (n : ℕ) → AreLow n tree.NoExprs
 none_low n = record { depth = omega arith; literals = omega arith }
 
-more_low : (n : ℕ) (e : Expr) (es : Exprs) → IsLow n e → AreLow n es → AreLow n (MoreExprs e es)
+more_low : (n : ℕ) (e : Expr) (es : Exprs) → IsLow n e → AreLow n es → AreLow n (tree.MoreExprs e es)
 more_low n e es h k = record { depth = omega (arith, h.depth, k.depth); literals = omega (arith, h.literals, k.literals) }
 
 following_bounded : (n : ℕ) → Bounded n → (arguments : List Argument) (g : List Terminal) → Following (Passes (Spells n)) token.Comma arguments g → AreLow n (exprs_of (map value_of arguments))
@@ -65,14 +66,14 @@ arguments_bounded n b arguments args names g p h =
     subst (AreLow n) (ap exprs_of values ∙ exprs_of_items args) (separated_bounded n b arguments g h)
 
 chain_bounded : (n : ℕ) → Bounded n → (cs : Comparisons) (g : List Terminal) → Many (Compares (Spells n)) (links_of cs) g → ChainIsLow n cs
-chain_bounded n b NoComparisons g h = record { depth = omega arith; literals = omega arith }
-chain_bounded n b (MoreComparisons op e cs) g h =
+chain_bounded n b tree.NoComparisons g h = record { depth = omega arith; literals = omega arith }
+chain_bounded n b (tree.MoreComparisons op e cs) g h =
     let x = b 10 e h.3.0 h.3.2 in
     let y = chain_bounded n b cs h.1 h.4 in record { depth = omega (arith, x.depth, y.depth); literals = omega (arith, x.literals, y.literals) }
 
 operands_bounded : (n : ℕ) → Bounded n → (op : BooleanOperator) (es : Exprs) (g : List Terminal) → Many (Behind (Word (word_of op)) (Spells n (item_level op))) (items_of es) g → AreLow n es
-operands_bounded n b op NoExprs g h = none_low n
-operands_bounded n b op (MoreExprs e es) g h = more_low n e es (b (item_level op) e h.3.0 h.3.2) (operands_bounded n b op es h.1 h.4)
+operands_bounded n b op tree.NoExprs g h = none_low n
+operands_bounded n b op (tree.MoreExprs e es) g h = more_low n e es (b (item_level op) e h.3.0 h.3.2) (operands_bounded n b op es h.1 h.4)
 
 leaf_low : (n : ℕ) (e : Expr) → depth_of e ≡ 1 → longest_str e ≡ 0 → IsLow (suc n) e
 leaf_low n e h k = record { depth = omega (arith, h); literals = omega (arith, k) }
@@ -80,30 +81,30 @@ leaf_low n e h k = record { depth = omega (arith, h); literals = omega (arith, k
 bounded : (n : ℕ) → Bounded n
 bounded zero l e f h = absurd h
 bounded (suc n) l e f (inr h) = let x = bounded n 1 e h.0 h.2 in record { depth = omega (arith, x.depth); literals = x.literals }
-bounded (suc n) l (Name x) f (inl h) = leaf_low n (Name x) refl refl
-bounded (suc n) l (Constant (Str s)) f (inl h) = record { depth = omega arith; literals = h.1 }
-bounded (suc n) l (Constant (Int i)) f (inl h) = leaf_low n (Constant (Int i)) refl refl
-bounded (suc n) l (Constant Nothing) f (inl h) = leaf_low n (Constant Nothing) refl refl
-bounded (suc n) l (Constant (Truth b)) f (inl h) = leaf_low n (Constant (Truth b)) refl refl
-bounded (suc n) l (Constant (Provided b)) f (inl h) = absurd h
-bounded (suc n) l (Constant (Function x k)) f (inl h) = absurd h
-bounded (suc n) l (Constant (Range a b c)) f (inl h) = absurd h
-bounded (suc n) l (Constant (Class k)) f (inl h) = absurd h
-bounded (suc n) l (Constant (Address x)) f (inl h) = absurd h
-bounded (suc n) l (Unary op a) f (inl h) = let x = bounded n (prefix_level op) a h.0 h.3 in record { depth = omega (arith, x.depth); literals = x.literals }
-bounded (suc n) l (Binary op a b) f (inl h) =
+bounded (suc n) l (tree.Name x) f (inl h) = leaf_low n (tree.Name x) refl refl
+bounded (suc n) l (tree.Constant (Str s)) f (inl h) = record { depth = omega arith; literals = h.1 }
+bounded (suc n) l (tree.Constant (Int i)) f (inl h) = leaf_low n (tree.Constant (Int i)) refl refl
+bounded (suc n) l (tree.Constant Nothing) f (inl h) = leaf_low n (tree.Constant Nothing) refl refl
+bounded (suc n) l (tree.Constant (Truth b)) f (inl h) = leaf_low n (tree.Constant (Truth b)) refl refl
+bounded (suc n) l (tree.Constant (Provided b)) f (inl h) = absurd h
+bounded (suc n) l (tree.Constant (Function x k)) f (inl h) = absurd h
+bounded (suc n) l (tree.Constant (Range a b c)) f (inl h) = absurd h
+bounded (suc n) l (tree.Constant (Class k)) f (inl h) = absurd h
+bounded (suc n) l (tree.Constant (Address x)) f (inl h) = absurd h
+bounded (suc n) l (tree.Unary op a) f (inl h) = let x = bounded n (prefix_level op) a h.0 h.3 in record { depth = omega (arith, x.depth); literals = x.literals }
+bounded (suc n) l (tree.Binary op a b) f (inl h) =
     let x = bounded n (left_level op) a h.0 h.4 in
     let y = bounded n (right_level op) b h.1 h.5 in record { depth = omega (arith, x.depth, y.depth); literals = omega (arith, x.literals, y.literals) }
-bounded (suc n) l (Call a args names) f (inl h) =
+bounded (suc n) l (tree.Call a args names) f (inl h) =
     let x = bounded n 18 a h.0 h.5 in
     let y = arguments_bounded n (bounded n) h.2 args names h.1 h.6 h.7 in record { depth = omega (arith, x.depth, y.depth); literals = omega (arith, x.literals, y.literals) }
-bounded (suc n) l (Compare a cs) f (inl h) =
+bounded (suc n) l (tree.Compare a cs) f (inl h) =
     let x = bounded n 10 a h.0 h.4 in
     let y = chain_bounded n (bounded n) cs h.1 h.6 in record { depth = omega (arith, x.depth, y.depth); literals = omega (arith, x.literals, y.literals) }
-bounded (suc n) l (Boolean op a others) f (inl h) =
+bounded (suc n) l (tree.Boolean op a others) f (inl h) =
     let x = bounded n (item_level op) a h.0 h.4 in
     let y = operands_bounded n (bounded n) op others h.1 h.6 in record { depth = omega (arith, x.depth, y.depth); literals = omega (arith, x.literals, y.literals) }
-bounded (suc n) l (Conditional test value other) f (inl h) =
+bounded (suc n) l (tree.Conditional test value other) f (inl h) =
     let x = bounded n 3 test h.1 h.6 in
     let y = bounded n 3 value h.0 h.5 in
     let z = bounded n 1 other h.2 h.7 in
@@ -137,10 +138,10 @@ record OtherKeeps (n : ℕ) (other : Stmts) : Type 0 where
   parameters : most_parameters_in other ≤ max_parameters
   nesting : nesting_in other + (if is_elif other then 0 else 1) ≤ suc n
 
-none_keep : (n : ℕ) → AllKeep n NoStmts
+none_keep : (n : ℕ) → AllKeep n tree.NoStmts
 none_keep n = record { depth = omega arith; literals = omega arith; parameters = omega arith; nesting = omega arith }
 
-more_keep : (n : ℕ) (s : Stmt) (ss : Stmts) → Keeps n s → AllKeep n ss → AllKeep n (MoreStmts s ss)
+more_keep : (n : ℕ) (s : Stmt) (ss : Stmts) → Keeps n s → AllKeep n ss → AllKeep n (tree.MoreStmts s ss)
 more_keep n s ss h k = record {
   depth = omega (arith, h.depth, k.depth);
   literals = omega (arith, h.literals, k.literals);
@@ -148,7 +149,7 @@ more_keep n s ss h k = record {
   nesting = omega (arith, h.nesting, k.nesting);
 }
 
-first_keeps : (n : ℕ) (s : Stmt) (ss : Stmts) → AllKeep n (MoreStmts s ss) → Keeps n s
+first_keeps : (n : ℕ) (s : Stmt) (ss : Stmts) → AllKeep n (tree.MoreStmts s ss) → Keeps n s
 first_keeps n s ss h = record {
   depth = omega (arith, h.depth);
   literals = omega (arith, h.literals);
@@ -156,7 +157,7 @@ first_keeps n s ss h = record {
   nesting = omega (arith, h.nesting);
 }
 
-rest_keep : (n : ℕ) (s : Stmt) (ss : Stmts) → AllKeep n (MoreStmts s ss) → AllKeep n ss
+rest_keep : (n : ℕ) (s : Stmt) (ss : Stmts) → AllKeep n (tree.MoreStmts s ss) → AllKeep n ss
 rest_keep n s ss h = record {
   depth = omega (arith, h.depth);
   literals = omega (arith, h.literals);
@@ -186,23 +187,23 @@ of_none : (n : ℕ) (s : Stmt) → greatest_of depth_of s ≡ 0 → greatest_of 
 of_none n s d t p k = record { depth = omega (arith, d); literals = omega (arith, t); parameters = omega (arith, p); nesting = omega (arith, k) }
 
 small_keeps : (n : ℕ) (s : Stmt) (f : List Terminal) → Small s f → Keeps n s
-small_keeps n (Evaluate e) f h = of_expression n (Evaluate e) e refl refl refl refl (bounded max_depth 1 e f h)
-small_keeps n (Assign t e) f h = of_expression n (Assign t e) e refl refl refl refl (bounded max_depth 1 e h.1 h.4)
-small_keeps n (Augment t op e) f h = of_expression n (Augment t op e) e refl refl refl refl (bounded max_depth 1 e h.1 h.4)
-small_keeps n Pass f h = of_none n Pass refl refl refl refl
-small_keeps n Break f h = of_none n Break refl refl refl refl
-small_keeps n Continue f h = of_none n Continue refl refl refl refl
-small_keeps n (Return None) f h = of_none n (Return None) refl refl refl refl
-small_keeps n (Return (Some e)) f h = of_expression n (Return (Some e)) e refl refl refl refl (bounded max_depth 1 e h.0 h.2)
-small_keeps n (Global xs) f h = of_none n (Global xs) refl refl refl refl
-small_keeps n (Define x ps body) f h = absurd h
-small_keeps n (If test body other) f h = absurd h
-small_keeps n (While test body other) f h = absurd h
-small_keeps n (For t over body other) f h = absurd h
-small_keeps n (Raise None) f h = of_none n (Raise None) refl refl refl refl
-small_keeps n (Raise (Some e)) f h = of_expression n (Raise (Some e)) e refl refl refl refl (bounded max_depth 1 e h.0 h.2)
-small_keeps n (Try body cs other) f h = absurd h
-small_keeps n (Finally body cs other last) f h = absurd h
+small_keeps n (tree.Evaluate e) f h = of_expression n (tree.Evaluate e) e refl refl refl refl (bounded max_depth 1 e f h)
+small_keeps n (tree.Assign t e) f h = of_expression n (tree.Assign t e) e refl refl refl refl (bounded max_depth 1 e h.1 h.4)
+small_keeps n (tree.Augment t op e) f h = of_expression n (tree.Augment t op e) e refl refl refl refl (bounded max_depth 1 e h.1 h.4)
+small_keeps n tree.Pass f h = of_none n tree.Pass refl refl refl refl
+small_keeps n tree.Break f h = of_none n tree.Break refl refl refl refl
+small_keeps n tree.Continue f h = of_none n tree.Continue refl refl refl refl
+small_keeps n (tree.Return None) f h = of_none n (tree.Return None) refl refl refl refl
+small_keeps n (tree.Return (Some e)) f h = of_expression n (tree.Return (Some e)) e refl refl refl refl (bounded max_depth 1 e h.0 h.2)
+small_keeps n (tree.Global xs) f h = of_none n (tree.Global xs) refl refl refl refl
+small_keeps n (tree.Define x ps body) f h = absurd h
+small_keeps n (tree.If test body other) f h = absurd h
+small_keeps n (tree.While test body other) f h = absurd h
+small_keeps n (tree.For t over body other) f h = absurd h
+small_keeps n (tree.Raise None) f h = of_none n (tree.Raise None) refl refl refl refl
+small_keeps n (tree.Raise (Some e)) f h = of_expression n (tree.Raise (Some e)) e refl refl refl refl (bounded max_depth 1 e h.0 h.2)
+small_keeps n (tree.Try body cs other) f h = absurd h
+small_keeps n (tree.Finally body cs other last) f h = absurd h
 
 following_keep : (n : ℕ) (ss : List Stmt) (g : List Terminal) → Following Small token.Semicolon ss g → AllKeep n (stmts_of ss)
 following_keep n [] g h = none_keep n
@@ -214,7 +215,7 @@ line_keeps n (s ∷ ss) f h = more_keep n s (stmts_of ss) (small_keeps n s h.3.0
 
 -- ---- compound statements
 
-if_keeps : (n : ℕ) (test : Expr) (body other : Stmts) → IsLow max_depth test → AllKeep n body → OtherKeeps n other → Keeps (suc n) (If test body other)
+if_keeps : (n : ℕ) (test : Expr) (body other : Stmts) → IsLow max_depth test → AllKeep n body → OtherKeeps n other → Keeps (suc n) (tree.If test body other)
 if_keeps n test body other t b o = record {
   depth = omega (arith, t.depth, b.depth, o.depth);
   literals = omega (arith, t.literals, b.literals, o.literals);
@@ -224,9 +225,9 @@ if_keeps n test body other t b o = record {
 
 -- a loop, or another statement with an expression and two suites
 looped_keeps : (n : ℕ) (s : Stmt) (e : Expr) (body other : Stmts)
-    → ((m : Expr → ℕ) → greatest_of m s ≡ greatest_of m (If e body other))
-    → most_parameters_of s ≡ most_parameters_of (If e body other)
-    → nesting_of s ≤ nesting_of (While e body other)
+    → ((m : Expr → ℕ) → greatest_of m s ≡ greatest_of m (tree.If e body other))
+    → most_parameters_of s ≡ most_parameters_of (tree.If e body other)
+    → nesting_of s ≤ nesting_of (tree.While e body other)
     → IsLow max_depth e → AllKeep n body → AllKeep n other → Keeps (suc n) s
 looped_keeps n s e body other m p k t b o = record {
   depth = omega (arith, m depth_of, t.depth, b.depth, o.depth);
@@ -235,7 +236,7 @@ looped_keeps n s e body other m p k t b o = record {
   nesting = omega (arith, k, b.nesting, o.nesting);
 }
 
-clause_keeps : (n : ℕ) (e : Expr) (y : Option Text) (b : Stmts) (cs : Clauses) → IsLow max_depth e → AllKeep n b → ClausesKeep n cs → ClausesKeep n (MoreClauses (Some e) y b cs)
+clause_keeps : (n : ℕ) (e : Expr) (y : Option Text) (b : Stmts) (cs : Clauses) → IsLow max_depth e → AllKeep n b → ClausesKeep n cs → ClausesKeep n (tree.MoreClauses (Some e) y b cs)
 clause_keeps n e y b cs t h k = record {
   depth = omega (arith, t.depth, h.depth, k.depth);
   literals = omega (arith, t.literals, h.literals, k.literals);
@@ -243,7 +244,7 @@ clause_keeps n e y b cs t h k = record {
   nesting = omega (arith, h.nesting, k.nesting);
 }
 
-bare_keeps : (n : ℕ) (y : Option Text) (b : Stmts) (cs : Clauses) → AllKeep n b → ClausesKeep n cs → ClausesKeep n (MoreClauses None y b cs)
+bare_keeps : (n : ℕ) (y : Option Text) (b : Stmts) (cs : Clauses) → AllKeep n b → ClausesKeep n cs → ClausesKeep n (tree.MoreClauses None y b cs)
 bare_keeps n y b cs h k = record {
   depth = omega (arith, h.depth, k.depth);
   literals = omega (arith, h.literals, k.literals);
@@ -251,7 +252,7 @@ bare_keeps n y b cs h k = record {
   nesting = omega (arith, h.nesting, k.nesting);
 }
 
-try_keeps : (n : ℕ) (body : Stmts) (cs : Clauses) (other : Stmts) → AllKeep n body → ClausesKeep n cs → AllKeep n other → Keeps (suc n) (Try body cs other)
+try_keeps : (n : ℕ) (body : Stmts) (cs : Clauses) (other : Stmts) → AllKeep n body → ClausesKeep n cs → AllKeep n other → Keeps (suc n) (tree.Try body cs other)
 try_keeps n body cs other b k o = record {
   depth = omega (arith, b.depth, k.depth, o.depth);
   literals = omega (arith, b.literals, k.literals, o.literals);
@@ -260,7 +261,7 @@ try_keeps n body cs other b k o = record {
 }
 
 finally_keeps : (n : ℕ) (body : Stmts) (cs : Clauses) (other last : Stmts)
-    → AllKeep n body → ClausesKeep n cs → AllKeep n other → AllKeep n last → Keeps (suc n) (Finally body cs other last)
+    → AllKeep n body → ClausesKeep n cs → AllKeep n other → AllKeep n last → Keeps (suc n) (tree.Finally body cs other last)
 finally_keeps n body cs other last b k o l = record {
   depth = omega (arith, b.depth, k.depth, o.depth, l.depth);
   literals = omega (arith, b.literals, k.literals, o.literals, l.literals);
@@ -282,7 +283,7 @@ plain_keeps n last h = record {
 }
 
 -- an `elif`
-elif_keeps : (n : ℕ) (test : Expr) (body other : Stmts) → Keeps (suc n) (If test body other) → OtherKeeps n (MoreStmts (If test body other) NoStmts)
+elif_keeps : (n : ℕ) (test : Expr) (body other : Stmts) → Keeps (suc n) (tree.If test body other) → OtherKeeps n (tree.MoreStmts (tree.If test body other) tree.NoStmts)
 elif_keeps n test body other h = record {
   depth = omega (arith, h.depth);
   literals = omega (arith, h.literals);
@@ -314,50 +315,50 @@ module _ (n : ℕ) (L : Lines) (kept : Kept n L) where
       (if_keeps n b.0 b.1 (elifs_of elifs last) (bounded max_depth 1 b.0 h.3.2.0 h.3.2.3) (suite_keeps b.1 h.3.2.1 h.3.2.4) (elifs_keep elifs last h.1 h.4 low))
 
   excepts_keep : (cs : Clauses) (f : List Terminal) → Many (Excepts L) (clause_list cs) f → ClausesKeep n cs
-  excepts_keep NoClauses f h = record { depth = omega arith; literals = omega arith; parameters = omega arith; nesting = omega arith }
-  excepts_keep (MoreClauses None None b cs) f h = bare_keeps n None b cs (suite_keeps b h.3.0 h.3.2) (excepts_keep cs h.1 h.4)
-  excepts_keep (MoreClauses None (Some y) b cs) f h = absurd h.3
-  excepts_keep (MoreClauses (Some e) None b cs) f h =
+  excepts_keep tree.NoClauses f h = record { depth = omega arith; literals = omega arith; parameters = omega arith; nesting = omega arith }
+  excepts_keep (tree.MoreClauses None None b cs) f h = bare_keeps n None b cs (suite_keeps b h.3.0 h.3.2) (excepts_keep cs h.1 h.4)
+  excepts_keep (tree.MoreClauses None (Some y) b cs) f h = absurd h.3
+  excepts_keep (tree.MoreClauses (Some e) None b cs) f h =
       clause_keeps n e None b cs (bounded max_depth 1 e h.3.2.0 h.3.2.3) (suite_keeps b h.3.2.1 h.3.2.4) (excepts_keep cs h.1 h.4)
-  excepts_keep (MoreClauses (Some e) (Some y) b cs) f h =
+  excepts_keep (tree.MoreClauses (Some e) (Some y) b cs) f h =
       clause_keeps n e (Some y) b cs (bounded max_depth 1 e h.3.0 h.3.3) (suite_keeps b h.3.1 h.3.4) (excepts_keep cs h.1 h.4)
 
   handlers_keep : (cs : Clauses) (other : Stmts) (f : List Terminal) → Handlers L (clause_list cs) other f → ClausesKeep n cs × AllKeep n other
-  handlers_keep NoClauses other f h = (excepts_keep NoClauses [] refl, subst (AllKeep n) (sym h.0) (none_keep n))
-  handlers_keep (MoreClauses a y b cs) other f h = (excepts_keep (MoreClauses a y b cs) h.0 h.3, last_keeps other h.1 h.5)
+  handlers_keep tree.NoClauses other f h = (excepts_keep tree.NoClauses [] refl, subst (AllKeep n) (sym h.0) (none_keep n))
+  handlers_keep (tree.MoreClauses a y b cs) other f h = (excepts_keep (tree.MoreClauses a y b cs) h.0 h.3, last_keeps other h.1 h.5)
 
   compound_keeps : (s : Stmt) (f : List Terminal) → Compound L s f → Keeps (suc n) s
-  compound_keeps (If test body other) f h =
+  compound_keeps (tree.If test body other) f h =
       if_keeps n test body other (bounded max_depth 1 test h.7.0 h.7.3) (suite_keeps body h.7.1 h.7.4)
       (subst (OtherKeeps n) (sym h.6) (elifs_keep h.0 h.1 h.3 h.8 (last_keeps h.1 h.4 h.9)))
-  compound_keeps (While test body other) f h =
-      looped_keeps n (While test body other) test body other (λ m. refl) refl (omega arith)
+  compound_keeps (tree.While test body other) f h =
+      looped_keeps n (tree.While test body other) test body other (λ m. refl) refl (omega arith)
       (bounded max_depth 1 test h.3.0 h.3.3) (suite_keeps body h.3.1 h.3.4) (last_keeps other h.1 h.4)
-  compound_keeps (For t over body other) f h =
-      looped_keeps n (For t over body other) over body other (λ m. refl) refl (omega arith)
+  compound_keeps (tree.For t over body other) f h =
+      looped_keeps n (tree.For t over body other) over body other (λ m. refl) refl (omega arith)
       (bounded max_depth 1 over h.5.0 h.5.3) (suite_keeps body h.5.1 h.5.4) (last_keeps other h.2 h.6)
-  compound_keeps (Try body cs other) f h =
+  compound_keeps (tree.Try body cs other) f h =
       let t = handlers_keep cs other h.1 h.5 in try_keeps n body cs other (suite_keeps body h.0 h.3) t.0 t.1
-  compound_keeps (Finally body cs other last) f h =
+  compound_keeps (tree.Finally body cs other last) f h =
       let t = handlers_keep cs other h.1 h.5 in finally_keeps n body cs other last (suite_keeps body h.0 h.4) t.0 t.1 (suite_keeps last h.2 h.6)
-  compound_keeps (Define x ps body) f h =
+  compound_keeps (tree.Define x ps body) f h =
       let b = suite_keeps body h.1 h.5 in record { depth = b.depth; literals = b.literals; parameters = omega (arith, h.4, b.parameters); nesting = omega (arith, b.nesting) }
-  compound_keeps (Raise a) f h = absurd h
-  compound_keeps (Return a) f h = absurd h
-  compound_keeps (Global xs) f h = absurd h
-  compound_keeps (Evaluate e) f h = absurd h
-  compound_keeps (Assign t e) f h = absurd h
-  compound_keeps (Augment t op e) f h = absurd h
-  compound_keeps Pass f h = absurd h
-  compound_keeps Break f h = absurd h
-  compound_keeps Continue f h = absurd h
+  compound_keeps (tree.Raise a) f h = absurd h
+  compound_keeps (tree.Return a) f h = absurd h
+  compound_keeps (tree.Global xs) f h = absurd h
+  compound_keeps (tree.Evaluate e) f h = absurd h
+  compound_keeps (tree.Assign t e) f h = absurd h
+  compound_keeps (tree.Augment t op e) f h = absurd h
+  compound_keeps tree.Pass f h = absurd h
+  compound_keeps tree.Break f h = absurd h
+  compound_keeps tree.Continue f h = absurd h
 
 nests_keep : (n : ℕ) → Kept n (Nests n)
 nests_keep zero ss f h = line_keeps zero ss f h
 nests_keep (suc n) ss f (inl h) = line_keeps (suc n) ss f h
 nests_keep (suc n) ss f (inr h) =
     let P : List Stmt → Type 0 = λ ss. AllKeep (suc n) (stmts_of ss) in
-    subst P (sym h.1) (more_keep (suc n) h.0 NoStmts (compound_keeps n (Nests n) (nests_keep n) h.0 f h.2) (none_keep (suc n)))
+    subst P (sym h.1) (more_keep (suc n) h.0 tree.NoStmts (compound_keeps n (Nests n) (nests_keep n) h.0 f h.2) (none_keep (suc n)))
 
 pub derived_within : (body : Stmts) (ts : List Terminal) → Derives body ts → IsWithinLimits body
 derived_within body ts h =

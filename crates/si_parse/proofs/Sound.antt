@@ -5,7 +5,7 @@ use Rattle.std.proofs.lemmas.Bool.Decides.{nat_tests}
 use Rattle.std.proofs.lemmas.Option.{cond_some}
 use Rattle.std.proofs.lemmas.List.{append-nil}
 use Rattle.si_semantics.specs.Value.{Nothing, Truth, Int, Str}
-use Rattle.si_semantics.specs.Tree.{BinaryOperator, Add, Subtract, Multiply, FloorDivide, Modulo, Power, BitOr, BitXor, BitAnd, ShiftLeft, ShiftRight, UnaryOperator, ComparisonOperator, BooleanOperator, Expr, Constant, Name, Unary, Binary, Call, Boolean, Compare, Conditional}
+use Rattle.si_semantics.specs.Tree.{BinaryOperator, UnaryOperator, ComparisonOperator, BooleanOperator, Expr}
 use Rattle.si_semantics.specs.Tree as tree
 use Rattle.si_semantics.specs.Tokens.{Symbol, Keyword}
 use Rattle.si_semantics.specs.Tokens as token
@@ -181,18 +181,18 @@ module _ (n : ℕ) (sub : Parser) (sound : IsSound n sub) where
         let P : List Terminal → Type 0 = λ l. Begins (Sign token.LeftParenthesis ∷ l) r in
         subst P (sym a.0.split) (closed_reads s.0.0 s.0.1 a.0.front s.0.2 (after (Sign token.RightParenthesis) s.0.2) refl r a.0.spelled a.1 s.2)
 
-    unary_read : (op : UnaryOperator) (ts : List Terminal) (r : Found) → l ≤ prefix_level op → then_read (sub (prefix_level op) ts) (λ r. Some (Unary op r.0, r.1 + 1, r.2)) ≡ Some r → Begins (prefix_of op ∷ ts) r
+    unary_read : (op : UnaryOperator) (ts : List Terminal) (r : Found) → l ≤ prefix_level op → then_read (sub (prefix_level op) ts) (λ r. Some (tree.Unary op r.0, r.1 + 1, r.2)) ≡ Some r → Begins (prefix_of op ∷ ts) r
     unary_read op ts r under h =
-        let s = then_read_some (sub (prefix_level op) ts) (λ r. Some (Unary op r.0, r.1 + 1, r.2)) r h in
+        let s = then_read_some (sub (prefix_level op) ts) (λ r. Some (tree.Unary op r.0, r.1 + 1, r.2)) r h in
         let a = sound (prefix_level op) (prefix_bound op) (prefix_apart op) ts s.0 s.1 in
-        let same = some_inj (Unary op s.0.0, s.0.1 + 1, s.0.2) r s.2 in
+        let same = some_inj (tree.Unary op s.0.0, s.0.1 + 1, s.0.2) r s.2 in
         let P : Found → Type 0 = Begins (prefix_of op ∷ ts) in
         subst P same (
           record {
             front = prefix_of op ∷ a.0.front;
             split = ap (λ l. prefix_of op ∷ l) a.0.split;
             level = prefix_level op;
-            spelled = node s.0.1 (prefix_level op) (Unary op s.0.0) (prefix_of op ∷ a.0.front) (a.0.front, refl, omega arith, a.0.spelled);
+            spelled = node s.0.1 (prefix_level op) (tree.Unary op s.0.0) (prefix_of op ∷ a.0.front) (a.0.front, refl, omega arith, a.0.spelled);
             continues = omega (arith, a.0.stops);
             enough = under;
             apart = prefix_apart op;
@@ -203,31 +203,31 @@ module _ (n : ℕ) (sub : Parser) (sound : IsSound n sub) where
     unary_reads : (op : UnaryOperator) (ts : List Terminal) (r : Found) → unary_by sub l op ts ≡ Some r → Begins (prefix_of op ∷ ts) r
     unary_reads op ts r h =
         ⊎_elim (λ y. unary_read op ts r (le_from l (prefix_level op) y.0) y.1) (λ no. let bad : None ≡ Some r = no.1 in cc)
-        (chosen (nat_le l (prefix_level op)) (then_read (sub (prefix_level op) ts) (λ r. Some (Unary op r.0, r.1 + 1, r.2))) None (Some r) h)
+        (chosen (nat_le l (prefix_level op)) (then_read (sub (prefix_level op) ts) (λ r. Some (tree.Unary op r.0, r.1 + 1, r.2))) None (Some r) h)
 
     name_reads : (x : List ℕ) (ts : List Terminal) (r : Found) → atom_by sub (NAME x ∷ ts) ≡ Some r → Begins (NAME x ∷ ts) r
     name_reads x ts r h =
-        let P : Found → Type 0 = Begins (NAME x ∷ ts) in subst P (some_inj (Name x, 1, ts) r h) (atom (NAME x ∷ []) ts (Name x) (node 0 18 (Name x) (NAME x ∷ []) refl))
+        let P : Found → Type 0 = Begins (NAME x ∷ ts) in subst P (some_inj (tree.Name x, 1, ts) r h) (atom (NAME x ∷ []) ts (tree.Name x) (node 0 18 (tree.Name x) (NAME x ∷ []) refl))
 
     number_reads : (digits : List ℕ) (ts : List Terminal) (r : Found) → atom_by sub (NUMBER digits ∷ ts) ≡ Some r → Begins (NUMBER digits ∷ ts) r
     number_reads digits ts r h =
-        let s = then_read_some (value_of_int digits) (λ n. Some (Constant (Int n), 1, ts)) r h in
+        let s = then_read_some (value_of_int digits) (λ n. Some (tree.Constant (Int n), 1, ts)) r h in
         let P : Found → Type 0 = Begins (NUMBER digits ∷ ts) in
-        subst P (some_inj (Constant (Int s.0), 1, ts) r s.2) (atom (NUMBER digits ∷ []) ts (Constant (Int s.0)) (node 0 18 (Constant (Int s.0)) (NUMBER digits ∷ []) (digits, refl, s.1)))
+        subst P (some_inj (tree.Constant (Int s.0), 1, ts) r s.2) (atom (NUMBER digits ∷ []) ts (tree.Constant (Int s.0)) (node 0 18 (tree.Constant (Int s.0)) (NUMBER digits ∷ []) (digits, refl, s.1)))
 
     string_reads : (literal : List ℕ) (ts : List Terminal) (r : Found) → atom_by sub (STRING literal ∷ ts) ≡ Some r → Begins (STRING literal ∷ ts) r
     string_reads literal ts r h =
-        let w = then_read_some (str_by (STRING literal ∷ ts)) (λ r. Some (Constant (Str r.0), 1, r.1)) r h in
+        let w = then_read_some (str_by (STRING literal ∷ ts)) (λ r. Some (tree.Constant (Str r.0), 1, r.1)) r h in
         let s = short_read (STRING literal ∷ ts) w.0 w.1 in
         let v = then_read_some (value_of_str literal) (λ s. strings_by s ts) w.0 s.0 in
         let y = strings_read v.0 ts w.0 v.2 in
         let P : Found → Type 0 = Begins (STRING literal ∷ ts) in
         let Q : List ℕ → Type 0 = λ t. Strings t (STRING literal ∷ y.0) in
         let whole : Strings w.0.0 (STRING literal ∷ y.0) = subst Q (sym y.2) (v.0, y.1, refl, v.1, y.4) in
-        let B : List Terminal → Type 0 = λ l. Begins (STRING literal ∷ l) (Constant (Str w.0.0), 1, w.0.1) in
-        subst P (some_inj (Constant (Str w.0.0), 1, w.0.1) r w.2) (
+        let B : List Terminal → Type 0 = λ l. Begins (STRING literal ∷ l) (tree.Constant (Str w.0.0), 1, w.0.1) in
+        subst P (some_inj (tree.Constant (Str w.0.0), 1, w.0.1) r w.2) (
         subst B (sym y.3) (
-        atom (STRING literal ∷ y.0) w.0.1 (Constant (Str w.0.0)) (node 0 18 (Constant (Str w.0.0)) (STRING literal ∷ y.0) (omega arith, s.1, whole))))
+        atom (STRING literal ∷ y.0) w.0.1 (tree.Constant (Str w.0.0)) (node 0 18 (tree.Constant (Str w.0.0)) (STRING literal ∷ y.0) (omega arith, s.1, whole))))
 
     atom_reads : (ts : List Terminal) (r : Found) → atom_by sub ts ≡ Some r → Begins ts r
     atom_reads [] r h = cc
@@ -236,13 +236,13 @@ module _ (n : ℕ) (sub : Parser) (sound : IsSound n sub) where
     atom_reads (STRING literal ∷ ts) r h = string_reads literal ts r h
     atom_reads (Word token.NoneWord ∷ ts) r h =
         let P : Found → Type 0 = Begins (Word token.NoneWord ∷ ts) in
-        subst P (some_inj (Constant Nothing, 1, ts) r h) (atom (Word token.NoneWord ∷ []) ts (Constant Nothing) (node 0 18 (Constant Nothing) (Word token.NoneWord ∷ []) refl))
+        subst P (some_inj (tree.Constant Nothing, 1, ts) r h) (atom (Word token.NoneWord ∷ []) ts (tree.Constant Nothing) (node 0 18 (tree.Constant Nothing) (Word token.NoneWord ∷ []) refl))
     atom_reads (Word token.TrueWord ∷ ts) r h =
         let P : Found → Type 0 = Begins (Word token.TrueWord ∷ ts) in
-        subst P (some_inj (Constant (Truth true), 1, ts) r h) (atom (Word token.TrueWord ∷ []) ts (Constant (Truth true)) (node 0 18 (Constant (Truth true)) (Word token.TrueWord ∷ []) refl))
+        subst P (some_inj (tree.Constant (Truth true), 1, ts) r h) (atom (Word token.TrueWord ∷ []) ts (tree.Constant (Truth true)) (node 0 18 (tree.Constant (Truth true)) (Word token.TrueWord ∷ []) refl))
     atom_reads (Word token.FalseWord ∷ ts) r h =
         let P : Found → Type 0 = Begins (Word token.FalseWord ∷ ts) in
-        subst P (some_inj (Constant (Truth false), 1, ts) r h) (atom (Word token.FalseWord ∷ []) ts (Constant (Truth false)) (node 0 18 (Constant (Truth false)) (Word token.FalseWord ∷ []) refl))
+        subst P (some_inj (tree.Constant (Truth false), 1, ts) r h) (atom (Word token.FalseWord ∷ []) ts (tree.Constant (Truth false)) (node 0 18 (tree.Constant (Truth false)) (Word token.FalseWord ∷ []) refl))
     atom_reads (Sign token.LeftParenthesis ∷ ts) r h = bracketed_reads ts r h
     atom_reads (_ ∷ ts) r h = cc
 
@@ -263,9 +263,9 @@ module _ (n : ℕ) (sub : Parser) (sound : IsSound n sub) where
   operator_reads : (front : List Terminal) (e : Expr) (d m : ℕ) (op : BinaryOperator) (ts : List Terminal) (l : ℕ) (r : Found) → Spells d m e front → left_level op ≤ m → l ≤ left_level op → l ≤ 16
       → binary_by sub (n + 1) e d op ts ≡ Some r → Longer front (Sign (symbol_of op) ∷ ts) l r
   operator_reads front e d m op ts l r spelled low high le h =
-      let s = then_read_some (sub (right_level op) ts) (λ r. within (n + 1) (Binary op e r.0) (max d r.1 + 1) r.2) r h in
+      let s = then_read_some (sub (right_level op) ts) (λ r. within (n + 1) (tree.Binary op e r.0) (max d r.1 + 1) r.2) r h in
       let a = sound (right_level op) (right_bound op) (right_apart op) ts s.0 s.1 in
-      let w = within_some (n + 1) (Binary op e s.0.0) (max d s.0.1 + 1) s.0.2 r s.2 in
+      let w = within_some (n + 1) (tree.Binary op e s.0.0) (max d s.0.1 + 1) s.0.2 r s.2 in
       let P : Found → Type 0 = Longer front (Sign (symbol_of op) ∷ ts) l in
       let right = spells_deeper s.0.1 (max d s.0.1) (omega arith) (right_level op) s.0.0 a.0.front a.0.spelled in
       let left = spells_deeper d (max d s.0.1) (omega arith) (left_level op) e front (spells_looser d (left_level op) m e front low spelled) in
@@ -273,7 +273,7 @@ module _ (n : ℕ) (sub : Parser) (sound : IsSound n sub) where
         Sign (symbol_of op) ∷ a.0.front,
         ap (λ l. Sign (symbol_of op) ∷ l) a.0.split,
         level_of op,
-        node (max d s.0.1) (level_of op) (Binary op e s.0.0) (front ++ Sign (symbol_of op) ∷ a.0.front) (front, a.0.front, refl, omega arith, left, right),
+        node (max d s.0.1) (level_of op) (tree.Binary op e s.0.0) (front ++ Sign (symbol_of op) ∷ a.0.front) (front, a.0.front, refl, omega arith, left, right),
         right_stops op (strength_at s.0.2) a.0.stops,
         level_reached op l le high,
         w.0,
@@ -285,8 +285,8 @@ module _ (n : ℕ) (sub : Parser) (sound : IsSound n sub) where
   call_reads front e d m ts l r spelled low le h =
       let s = then_read_some (arguments_by sub ts) (called (n + 1) e d) r h in
       let a = arguments_read ts (after (Sign token.RightParenthesis) ts) refl s.0 s.1 in
-      let p = then_read_some (passed_from ([], []) s.0.0.0) (λ p. within (n + 1) (Call e (exprs_of p.0) p.1) (max d s.0.0.1 + 1) s.0.1) r s.2 in
-      let w = within_some (n + 1) (Call e (exprs_of p.0.0) p.0.1) (max d s.0.0.1 + 1) s.0.1 r p.2 in
+      let p = then_read_some (passed_from ([], []) s.0.0.0) (λ p. within (n + 1) (tree.Call e (exprs_of p.0) p.1) (max d s.0.0.1 + 1) s.0.1) r s.2 in
+      let w = within_some (n + 1) (tree.Call e (exprs_of p.0.0) p.0.1) (max d s.0.0.1 + 1) s.0.1 r p.2 in
       let P : Found → Type 0 = Longer front (Sign token.LeftParenthesis ∷ ts) l in
       let top = max d s.0.0.1 in
       let read = separated_mono (Passes (Spells s.0.0.1)) (Passes (Spells top)) token.Comma (deeper s.0.0.1 top (omega arith)) s.0.0.0 a.0 a.3 in
@@ -296,7 +296,7 @@ module _ (n : ℕ) (sub : Parser) (sound : IsSound n sub) where
         Sign token.LeftParenthesis ∷ (a.0 ++ Sign token.RightParenthesis ∷ []),
         ap (λ l. Sign token.LeftParenthesis ∷ l) (a.1 ∙ sym (append_assoc a.0 (Sign token.RightParenthesis ∷ []) s.0.1)),
         18,
-        node top 18 (Call e (exprs_of p.0.0) p.0.1) (front ++ Sign token.LeftParenthesis ∷ (a.0 ++ Sign token.RightParenthesis ∷ [])) (front, a.0, s.0.0.0, refl, omega arith, left, passed, read),
+        node top 18 (tree.Call e (exprs_of p.0.0) p.0.1) (front ++ Sign token.LeftParenthesis ∷ (a.0 ++ Sign token.RightParenthesis ∷ [])) (front, a.0, s.0.0.0, refl, omega arith, left, passed, read),
         strength_at_most s.0.1,
         omega arith,
         w.0,
@@ -314,9 +314,9 @@ module _ (n : ℕ) (sub : Parser) (sound : IsSound n sub) where
   alone d e w f one only h = let same : d ≡ 1 = grind (arith, nat_tests) in (w, only (subst (λ k. Spells k 10 e f) same h))
 
   singleton_word : (e : Expr) (d : ℕ) (f : List Terminal) → is_singleton e d ≡ true → Spells d 10 e f → (w : Keyword) × (f ≡ Word w ∷ [])
-  singleton_word (Constant Nothing) d f is h = alone d (Constant Nothing) token.NoneWord f is (λ g. ⊎_elim (λ x. x) (λ b. absurd b.2) g) h
-  singleton_word (Constant (Truth true)) d f is h = alone d (Constant (Truth true)) token.TrueWord f is (λ g. ⊎_elim (λ x. x) (λ b. absurd b.2) g) h
-  singleton_word (Constant (Truth false)) d f is h = alone d (Constant (Truth false)) token.FalseWord f is (λ g. ⊎_elim (λ x. x) (λ b. absurd b.2) g) h
+  singleton_word (tree.Constant Nothing) d f is h = alone d (tree.Constant Nothing) token.NoneWord f is (λ g. ⊎_elim (λ x. x) (λ b. absurd b.2) g) h
+  singleton_word (tree.Constant (Truth true)) d f is h = alone d (tree.Constant (Truth true)) token.TrueWord f is (λ g. ⊎_elim (λ x. x) (λ b. absurd b.2) g) h
+  singleton_word (tree.Constant (Truth false)) d f is h = alone d (tree.Constant (Truth false)) token.FalseWord f is (λ g. ⊎_elim (λ x. x) (λ b. absurd b.2) g) h
   singleton_word _ d f is h = cc
 
   abbrev LinkRead : List Terminal → ComparisonOperator → Found → Type 0
@@ -341,9 +341,9 @@ module _ (n : ℕ) (sub : Parser) (sound : IsSound n sub) where
   compare_reads : (front : List Terminal) (e : Expr) (d m : ℕ) (ts : List Terminal) (l : ℕ) (r : Found) → Spells d m e front → 10 ≤ m → l ≤ 8 → (o : ComparisonOperator × List Terminal) → comparison_at ts ≡ Some o → strength_at ts < 10
       → compare_by sub (n + 1) e d ts ≡ Some r → Longer front ts l r
   compare_reads front e d m ts l r spelled low high o is weak h =
-      let s = then_read_some (links_by sub ts) (λ r. within (n + 1) (Compare e (chain_of r.0.0)) (max d r.0.1 + 1) r.1) r h in
+      let s = then_read_some (links_by sub ts) (λ r. within (n + 1) (tree.Compare e (chain_of r.0.0)) (max d r.0.1 + 1) r.1) r h in
       let c = chain_sound (λ o e. (o, e)) comparison_at (compared_by sub) (λ d. Compares (Spells d)) n 10 (λ c d le x f h. compares_mono (Spells c) (Spells d) (spells_deeper c d le) x f h) link_read (length ts) ([], 0) ts s.0 (omega arith) weak s.1 in
-      let w = within_some (n + 1) (Compare e (chain_of s.0.0.0)) (max d s.0.0.1 + 1) s.0.1 r s.2 in
+      let w = within_some (n + 1) (tree.Compare e (chain_of s.0.0.0)) (max d s.0.0.1 + 1) s.0.1 r s.2 in
       let P : Found → Type 0 = Longer front ts l in
       let top = max d s.0.0.1 in
       let links = many_mono (Compares (Spells s.0.0.1)) (Compares (Spells top)) (compares_mono (Spells s.0.0.1) (Spells top) (spells_deeper s.0.0.1 top (omega arith))) c.0 c.1 c.6 in
@@ -355,7 +355,7 @@ module _ (n : ℕ) (sub : Parser) (sound : IsSound n sub) where
         c.1,
         c.3,
         8,
-        node top 8 (Compare e (chain_of s.0.0.0)) (front ++ c.1) (front, c.1, refl, omega arith, left, both.0, both.1),
+        node top 8 (tree.Compare e (chain_of s.0.0.0)) (front ++ c.1) (front, c.1, refl, omega arith, left, both.0, both.1),
         comparison_ends s.0.1 c.8 c.7,
         high,
         w.0,
@@ -376,10 +376,10 @@ module _ (n : ℕ) (sub : Parser) (sound : IsSound n sub) where
     boolean_reads : (front : List Terminal) (e : Expr) (d m : ℕ) (ts : List Terminal) (l : ℕ) (r : Found) → Spells d m e front → item_level op ≤ m → l ≤ boolean_level op → (o : BooleanOperator × List Terminal) → with_word op (after_boolean op ts) ≡ Some o
         → strength_at ts < item_level op → boolean_by sub (n + 1) e d op ts ≡ Some r → Longer front ts l r
     boolean_reads front e d m ts l r spelled low high o is weak h =
-        let s = then_read_some (operands_by sub op ts) (λ r. within (n + 1) (Boolean op e (exprs_of r.0.0)) (max d r.0.1 + 1) r.1) r h in
+        let s = then_read_some (operands_by sub op ts) (λ r. within (n + 1) (tree.Boolean op e (exprs_of r.0.0)) (max d r.0.1 + 1) r.1) r h in
         let c = chain_sound (λ o e. e) (λ ts. with_word op (after_boolean op ts)) (λ o. sub (item_level o)) Item n (item_level op)
         (λ c d le x f h. behind_mono (Spells c) (Spells d) (Word (word_of op)) (item_level op) (spells_deeper c d le) x f h) item_read (length ts) ([], 0) ts s.0 (omega arith) weak s.1 in
-        let w = within_some (n + 1) (Boolean op e (exprs_of s.0.0.0)) (max d s.0.0.1 + 1) s.0.1 r s.2 in
+        let w = within_some (n + 1) (tree.Boolean op e (exprs_of s.0.0.0)) (max d s.0.0.1 + 1) s.0.1 r s.2 in
         let P : Found → Type 0 = Longer front ts l in
         let top = max d s.0.0.1 in
         let others = many_mono (Item s.0.0.1) (Item top) (behind_mono (Spells s.0.0.1) (Spells top) (Word (word_of op)) (item_level op) (spells_deeper s.0.0.1 top (omega arith))) c.0 c.1 c.6 in
@@ -391,7 +391,7 @@ module _ (n : ℕ) (sub : Parser) (sound : IsSound n sub) where
           c.1,
           c.3,
           boolean_level op,
-          node top (boolean_level op) (Boolean op e (exprs_of s.0.0.0)) (front ++ c.1) (front, c.1, refl, omega arith, left, both.0, both.1),
+          node top (boolean_level op) (tree.Boolean op e (exprs_of s.0.0.0)) (front ++ c.1) (front, c.1, refl, omega arith, left, both.0, both.1),
           boolean_ends op s.0.1 (with_word_none op (after_boolean op s.0.1) c.8) c.7,
           high,
           w.0,
@@ -411,9 +411,9 @@ module _ (n : ℕ) (sub : Parser) (sound : IsSound n sub) where
       let t = then_read_some (sub 3 ts) (λ t. then_read (after (Word token.ElseWord) t.2) (other_by sub (n + 1) e d t)) r h in
       let a = sound 3 (omega arith) at_disjunction ts t.0 t.1 in
       let u = then_read_some (after (Word token.ElseWord) t.0.2) (other_by sub (n + 1) e d t.0) r t.2 in
-      let v = then_read_some (sub 1 u.0) (λ o. within (n + 1) (Conditional t.0.0 e o.0) (max d (max t.0.1 o.1) + 1) o.2) r u.2 in
+      let v = then_read_some (sub 1 u.0) (λ o. within (n + 1) (tree.Conditional t.0.0 e o.0) (max d (max t.0.1 o.1) + 1) o.2) r u.2 in
       let b = sound 1 (omega arith) at_condition u.0 v.0 v.1 in
-      let w = within_some (n + 1) (Conditional t.0.0 e v.0.0) (max d (max t.0.1 v.0.1) + 1) v.0.2 r v.2 in
+      let w = within_some (n + 1) (tree.Conditional t.0.0 e v.0.0) (max d (max t.0.1 v.0.1) + 1) v.0.2 r v.2 in
       let P : Found → Type 0 = Longer front (Word token.IfWord ∷ ts) l in
       let top = max d (max t.0.1 v.0.1) in
       let value = spells_deeper d top (omega arith) 3 e front (spells_looser d 3 m e front low spelled) in
@@ -424,7 +424,7 @@ module _ (n : ℕ) (sub : Parser) (sound : IsSound n sub) where
         Word token.IfWord ∷ tail,
         ap (λ t. Word token.IfWord ∷ t) (a.0.split ∙ ap (λ t. a.0.front ++ t) (after_else_some t.0.2 u.0 u.1 ∙ ap (λ t. Word token.ElseWord ∷ t) b.0.split) ∙ sym (append_assoc a.0.front (Word token.ElseWord ∷ b.0.front) v.0.2)),
         1,
-        node top 1 (Conditional t.0.0 e v.0.0) (front ++ Word token.IfWord ∷ tail) (front, a.0.front, b.0.front, refl, omega arith, value, test, other),
+        node top 1 (tree.Conditional t.0.0 e v.0.0) (front ++ Word token.IfWord ∷ tail) (front, a.0.front, b.0.front, refl, omega arith, value, test, other),
         omega (arith, b.0.stops),
         high,
         w.0,
@@ -436,17 +436,17 @@ module _ (n : ℕ) (sub : Parser) (sound : IsSound n sub) where
   extended_reads : (front : List Terminal) (e : Expr) (d m : ℕ) (ts : List Terminal) (l : ℕ) (r : Found) → Spells d m e front → strength_at ts ≤ m → l ≤ strength_at ts → l ≤ 16 → Apart m → Apart l
       → extended_by sub (n + 1) e d ts (continuation_at ts) ≡ Some r → Longer front ts l r
   extended_reads front e d m [] l r spelled low high le am al h = cc
-  extended_reads front e d m (Sign token.Bar ∷ ts) l r spelled low high le am al h = operator_reads front e d m BitOr ts l r spelled low high le h
-  extended_reads front e d m (Sign token.Caret ∷ ts) l r spelled low high le am al h = operator_reads front e d m BitXor ts l r spelled low high le h
-  extended_reads front e d m (Sign token.Ampersand ∷ ts) l r spelled low high le am al h = operator_reads front e d m BitAnd ts l r spelled low high le h
-  extended_reads front e d m (Sign token.LeftShift ∷ ts) l r spelled low high le am al h = operator_reads front e d m ShiftLeft ts l r spelled low high le h
-  extended_reads front e d m (Sign token.RightShift ∷ ts) l r spelled low high le am al h = operator_reads front e d m ShiftRight ts l r spelled low high le h
-  extended_reads front e d m (Sign token.Plus ∷ ts) l r spelled low high le am al h = operator_reads front e d m Add ts l r spelled low high le h
-  extended_reads front e d m (Sign token.Minus ∷ ts) l r spelled low high le am al h = operator_reads front e d m Subtract ts l r spelled low high le h
-  extended_reads front e d m (Sign token.Star ∷ ts) l r spelled low high le am al h = operator_reads front e d m Multiply ts l r spelled low high le h
-  extended_reads front e d m (Sign token.DoubleSlash ∷ ts) l r spelled low high le am al h = operator_reads front e d m FloorDivide ts l r spelled low high le h
-  extended_reads front e d m (Sign token.Percent ∷ ts) l r spelled low high le am al h = operator_reads front e d m Modulo ts l r spelled low high le h
-  extended_reads front e d m (Sign token.DoubleStar ∷ ts) l r spelled low high le am al h = operator_reads front e d m Power ts l r spelled low high le h
+  extended_reads front e d m (Sign token.Bar ∷ ts) l r spelled low high le am al h = operator_reads front e d m tree.BitOr ts l r spelled low high le h
+  extended_reads front e d m (Sign token.Caret ∷ ts) l r spelled low high le am al h = operator_reads front e d m tree.BitXor ts l r spelled low high le h
+  extended_reads front e d m (Sign token.Ampersand ∷ ts) l r spelled low high le am al h = operator_reads front e d m tree.BitAnd ts l r spelled low high le h
+  extended_reads front e d m (Sign token.LeftShift ∷ ts) l r spelled low high le am al h = operator_reads front e d m tree.ShiftLeft ts l r spelled low high le h
+  extended_reads front e d m (Sign token.RightShift ∷ ts) l r spelled low high le am al h = operator_reads front e d m tree.ShiftRight ts l r spelled low high le h
+  extended_reads front e d m (Sign token.Plus ∷ ts) l r spelled low high le am al h = operator_reads front e d m tree.Add ts l r spelled low high le h
+  extended_reads front e d m (Sign token.Minus ∷ ts) l r spelled low high le am al h = operator_reads front e d m tree.Subtract ts l r spelled low high le h
+  extended_reads front e d m (Sign token.Star ∷ ts) l r spelled low high le am al h = operator_reads front e d m tree.Multiply ts l r spelled low high le h
+  extended_reads front e d m (Sign token.DoubleSlash ∷ ts) l r spelled low high le am al h = operator_reads front e d m tree.FloorDivide ts l r spelled low high le h
+  extended_reads front e d m (Sign token.Percent ∷ ts) l r spelled low high le am al h = operator_reads front e d m tree.Modulo ts l r spelled low high le h
+  extended_reads front e d m (Sign token.DoubleStar ∷ ts) l r spelled low high le am al h = operator_reads front e d m tree.Power ts l r spelled low high le h
   extended_reads front e d m (Sign token.LeftParenthesis ∷ ts) l r spelled low high le am al h = call_reads front e d m ts l r spelled low le h
   extended_reads front e d m (Sign token.Less ∷ ts) l r spelled low high le am al h =
       compare_reads front e d m (Sign token.Less ∷ ts) l r spelled (comparison_up m am low) (comparison_down l al high) (tree.Less, ts) refl (omega arith) h

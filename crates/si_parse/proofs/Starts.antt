@@ -1,7 +1,7 @@
 -- How an expression begins: with a terminal of its own kind, and at least one.
 use Rattle.std.proofs.Common.{◌≡◌, ℕ, zero, suc, ◌<◌, ◌≤◌, List, [], ◌∷◌, ◌++◌, inl, inr, length, Bool, None, true, false, refl, sym, ap, ◌∙◌, subst, arith, append_assoc, length-append}
 use Rattle.si_semantics.specs.Value.{Nothing, Truth, Int, Str, Provided, Function, Range, Class, Address}
-use Rattle.si_semantics.specs.Tree.{UnaryOperator, Expr, Constant, Name, Unary, Binary, Call, Boolean, Compare, Conditional}
+use Rattle.si_semantics.specs.Tree.{UnaryOperator, Expr}
 use Rattle.si_semantics.specs.Tree as tree
 use Rattle.si_semantics.specs.Tokens.{Keyword}
 use Rattle.si_semantics.specs.Tokens as token
@@ -45,26 +45,26 @@ begins_truth false = refl
 pub expression_begins : (m l : ℕ) (e : Expr) (f : List Terminal) → Spells m l e f → (x : List Terminal) → begins (f ++ x) ≡ true
 expression_begins zero l e f h x = absurd h
 expression_begins (suc m) l e f (inr h) x = ap (λ t. begins (t ++ x)) h.1
-expression_begins (suc m) l (Name i) f (inl h) x = ap (λ t. begins (t ++ x)) h
-expression_begins (suc m) l (Constant (Int n)) f (inl h) x = ap (λ t. begins (t ++ x)) h.1
-expression_begins (suc m) l (Constant (Str s)) f (inl h) x = begins_strings s f h.0 h.2 x
-expression_begins (suc m) l (Constant Nothing) f (inl h) x = ap (λ t. begins (t ++ x)) h
-expression_begins (suc m) l (Constant (Truth b)) f (inl h) x = ap (λ t. begins (t ++ x)) h ∙ begins_truth b
-expression_begins (suc m) l (Constant (Provided b)) f (inl h) x = absurd h
-expression_begins (suc m) l (Unary op a) f (inl h) x = ap (λ t. begins (t ++ x)) h.1 ∙ begins_prefix op
-expression_begins (suc m) l (Binary op a b) f (inl h) x =
+expression_begins (suc m) l (tree.Name i) f (inl h) x = ap (λ t. begins (t ++ x)) h
+expression_begins (suc m) l (tree.Constant (Int n)) f (inl h) x = ap (λ t. begins (t ++ x)) h.1
+expression_begins (suc m) l (tree.Constant (Str s)) f (inl h) x = begins_strings s f h.0 h.2 x
+expression_begins (suc m) l (tree.Constant Nothing) f (inl h) x = ap (λ t. begins (t ++ x)) h
+expression_begins (suc m) l (tree.Constant (Truth b)) f (inl h) x = ap (λ t. begins (t ++ x)) h ∙ begins_truth b
+expression_begins (suc m) l (tree.Constant (Provided b)) f (inl h) x = absurd h
+expression_begins (suc m) l (tree.Unary op a) f (inl h) x = ap (λ t. begins (t ++ x)) h.1 ∙ begins_prefix op
+expression_begins (suc m) l (tree.Binary op a b) f (inl h) x =
     ap (λ t. begins (t ++ x)) h.2 ∙ ap begins (append_assoc h.0 (Sign (symbol_of op) ∷ h.1) x) ∙ expression_begins m (left_level op) a h.0 h.4 (Sign (symbol_of op) ∷ (h.1 ++ x))
-expression_begins (suc m) l (Constant (Function i k)) f (inl h) x = absurd h
-expression_begins (suc m) l (Constant (Range a b c)) f (inl h) x = absurd h
-expression_begins (suc m) l (Constant (Class k)) f (inl h) x = absurd h
-expression_begins (suc m) l (Constant (Address i)) f (inl h) x = absurd h
-expression_begins (suc m) l (Call a args names) f (inl h) x =
+expression_begins (suc m) l (tree.Constant (Function i k)) f (inl h) x = absurd h
+expression_begins (suc m) l (tree.Constant (Range a b c)) f (inl h) x = absurd h
+expression_begins (suc m) l (tree.Constant (Class k)) f (inl h) x = absurd h
+expression_begins (suc m) l (tree.Constant (Address i)) f (inl h) x = absurd h
+expression_begins (suc m) l (tree.Call a args names) f (inl h) x =
     ap (λ t. begins (t ++ x)) h.3
     ∙ ap begins (append_assoc h.0 (Sign token.LeftParenthesis ∷ (h.1 ++ Sign token.RightParenthesis ∷ [])) x)
     ∙ expression_begins m 18 a h.0 h.5 (Sign token.LeftParenthesis ∷ ((h.1 ++ Sign token.RightParenthesis ∷ []) ++ x))
-expression_begins (suc m) l (Compare a cs) f (inl h) x = ap (λ t. begins (t ++ x)) h.2 ∙ ap begins (append_assoc h.0 h.1 x) ∙ expression_begins m 10 a h.0 h.4 (h.1 ++ x)
-expression_begins (suc m) l (Boolean op a others) f (inl h) x = ap (λ t. begins (t ++ x)) h.2 ∙ ap begins (append_assoc h.0 h.1 x) ∙ expression_begins m (item_level op) a h.0 h.4 (h.1 ++ x)
-expression_begins (suc m) l (Conditional test value other) f (inl h) x =
+expression_begins (suc m) l (tree.Compare a cs) f (inl h) x = ap (λ t. begins (t ++ x)) h.2 ∙ ap begins (append_assoc h.0 h.1 x) ∙ expression_begins m 10 a h.0 h.4 (h.1 ++ x)
+expression_begins (suc m) l (tree.Boolean op a others) f (inl h) x = ap (λ t. begins (t ++ x)) h.2 ∙ ap begins (append_assoc h.0 h.1 x) ∙ expression_begins m (item_level op) a h.0 h.4 (h.1 ++ x)
+expression_begins (suc m) l (tree.Conditional test value other) f (inl h) x =
     ap (λ t. begins (t ++ x)) h.3
     ∙ ap begins (append_assoc h.0 (Word token.IfWord ∷ (h.1 ++ Word token.ElseWord ∷ h.2)) x)
     ∙ expression_begins m 3 value h.0 h.5 (Word token.IfWord ∷ ((h.1 ++ Word token.ElseWord ∷ h.2) ++ x))
@@ -185,12 +185,12 @@ pub record Singleton (e : Expr) (w : Keyword) : Type 0 where
   pub is : is_singleton e 1 ≡ true
   pub affirms : (ts : List Terminal) → after (Word token.NotWord) (Word w ∷ ts) ≡ None
 
-spelled_none : (w : Keyword) → Word w ∷ [] ≡ Word token.NoneWord ∷ [] → Singleton (Constant Nothing) w
+spelled_none : (w : Keyword) → Word w ∷ [] ≡ Word token.NoneWord ∷ [] → Singleton (tree.Constant Nothing) w
 spelled_none w h =
     let P : List Terminal → Type 0 = λ f. (ts : List Terminal) → after (Word token.NotWord) (f ++ ts) ≡ None in
     record { spelled = inl h; is = refl; affirms = subst P (sym h) (λ ts. refl) }
 
-spelled_truth : (b : Bool) (w : Keyword) → Word w ∷ [] ≡ Word (truth_word b) ∷ [] → Singleton (Constant (Truth b)) w
+spelled_truth : (b : Bool) (w : Keyword) → Word w ∷ [] ≡ Word (truth_word b) ∷ [] → Singleton (tree.Constant (Truth b)) w
 spelled_truth true w h =
     let P : List Terminal → Type 0 = λ f. (ts : List Terminal) → after (Word token.NotWord) (f ++ ts) ≡ None in
     record { spelled = inl h; is = refl; affirms = subst P (sym h) (λ ts. refl) }
@@ -207,22 +207,22 @@ no_prefix tree.Not w f low h = omega arith
 pub singleton : (m : ℕ) (e : Expr) (w : Keyword) → Spells m 10 e (Word w ∷ []) → Singleton e w
 singleton zero e w h = absurd h
 singleton (suc m) e w (inr h) = cc (h.1)
-singleton (suc m) (Name x) w (inl h) = cc
-singleton (suc m) (Constant (Int n)) w (inl h) = cc (h.1)
-singleton (suc m) (Constant (Str s)) w (inl h) = absurd h.2
-singleton (suc m) (Constant Nothing) w (inl h) = spelled_none w h
-singleton (suc m) (Constant (Truth b)) w (inl h) = spelled_truth b w h
-singleton (suc m) (Constant (Provided b)) w (inl h) = absurd h
-singleton (suc m) (Unary op a) w (inl h) = absurd (no_prefix op w h.0 h.2 h.1)
-singleton (suc m) (Binary op a b) w (inl h) =
+singleton (suc m) (tree.Name x) w (inl h) = cc
+singleton (suc m) (tree.Constant (Int n)) w (inl h) = cc (h.1)
+singleton (suc m) (tree.Constant (Str s)) w (inl h) = absurd h.2
+singleton (suc m) (tree.Constant Nothing) w (inl h) = spelled_none w h
+singleton (suc m) (tree.Constant (Truth b)) w (inl h) = spelled_truth b w h
+singleton (suc m) (tree.Constant (Provided b)) w (inl h) = absurd h
+singleton (suc m) (tree.Unary op a) w (inl h) = absurd (no_prefix op w h.0 h.2 h.1)
+singleton (suc m) (tree.Binary op a b) w (inl h) =
     absurd (omega (arith, ap length h.2, length-append h.0 (Sign (symbol_of op) ∷ h.1), some_terminals m (left_level op) a h.0 h.4))
-singleton (suc m) (Constant (Function x k)) w (inl h) = absurd h
-singleton (suc m) (Constant (Range a b c)) w (inl h) = absurd h
-singleton (suc m) (Constant (Class k)) w (inl h) = absurd h
-singleton (suc m) (Constant (Address x)) w (inl h) = absurd h
-singleton (suc m) (Call a args names) w (inl h) =
+singleton (suc m) (tree.Constant (Function x k)) w (inl h) = absurd h
+singleton (suc m) (tree.Constant (Range a b c)) w (inl h) = absurd h
+singleton (suc m) (tree.Constant (Class k)) w (inl h) = absurd h
+singleton (suc m) (tree.Constant (Address x)) w (inl h) = absurd h
+singleton (suc m) (tree.Call a args names) w (inl h) =
     absurd (omega (arith, ap length h.3, length-append h.0 (Sign token.LeftParenthesis ∷ (h.1 ++ Sign token.RightParenthesis ∷ [])), some_terminals m 18 a h.0 h.5))
-singleton (suc m) (Compare a cs) w (inl h) = absurd (omega (arith, h.3))
-singleton (suc m) (Boolean tree.And a others) w (inl h) = absurd (omega (arith, h.3))
-singleton (suc m) (Boolean tree.Or a others) w (inl h) = absurd (omega (arith, h.3))
-singleton (suc m) (Conditional test value other) w (inl h) = absurd (omega (arith, h.4))
+singleton (suc m) (tree.Compare a cs) w (inl h) = absurd (omega (arith, h.3))
+singleton (suc m) (tree.Boolean tree.And a others) w (inl h) = absurd (omega (arith, h.3))
+singleton (suc m) (tree.Boolean tree.Or a others) w (inl h) = absurd (omega (arith, h.3))
+singleton (suc m) (tree.Conditional test value other) w (inl h) = absurd (omega (arith, h.4))

@@ -3,7 +3,8 @@ use Rattle.std.proofs.Common.{◌≡◌, ℕ, ◌+◌, ◌<◌, List, [], ◌∷
 use Rattle.std.specs.Prelude.{option_map, if◌then◌else◌}
 use Rattle.std.proofs.lemmas.List.{append-nil, length-map}
 use Rattle.si_semantics.specs.Value.{Text}
-use Rattle.si_semantics.specs.Tree.{BinaryOperator, Add, Subtract, Multiply, FloorDivide, Modulo, Power, BitOr, BitXor, BitAnd, ShiftLeft, ShiftRight, Expr, Constant, Name, Unary, Binary, Call, Boolean, Compare, Conditional, Stmt, Named, Evaluate, Assign, Augment, Pass, If, While, For, Break, Continue, Define, Return, Global, Raise, Try, Finally}
+use Rattle.si_semantics.specs.Tree as tree
+use Rattle.si_semantics.specs.Tree.{BinaryOperator, Expr, Stmt}
 use Rattle.si_semantics.specs.Tokens.{Symbol}
 use Rattle.si_semantics.specs.Tokens as token
 use Rattle.si_semantics.specs.Grammar.{Terminal, Sign, Word, NEWLINE, Following, Separated, max_depth, IsExpression, augmented_of, Small, Simple}
@@ -24,17 +25,17 @@ sign_of (Some op) = augmented_of op
 
 sign_is : (s : Symbol) (a : Option BinaryOperator) → assignment_symbol s ≡ Some a → s ≡ sign_of a
 sign_is token.Equal a h = ap sign_of (some_inj None a h)
-sign_is token.BarEqual a h = ap sign_of (some_inj (Some BitOr) a h)
-sign_is token.CaretEqual a h = ap sign_of (some_inj (Some BitXor) a h)
-sign_is token.AmpersandEqual a h = ap sign_of (some_inj (Some BitAnd) a h)
-sign_is token.LeftShiftEqual a h = ap sign_of (some_inj (Some ShiftLeft) a h)
-sign_is token.RightShiftEqual a h = ap sign_of (some_inj (Some ShiftRight) a h)
-sign_is token.PlusEqual a h = ap sign_of (some_inj (Some Add) a h)
-sign_is token.MinusEqual a h = ap sign_of (some_inj (Some Subtract) a h)
-sign_is token.StarEqual a h = ap sign_of (some_inj (Some Multiply) a h)
-sign_is token.DoubleSlashEqual a h = ap sign_of (some_inj (Some FloorDivide) a h)
-sign_is token.PercentEqual a h = ap sign_of (some_inj (Some Modulo) a h)
-sign_is token.DoubleStarEqual a h = ap sign_of (some_inj (Some Power) a h)
+sign_is token.BarEqual a h = ap sign_of (some_inj (Some tree.BitOr) a h)
+sign_is token.CaretEqual a h = ap sign_of (some_inj (Some tree.BitXor) a h)
+sign_is token.AmpersandEqual a h = ap sign_of (some_inj (Some tree.BitAnd) a h)
+sign_is token.LeftShiftEqual a h = ap sign_of (some_inj (Some tree.ShiftLeft) a h)
+sign_is token.RightShiftEqual a h = ap sign_of (some_inj (Some tree.ShiftRight) a h)
+sign_is token.PlusEqual a h = ap sign_of (some_inj (Some tree.Add) a h)
+sign_is token.MinusEqual a h = ap sign_of (some_inj (Some tree.Subtract) a h)
+sign_is token.StarEqual a h = ap sign_of (some_inj (Some tree.Multiply) a h)
+sign_is token.DoubleSlashEqual a h = ap sign_of (some_inj (Some tree.FloorDivide) a h)
+sign_is token.PercentEqual a h = ap sign_of (some_inj (Some tree.Modulo) a h)
+sign_is token.DoubleStarEqual a h = ap sign_of (some_inj (Some tree.Power) a h)
 sign_is _ a h = cc
 
 sign_from : (s : Symbol) (ts : List Terminal) (o : Option (Option BinaryOperator)) → assignment_symbol s ≡ o → (a : Option BinaryOperator) (rest : List Terminal) → option_map {U = Option BinaryOperator × List Terminal} (λ op. (op, ts)) o ≡ Some (a, rest) → Sign s ∷ ts ≡ Sign (sign_of a) ∷ rest
@@ -49,60 +50,60 @@ assignment_some (_ ∷ ts) a rest h = cc
 
 assignment_is : (a : Option BinaryOperator) (ts : List Terminal) → assignment_at (Sign (sign_of a) ∷ ts) ≡ Some (a, ts)
 assignment_is None ts = refl
-assignment_is (Some BitOr) ts = refl
-assignment_is (Some BitXor) ts = refl
-assignment_is (Some BitAnd) ts = refl
-assignment_is (Some ShiftLeft) ts = refl
-assignment_is (Some ShiftRight) ts = refl
-assignment_is (Some Add) ts = refl
-assignment_is (Some Subtract) ts = refl
-assignment_is (Some Multiply) ts = refl
-assignment_is (Some FloorDivide) ts = refl
-assignment_is (Some Modulo) ts = refl
-assignment_is (Some Power) ts = refl
+assignment_is (Some tree.BitOr) ts = refl
+assignment_is (Some tree.BitXor) ts = refl
+assignment_is (Some tree.BitAnd) ts = refl
+assignment_is (Some tree.ShiftLeft) ts = refl
+assignment_is (Some tree.ShiftRight) ts = refl
+assignment_is (Some tree.Add) ts = refl
+assignment_is (Some tree.Subtract) ts = refl
+assignment_is (Some tree.Multiply) ts = refl
+assignment_is (Some tree.FloorDivide) ts = refl
+assignment_is (Some tree.Modulo) ts = refl
+assignment_is (Some tree.Power) ts = refl
 
 sign_weak : (a : Option BinaryOperator) (ts : List Terminal) → (strength_at (Sign (sign_of a) ∷ ts) < 1) × (begins_str (Sign (sign_of a) ∷ ts) ≡ false)
 sign_weak None ts = (omega arith, refl)
-sign_weak (Some BitOr) ts = (omega arith, refl)
-sign_weak (Some BitXor) ts = (omega arith, refl)
-sign_weak (Some BitAnd) ts = (omega arith, refl)
-sign_weak (Some ShiftLeft) ts = (omega arith, refl)
-sign_weak (Some ShiftRight) ts = (omega arith, refl)
-sign_weak (Some Add) ts = (omega arith, refl)
-sign_weak (Some Subtract) ts = (omega arith, refl)
-sign_weak (Some Multiply) ts = (omega arith, refl)
-sign_weak (Some FloorDivide) ts = (omega arith, refl)
-sign_weak (Some Modulo) ts = (omega arith, refl)
-sign_weak (Some Power) ts = (omega arith, refl)
+sign_weak (Some tree.BitOr) ts = (omega arith, refl)
+sign_weak (Some tree.BitXor) ts = (omega arith, refl)
+sign_weak (Some tree.BitAnd) ts = (omega arith, refl)
+sign_weak (Some tree.ShiftLeft) ts = (omega arith, refl)
+sign_weak (Some tree.ShiftRight) ts = (omega arith, refl)
+sign_weak (Some tree.Add) ts = (omega arith, refl)
+sign_weak (Some tree.Subtract) ts = (omega arith, refl)
+sign_weak (Some tree.Multiply) ts = (omega arith, refl)
+sign_weak (Some tree.FloorDivide) ts = (omega arith, refl)
+sign_weak (Some tree.Modulo) ts = (omega arith, refl)
+sign_weak (Some tree.Power) ts = (omega arith, refl)
 
 -- ---- a statement
 
 abbrev SmallRead : List Terminal → Stmt × List Terminal → Type 0
 SmallRead ts r = (f : List Terminal) × (ts ≡ f ++ r.1) × Small r.0 f
 
-assigned_small : (x : Text) (a : Option BinaryOperator) (e : Expr) (f g : List Terminal) → IsExpression (Name x) f → IsExpression e g → Small (assigned (Named x) a e) (f ++ Sign (sign_of a) ∷ g)
+assigned_small : (x : Text) (a : Option BinaryOperator) (e : Expr) (f g : List Terminal) → IsExpression (tree.Name x) f → IsExpression e g → Small (assigned (tree.Named x) a e) (f ++ Sign (sign_of a) ∷ g)
 assigned_small x None e f g h i = (f, g, refl, h, i)
 assigned_small x (Some op) e f g h i = (f, g, refl, h, i)
 
 from_reads : (f ts : List Terminal) (e : Expr) (o : Option (Option BinaryOperator × List Terminal)) → assignment_at ts ≡ o → IsExpression e f → (r : Stmt × List Terminal) → statement_from (expression_at max_depth) ts e o ≡ Some r → SmallRead (f ++ ts) r
 from_reads f ts e None is spelled r h =
-    let P : Stmt × List Terminal → Type 0 = SmallRead (f ++ ts) in subst P (some_inj (Evaluate e, ts) r h) (f, refl, spelled)
-from_reads f ts (Name x) (Some a) is spelled r h =
-    let s = then_read_some (expression_at max_depth 1 a.1) (λ r. Some (assigned (Named x) a.0 r.0, r.2)) r h in
+    let P : Stmt × List Terminal → Type 0 = SmallRead (f ++ ts) in subst P (some_inj (tree.Evaluate e, ts) r h) (f, refl, spelled)
+from_reads f ts (tree.Name x) (Some a) is spelled r h =
+    let s = then_read_some (expression_at max_depth 1 a.1) (λ r. Some (assigned (tree.Named x) a.0 r.0, r.2)) r h in
     let b = expression_sound max_depth 1 (omega arith) at_condition a.1 s.0 s.1 in
     let P : Stmt × List Terminal → Type 0 = SmallRead (f ++ ts) in
-    subst P (some_inj (assigned (Named x) a.0 s.0.0, s.0.2) r s.2) (
+    subst P (some_inj (assigned (tree.Named x) a.0 s.0.0, s.0.2) r s.2) (
       f ++ Sign (sign_of a.0) ∷ b.0.front,
       ap (λ t. f ++ t) (assignment_some ts a.0 a.1 is ∙ ap (λ t. Sign (sign_of a.0) ∷ t) b.0.split) ∙ sym (append_assoc f (Sign (sign_of a.0) ∷ b.0.front) s.0.2),
       assigned_small x a.0 s.0.0 f b.0.front spelled (spells_deeper s.0.1 max_depth b.1 1 s.0.0 b.0.front b.0.spelled),
     )
-from_reads f ts (Constant v) (Some a) is spelled r h = cc
-from_reads f ts (Unary op e) (Some a) is spelled r h = cc
-from_reads f ts (Binary op e g) (Some a) is spelled r h = cc
-from_reads f ts (Call e args names) (Some a) is spelled r h = cc
-from_reads f ts (Boolean op e others) (Some a) is spelled r h = cc
-from_reads f ts (Compare e cs) (Some a) is spelled r h = cc
-from_reads f ts (Conditional e g i) (Some a) is spelled r h = cc
+from_reads f ts (tree.Constant v) (Some a) is spelled r h = cc
+from_reads f ts (tree.Unary op e) (Some a) is spelled r h = cc
+from_reads f ts (tree.Binary op e g) (Some a) is spelled r h = cc
+from_reads f ts (tree.Call e args names) (Some a) is spelled r h = cc
+from_reads f ts (tree.Boolean op e others) (Some a) is spelled r h = cc
+from_reads f ts (tree.Compare e cs) (Some a) is spelled r h = cc
+from_reads f ts (tree.Conditional e g i) (Some a) is spelled r h = cc
 
 spelled_reads : (ts : List Terminal) (r : Stmt × List Terminal) → spelled_by (expression_at max_depth) ts ≡ Some r → SmallRead ts r
 spelled_reads ts r h =
@@ -113,9 +114,9 @@ spelled_reads ts r h =
 
 word_reads : (ts : List Terminal) (s : Stmt) → word_statement ts ≡ Some s → SmallRead ts (s, rest_of ts)
 word_reads [] s h = cc
-word_reads (Word token.PassWord ∷ ts) s h = let P : Stmt → Type 0 = λ s. SmallRead (Word token.PassWord ∷ ts) (s, ts) in subst P (some_inj Pass s h) (Word token.PassWord ∷ [], refl, refl)
-word_reads (Word token.BreakWord ∷ ts) s h = let P : Stmt → Type 0 = λ s. SmallRead (Word token.BreakWord ∷ ts) (s, ts) in subst P (some_inj Break s h) (Word token.BreakWord ∷ [], refl, refl)
-word_reads (Word token.ContinueWord ∷ ts) s h = let P : Stmt → Type 0 = λ s. SmallRead (Word token.ContinueWord ∷ ts) (s, ts) in subst P (some_inj Continue s h) (Word token.ContinueWord ∷ [], refl, refl)
+word_reads (Word token.PassWord ∷ ts) s h = let P : Stmt → Type 0 = λ s. SmallRead (Word token.PassWord ∷ ts) (s, ts) in subst P (some_inj tree.Pass s h) (Word token.PassWord ∷ [], refl, refl)
+word_reads (Word token.BreakWord ∷ ts) s h = let P : Stmt → Type 0 = λ s. SmallRead (Word token.BreakWord ∷ ts) (s, ts) in subst P (some_inj tree.Break s h) (Word token.BreakWord ∷ [], refl, refl)
+word_reads (Word token.ContinueWord ∷ ts) s h = let P : Stmt → Type 0 = λ s. SmallRead (Word token.ContinueWord ∷ ts) (s, ts) in subst P (some_inj tree.Continue s h) (Word token.ContinueWord ∷ [], refl, refl)
 word_reads (_ ∷ ts) s h = cc
 
 -- the tokens of an expression that may be left out
@@ -137,34 +138,34 @@ value_reads ts r h =
     subst P (some_inj (Some s.0.0, s.0.2) r s.2) (a.0.front, a.0.split, spells_deeper s.0.1 max_depth a.1 1 s.0.0 a.0.front a.0.spelled))
     (chosen (ends_small ts) (Some (None, ts)) (then_read (expression_at max_depth 1 ts) (λ r. Some (Some r.0, r.2))) (Some r) h)
 
-returned_small : (a : Option Expr) (f : List Terminal) → Value a f → Small (Return a) (Word token.ReturnWord ∷ f)
+returned_small : (a : Option Expr) (f : List Terminal) → Value a f → Small (tree.Return a) (Word token.ReturnWord ∷ f)
 returned_small None f h = ap (λ t. Word token.ReturnWord ∷ t) h
 returned_small (Some e) f h = (f, refl, h)
 
-raised_small : (a : Option Expr) (f : List Terminal) → Value a f → Small (Raise a) (Word token.RaiseWord ∷ f)
+raised_small : (a : Option Expr) (f : List Terminal) → Value a f → Small (tree.Raise a) (Word token.RaiseWord ∷ f)
 raised_small None f h = ap (λ t. Word token.RaiseWord ∷ t) h
 raised_small (Some e) f h = (f, refl, h)
 
 returned_reads : (ts : List Terminal) (r : Stmt × List Terminal) → returned_by (expression_at max_depth) ts ≡ Some r → SmallRead (Word token.ReturnWord ∷ ts) r
 returned_reads ts r h =
-    let s = then_read_some (value_by (expression_at max_depth) ts) (λ r. Some (Return r.0, r.1)) r h in
+    let s = then_read_some (value_by (expression_at max_depth) ts) (λ r. Some (tree.Return r.0, r.1)) r h in
     let v = value_reads ts s.0 s.1 in
     let P : Stmt × List Terminal → Type 0 = SmallRead (Word token.ReturnWord ∷ ts) in
-    subst P (some_inj (Return s.0.0, s.0.1) r s.2) (Word token.ReturnWord ∷ v.0, ap (λ t. Word token.ReturnWord ∷ t) v.1, returned_small s.0.0 v.0 v.2)
+    subst P (some_inj (tree.Return s.0.0, s.0.1) r s.2) (Word token.ReturnWord ∷ v.0, ap (λ t. Word token.ReturnWord ∷ t) v.1, returned_small s.0.0 v.0 v.2)
 
 raised_reads : (ts : List Terminal) (r : Stmt × List Terminal) → raised_by (expression_at max_depth) ts ≡ Some r → SmallRead (Word token.RaiseWord ∷ ts) r
 raised_reads ts r h =
-    let s = then_read_some (value_by (expression_at max_depth) ts) (λ r. Some (Raise r.0, r.1)) r h in
+    let s = then_read_some (value_by (expression_at max_depth) ts) (λ r. Some (tree.Raise r.0, r.1)) r h in
     let v = value_reads ts s.0 s.1 in
     let P : Stmt × List Terminal → Type 0 = SmallRead (Word token.RaiseWord ∷ ts) in
-    subst P (some_inj (Raise s.0.0, s.0.1) r s.2) (Word token.RaiseWord ∷ v.0, ap (λ t. Word token.RaiseWord ∷ t) v.1, raised_small s.0.0 v.0 v.2)
+    subst P (some_inj (tree.Raise s.0.0, s.0.1) r s.2) (Word token.RaiseWord ∷ v.0, ap (λ t. Word token.RaiseWord ∷ t) v.1, raised_small s.0.0 v.0 v.2)
 
 global_reads : (ts : List Terminal) (r : Stmt × List Terminal) → global_by ts ≡ Some r → SmallRead (Word token.GlobalWord ∷ ts) r
 global_reads ts r h =
-    let s = then_read_some (names_by ts) (λ r. Some (Global r.0, r.1)) r h in
+    let s = then_read_some (names_by ts) (λ r. Some (tree.Global r.0, r.1)) r h in
     let n = names_reads ts s.0 s.1 in
     let P : Stmt × List Terminal → Type 0 = SmallRead (Word token.GlobalWord ∷ ts) in
-    subst P (some_inj (Global s.0.0, s.0.1) r s.2) (Word token.GlobalWord ∷ n.0, ap (λ t. Word token.GlobalWord ∷ t) n.1, (n.0, refl, n.2))
+    subst P (some_inj (tree.Global s.0.0, s.0.1) r s.2) (Word token.GlobalWord ∷ n.0, ap (λ t. Word token.GlobalWord ∷ t) n.1, (n.0, refl, n.2))
 
 small_reads : (ts : List Terminal) (o : Option Stmt) (p q x : Option (List Terminal)) → word_statement ts ≡ o → after (Word token.ReturnWord) ts ≡ p → after (Word token.GlobalWord) ts ≡ q → after (Word token.RaiseWord) ts ≡ x → (r : Stmt × List Terminal)
     → small_from (expression_at max_depth) ts o p q x ≡ Some r → SmallRead ts r
@@ -193,18 +194,18 @@ by_expression m e f more h =
     ∙ ap (λ o. small_from (expression_at max_depth) ts None None o (after (Word token.RaiseWord) ts)) (global_not ts start)
     ∙ ap (λ o. small_from (expression_at max_depth) ts None None None o) (raise_not ts start)
 
-assigned_complete : (x : Text) (a : Option BinaryOperator) (e : Expr) (f g whole more : List Terminal) → whole ≡ f ++ Sign (sign_of a) ∷ g → IsExpression (Name x) f → IsExpression e g → Follows more → statement_by (expression_at max_depth) (whole ++ more) ≡ Some (assigned (Named x) a e, more)
+assigned_complete : (x : Text) (a : Option BinaryOperator) (e : Expr) (f g whole more : List Terminal) → whole ≡ f ++ Sign (sign_of a) ∷ g → IsExpression (tree.Name x) f → IsExpression e g → Follows more → statement_by (expression_at max_depth) (whole ++ more) ≡ Some (assigned (tree.Named x) a e, more)
 assigned_complete x a e f g whole more is hx he ends =
     let behind = g ++ more in
     let weak = sign_weak a behind in
-    let c = expression_complete max_depth max_depth 1 (Name x) f (Sign (sign_of a) ∷ behind) (omega arith) (omega arith) hx weak.0 weak.1 in
+    let c = expression_complete max_depth max_depth 1 (tree.Name x) f (Sign (sign_of a) ∷ behind) (omega arith) (omega arith) hx weak.0 weak.1 in
     let d = expression_complete max_depth max_depth 1 e g more (omega arith) (omega arith) he ends.0 ends.1 in
     let split : whole ++ more ≡ f ++ Sign (sign_of a) ∷ behind = ap (λ t. t ++ more) is ∙ append_assoc f (Sign (sign_of a) ∷ g) more in
     ap (statement_by (expression_at max_depth)) split
-    ∙ by_expression max_depth (Name x) f (Sign (sign_of a) ∷ behind) hx
+    ∙ by_expression max_depth (tree.Name x) f (Sign (sign_of a) ∷ behind) hx
     ∙ ap (λ r. then_read r (λ r. statement_from (expression_at max_depth) r.2 r.0 (assignment_at r.2))) c.3
-    ∙ ap (statement_from (expression_at max_depth) (Sign (sign_of a) ∷ behind) (Name x)) (assignment_is a behind)
-    ∙ ap (λ r. then_read r (λ r. Some (assigned (Named x) a r.0, r.2))) d.3
+    ∙ ap (statement_from (expression_at max_depth) (Sign (sign_of a) ∷ behind) (tree.Name x)) (assignment_is a behind)
+    ∙ ap (λ r. then_read r (λ r. Some (assigned (tree.Named x) a r.0, r.2))) d.3
 
 small_over : (ts : List Terminal) → ends_small ts ≡ true → (0 < length ts) × (no_comma ts ≡ true)
 small_over [] h = cc
@@ -226,57 +227,57 @@ value_some e f more h ends =
     value_if (ends_small (f ++ more)) false (f ++ more) on refl ∙ ap (λ o. then_read o (λ r. Some (Some r.0, r.2))) c.3
 
 statement_complete : (s : Stmt) (f more : List Terminal) → Small s f → Follows more → statement_by (expression_at max_depth) (f ++ more) ≡ Some (s, more)
-statement_complete (Evaluate e) f more h ends =
+statement_complete (tree.Evaluate e) f more h ends =
     let c = expression_complete max_depth max_depth 1 e f more (omega arith) (omega arith) h ends.0 ends.1 in
     by_expression max_depth e f more h ∙ ap (λ r. then_read r (λ r. statement_from (expression_at max_depth) r.2 r.0 (assignment_at r.2))) c.3 ∙ ap (statement_from (expression_at max_depth) more e) ends.2
-statement_complete (Assign (Named x) e) f more h ends = assigned_complete x None e h.0 h.1 f more h.2 h.3 h.4 ends
-statement_complete (Augment (Named x) op e) f more h ends = assigned_complete x (Some op) e h.0 h.1 f more h.2 h.3 h.4 ends
-statement_complete Pass f more h ends = ap (λ t. statement_by (expression_at max_depth) (t ++ more)) h
-statement_complete Break f more h ends = ap (λ t. statement_by (expression_at max_depth) (t ++ more)) h
-statement_complete Continue f more h ends = ap (λ t. statement_by (expression_at max_depth) (t ++ more)) h
-statement_complete (Return None) f more h ends =
-    ap (λ t. statement_by (expression_at max_depth) (t ++ more)) h ∙ ap (λ o. then_read o (λ r. Some (Return r.0, r.1))) (value_none more ends)
-statement_complete (Return (Some e)) f more h ends =
-    ap (λ t. statement_by (expression_at max_depth) (t ++ more)) h.1 ∙ ap (λ o. then_read o (λ r. Some (Return r.0, r.1))) (value_some e h.0 more h.2 ends)
-statement_complete (Raise None) f more h ends =
-    ap (λ t. statement_by (expression_at max_depth) (t ++ more)) h ∙ ap (λ o. then_read o (λ r. Some (Raise r.0, r.1))) (value_none more ends)
-statement_complete (Raise (Some e)) f more h ends =
-    ap (λ t. statement_by (expression_at max_depth) (t ++ more)) h.1 ∙ ap (λ o. then_read o (λ r. Some (Raise r.0, r.1))) (value_some e h.0 more h.2 ends)
-statement_complete (Global xs) f more h ends =
+statement_complete (tree.Assign (tree.Named x) e) f more h ends = assigned_complete x None e h.0 h.1 f more h.2 h.3 h.4 ends
+statement_complete (tree.Augment (tree.Named x) op e) f more h ends = assigned_complete x (Some op) e h.0 h.1 f more h.2 h.3 h.4 ends
+statement_complete tree.Pass f more h ends = ap (λ t. statement_by (expression_at max_depth) (t ++ more)) h
+statement_complete tree.Break f more h ends = ap (λ t. statement_by (expression_at max_depth) (t ++ more)) h
+statement_complete tree.Continue f more h ends = ap (λ t. statement_by (expression_at max_depth) (t ++ more)) h
+statement_complete (tree.Return None) f more h ends =
+    ap (λ t. statement_by (expression_at max_depth) (t ++ more)) h ∙ ap (λ o. then_read o (λ r. Some (tree.Return r.0, r.1))) (value_none more ends)
+statement_complete (tree.Return (Some e)) f more h ends =
+    ap (λ t. statement_by (expression_at max_depth) (t ++ more)) h.1 ∙ ap (λ o. then_read o (λ r. Some (tree.Return r.0, r.1))) (value_some e h.0 more h.2 ends)
+statement_complete (tree.Raise None) f more h ends =
+    ap (λ t. statement_by (expression_at max_depth) (t ++ more)) h ∙ ap (λ o. then_read o (λ r. Some (tree.Raise r.0, r.1))) (value_none more ends)
+statement_complete (tree.Raise (Some e)) f more h ends =
+    ap (λ t. statement_by (expression_at max_depth) (t ++ more)) h.1 ∙ ap (λ o. then_read o (λ r. Some (tree.Raise r.0, r.1))) (value_some e h.0 more h.2 ends)
+statement_complete (tree.Global xs) f more h ends =
     let over = small_over more ends.3 in
     ap (λ t. statement_by (expression_at max_depth) (t ++ more)) h.1
-    ∙ ap (λ o. then_read o (λ r. Some (Global r.0, r.1))) (names_complete xs h.0 more h.2 over.0 over.1)
-statement_complete (Define x ps body) f more h ends = absurd h
-statement_complete (If test body other) f more h ends = absurd h
-statement_complete (While test body other) f more h ends = absurd h
-statement_complete (For x over body other) f more h ends = absurd h
-statement_complete (Try body cs other) f more h ends = absurd h
-statement_complete (Finally body cs other last) f more h ends = absurd h
+    ∙ ap (λ o. then_read o (λ r. Some (tree.Global r.0, r.1))) (names_complete xs h.0 more h.2 over.0 over.1)
+statement_complete (tree.Define x ps body) f more h ends = absurd h
+statement_complete (tree.If test body other) f more h ends = absurd h
+statement_complete (tree.While test body other) f more h ends = absurd h
+statement_complete (tree.For x over body other) f more h ends = absurd h
+statement_complete (tree.Try body cs other) f more h ends = absurd h
+statement_complete (tree.Finally body cs other last) f more h ends = absurd h
 
 expression_starts : (e : Expr) (f more : List Terminal) → IsExpression e f → starts (f ++ more) ≡ true
 expression_starts e f more h = starts_operand (f ++ more) (expression_begins max_depth 1 e f h more)
 
-target_starts : (x : Text) (s : Symbol) (f g whole more : List Terminal) → whole ≡ f ++ Sign s ∷ g → IsExpression (Name x) f → starts (whole ++ more) ≡ true
-target_starts x s f g whole more is h = ap starts (ap (λ t. t ++ more) is ∙ append_assoc f (Sign s ∷ g) more) ∙ expression_starts (Name x) f (Sign s ∷ (g ++ more)) h
+target_starts : (x : Text) (s : Symbol) (f g whole more : List Terminal) → whole ≡ f ++ Sign s ∷ g → IsExpression (tree.Name x) f → starts (whole ++ more) ≡ true
+target_starts x s f g whole more is h = ap starts (ap (λ t. t ++ more) is ∙ append_assoc f (Sign s ∷ g) more) ∙ expression_starts (tree.Name x) f (Sign s ∷ (g ++ more)) h
 
 pub small_starts : (s : Stmt) (f more : List Terminal) → Small s f → starts (f ++ more) ≡ true
-small_starts (Evaluate e) f more h = expression_starts e f more h
-small_starts (Assign (Named x) e) f more h = target_starts x token.Equal h.0 h.1 f more h.2 h.3
-small_starts (Augment (Named x) op e) f more h = target_starts x (augmented_of op) h.0 h.1 f more h.2 h.3
-small_starts Pass f more h = ap (λ t. starts (t ++ more)) h
-small_starts Break f more h = ap (λ t. starts (t ++ more)) h
-small_starts Continue f more h = ap (λ t. starts (t ++ more)) h
-small_starts (Return None) f more h = ap (λ t. starts (t ++ more)) h
-small_starts (Return (Some e)) f more h = ap (λ t. starts (t ++ more)) h.1
-small_starts (Global xs) f more h = ap (λ t. starts (t ++ more)) h.1
-small_starts (Define x ps body) f more h = absurd h
-small_starts (If test body other) f more h = absurd h
-small_starts (Raise None) f more h = ap (λ t. starts (t ++ more)) h
-small_starts (Raise (Some e)) f more h = ap (λ t. starts (t ++ more)) h.1
-small_starts (While test body other) f more h = absurd h
-small_starts (For x over body other) f more h = absurd h
-small_starts (Try body cs other) f more h = absurd h
-small_starts (Finally body cs other last) f more h = absurd h
+small_starts (tree.Evaluate e) f more h = expression_starts e f more h
+small_starts (tree.Assign (tree.Named x) e) f more h = target_starts x token.Equal h.0 h.1 f more h.2 h.3
+small_starts (tree.Augment (tree.Named x) op e) f more h = target_starts x (augmented_of op) h.0 h.1 f more h.2 h.3
+small_starts tree.Pass f more h = ap (λ t. starts (t ++ more)) h
+small_starts tree.Break f more h = ap (λ t. starts (t ++ more)) h
+small_starts tree.Continue f more h = ap (λ t. starts (t ++ more)) h
+small_starts (tree.Return None) f more h = ap (λ t. starts (t ++ more)) h
+small_starts (tree.Return (Some e)) f more h = ap (λ t. starts (t ++ more)) h.1
+small_starts (tree.Global xs) f more h = ap (λ t. starts (t ++ more)) h.1
+small_starts (tree.Define x ps body) f more h = absurd h
+small_starts (tree.If test body other) f more h = absurd h
+small_starts (tree.Raise None) f more h = ap (λ t. starts (t ++ more)) h
+small_starts (tree.Raise (Some e)) f more h = ap (λ t. starts (t ++ more)) h.1
+small_starts (tree.While test body other) f more h = absurd h
+small_starts (tree.For x over body other) f more h = absurd h
+small_starts (tree.Try body cs other) f more h = absurd h
+small_starts (tree.Finally body cs other last) f more h = absurd h
 
 separated_starts : (line : List Stmt) (f more : List Terminal) → 0 < length line → Separated Small token.Semicolon line f → starts (f ++ more) ≡ true
 separated_starts [] f more some h = absurd (omega arith)

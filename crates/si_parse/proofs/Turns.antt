@@ -3,7 +3,8 @@ use Rattle.std.proofs.Common.{◌≡◌, ℕ, ◌+◌, ◌-◌, ◌<◌, ◌≤�
 use Rattle.std.specs.Prelude.{nat_lt, Bool, true, false, if◌then◌else◌}
 use Rattle.std.proofs.lemmas.Bool.Decides.{nat_tests}
 use Rattle.si_semantics.specs.Value.{Text}
-use Rattle.si_semantics.specs.Tree.{Expr, Stmt, Stmts, Try}
+use Rattle.si_semantics.specs.Tree as tree
+use Rattle.si_semantics.specs.Tree.{Expr, Stmt, Stmts}
 use Rattle.si_semantics.specs.Tokens as token
 use Rattle.si_semantics.specs.Grammar.{Terminal, DEDENT, Branch, stmts_of, Clause, clauses_of, Sign, Word}
 use Rattle.si_parse.specs.declared.fault.ParseFault.{ParseFault}
@@ -122,7 +123,7 @@ pub handled_none : (line : LineParser) (cs : List Clause) (ts : List Terminal) �
 handled_none line [] ts none = refl
 handled_none line (c ∷ cs) ts none = absurd (omega arith)
 
-pub tried_some : (body : Stmts) (cs : List Clause) (last : List Stmt) (ts : List Terminal) → 0 < length cs → tried body cs last ts ≡ Some (Try body (clauses_of cs) (stmts_of last), ts)
+pub tried_some : (body : Stmts) (cs : List Clause) (last : List Stmt) (ts : List Terminal) → 0 < length cs → tried body cs last ts ≡ Some (tree.Try body (clauses_of cs) (stmts_of last), ts)
 tried_some body [] last ts some = absurd (omega arith)
 tried_some body (c ∷ cs) last ts some = refl
 
@@ -131,7 +132,7 @@ tried_none body [] last ts none = refl
 tried_none body (c ∷ cs) last ts none = absurd (omega arith)
 
 pub try_read : (line : LineParser) (ts : List Terminal) (body : List Stmt) (behind : List Terminal) (cs : List Clause) (last : List Stmt) (more : List Terminal) → suite_by line ts ≡ Some (body, behind)
-    → handlers_by line behind ≡ Some ((cs, last), more) → after (Word token.FinallyWord) more ≡ None → 0 < length cs → try_by line ts ≡ Some (Try (stmts_of body) (clauses_of cs) (stmts_of last), more)
+    → handlers_by line behind ≡ Some ((cs, last), more) → after (Word token.FinallyWord) more ≡ None → 0 < length cs → try_by line ts ≡ Some (tree.Try (stmts_of body) (clauses_of cs) (stmts_of last), more)
 try_read line ts body behind cs last more h i not_finally some =
     ap (λ o. then_read o (λ b. then_read (handlers_by line b.1) (λ h. finally_from line (stmts_of b.0) h (after (Word token.FinallyWord) h.1)))) h
     ∙ ap (λ o. then_read o (λ h. finally_from line (stmts_of body) h (after (Word token.FinallyWord) h.1))) i

@@ -6,7 +6,8 @@ use Rattle.std.specs.Result.{IsErrAnd}
 use Rattle.std.proofs.lemmas.List.{append-nil, map-append}
 use Rattle.std.proofs.Math.Bool.{and_assoc}
 use Rattle.si_semantics.specs.Value.{Text}
-use Rattle.si_semantics.specs.Tree.{Stmt, Evaluate, Assign, Augment, Pass, If, While, For, Break, Continue, Define, Return, Global, Raise, Try, Finally, Stmts, NoStmts, MoreStmts, Clauses, NoClauses, MoreClauses, Function, functions_of, functions_in, functions_in_clauses}
+use Rattle.si_semantics.specs.Tree as tree
+use Rattle.si_semantics.specs.Tree.{Stmt, Stmts, Clauses, Function, functions_of, functions_in, functions_in_clauses}
 use Rattle.si_semantics.specs.Scope.{locals_of, with_new, bound_in, declared_in, InText, stmt_scoped, stmts_scoped, clauses_scoped, is_scoped}
 use Rattle.si_scope.specs.declared.fault.ScopeFault.{ScopeFault}
 use Rattle.si_scope.specs.declared.fault.ScopeFault.TheVariants.{Scope, NoMemory}
@@ -32,34 +33,34 @@ two_texts f o names fs gs p q now later = ap (option_and_then f) now ∙ then_sa
 
 mutual
   stmt_is : (a : Stmt) (loop : Bool) (names : List (List Text)) → resolved a loop names ≡ behind names (functions_of a) (stmt_scoped (InText loop) a)
-  stmt_is (Evaluate e) loop names = none_behind names
-  stmt_is (Assign t e) loop names = none_behind names
-  stmt_is (Augment t o e) loop names = none_behind names
-  stmt_is Pass loop names = none_behind names
-  stmt_is (If a b c) loop names =
+  stmt_is (tree.Evaluate e) loop names = none_behind names
+  stmt_is (tree.Assign t e) loop names = none_behind names
+  stmt_is (tree.Augment t o e) loop names = none_behind names
+  stmt_is tree.Pass loop names = none_behind names
+  stmt_is (tree.If a b c) loop names =
       two_texts (resolved_all c loop) (resolved_all b loop names) names (functions_in b) (functions_in c) (stmts_scoped (InText loop) b) (stmts_scoped (InText loop) c) (stmts_are b loop names) (stmts_are c loop)
-  stmt_is (While a b c) loop names =
+  stmt_is (tree.While a b c) loop names =
       two_texts (resolved_all c loop) (resolved_all b true names) names (functions_in b) (functions_in c) (stmts_scoped (InText true) b) (stmts_scoped (InText loop) c) (stmts_are b true names) (stmts_are c loop)
-  stmt_is (For t a b c) loop names =
+  stmt_is (tree.For t a b c) loop names =
       two_texts (resolved_all c loop) (resolved_all b true names) names (functions_in b) (functions_in c) (stmts_scoped (InText true) b) (stmts_scoped (InText loop) c) (stmts_are b true names) (stmts_are c loop)
-  stmt_is Break loop names = ap (λ l. if loop then Some l else None) (sym (append-nil names))
-  stmt_is Continue loop names = ap (λ l. if loop then Some l else None) (sym (append-nil names))
-  stmt_is (Define f ps b) loop names =
-      ap (option_map (λ locals. names ++ locals ∷ [])) (local_is ps b) ∙ by (stmt_scoped (InText loop) (Define f ps b))
+  stmt_is tree.Break loop names = ap (λ l. if loop then Some l else None) (sym (append-nil names))
+  stmt_is tree.Continue loop names = ap (λ l. if loop then Some l else None) (sym (append-nil names))
+  stmt_is (tree.Define f ps b) loop names =
+      ap (option_map (λ locals. names ++ locals ∷ [])) (local_is ps b) ∙ by (stmt_scoped (InText loop) (tree.Define f ps b))
     where
       by : (h : Bool) → option_map (λ locals. names ++ locals ∷ []) (if h then Some (with_new ps (declared_in b) (bound_in b)) else None) ≡ (if h then Some (names ++ with_new ps (declared_in b) (bound_in b) ∷ []) else None)
       by true = refl
       by false = refl
-  stmt_is (Return a) loop names = refl
-  stmt_is (Global xs) loop names = refl
-  stmt_is (Raise a) loop names = none_behind names
-  stmt_is (Try b cs c) loop names =
+  stmt_is (tree.Return a) loop names = refl
+  stmt_is (tree.Global xs) loop names = refl
+  stmt_is (tree.Raise a) loop names = none_behind names
+  stmt_is (tree.Try b cs c) loop names =
       let w = InText loop in
       two_texts (λ more. option_and_then (resolved_all c loop) (resolved_clauses cs loop more)) (resolved_all b loop names) names (functions_in b) (functions_in_clauses cs ++ functions_in c)
       (stmts_scoped w b) (clauses_scoped w cs && stmts_scoped w c) (stmts_are b loop names)
       (λ more. two_texts (resolved_all c loop) (resolved_clauses cs loop more) more (functions_in_clauses cs) (functions_in c) (clauses_scoped w cs) (stmts_scoped w c) (clauses_are cs loop more) (stmts_are c loop))
       ∙ ap (behind names (functions_in b ++ (functions_in_clauses cs ++ functions_in c))) (sym (and_assoc (stmts_scoped w b) (clauses_scoped w cs) (stmts_scoped w c)))
-  stmt_is (Finally b cs c f) loop names =
+  stmt_is (tree.Finally b cs c f) loop names =
       let w = InText loop in
       let end = stmts_scoped (InText false) f in
       two_texts (λ more. option_and_then (resolved_all f false) (option_and_then (resolved_all c loop) (resolved_clauses cs loop more))) (resolved_all b loop names) names
@@ -72,13 +73,13 @@ mutual
       (sym (and_assoc (stmts_scoped w b) (clauses_scoped w cs) (stmts_scoped w c && end)) ∙ sym (and_assoc (stmts_scoped w b && clauses_scoped w cs) (stmts_scoped w c) end))
 
   stmts_are : (b : Stmts) (loop : Bool) (names : List (List Text)) → resolved_all b loop names ≡ behind names (functions_in b) (stmts_scoped (InText loop) b)
-  stmts_are NoStmts loop names = none_behind names
-  stmts_are (MoreStmts a b) loop names =
+  stmts_are tree.NoStmts loop names = none_behind names
+  stmts_are (tree.MoreStmts a b) loop names =
       two_texts (resolved_all b loop) (resolved a loop names) names (functions_of a) (functions_in b) (stmt_scoped (InText loop) a) (stmts_scoped (InText loop) b) (stmt_is a loop names) (stmts_are b loop)
 
   clauses_are : (cs : Clauses) (loop : Bool) (names : List (List Text)) → resolved_clauses cs loop names ≡ behind names (functions_in_clauses cs) (clauses_scoped (InText loop) cs)
-  clauses_are NoClauses loop names = none_behind names
-  clauses_are (MoreClauses a y b cs) loop names =
+  clauses_are tree.NoClauses loop names = none_behind names
+  clauses_are (tree.MoreClauses a y b cs) loop names =
       two_texts (resolved_clauses cs loop) (resolved_all b loop names) names (functions_in b) (functions_in_clauses cs) (stmts_scoped (InText loop) b) (clauses_scoped (InText loop) cs) (stmts_are b loop names) (clauses_are cs loop)
 
 -- a script that the walk gets through is resolved

@@ -5,7 +5,8 @@ use Rattle.std.specs.Option.{option_and_then, option_map}
 use Rattle.std.proofs.Math.Bool.{and_assoc, or-false}
 use Rattle.std.proofs.lemmas.List.{append-nil}
 use Rattle.si_semantics.specs.Value.{Text}
-use Rattle.si_semantics.specs.Tree.{Expr, Stmt, Named, Evaluate, Assign, Augment, Pass, If, While, For, Break, Continue, Define, Return, Global, Raise, Try, Finally, Stmts, NoStmts, MoreStmts, Clauses, NoClauses, MoreClauses}
+use Rattle.si_semantics.specs.Tree as tree
+use Rattle.si_semantics.specs.Tree.{Expr, Stmt, Stmts, Clauses}
 use Rattle.si_semantics.specs.Scope.{is_in, are_apart, are_distinct, with_new, names_of, names_of_value, name_in, bound_by, bound_in, bound_in_clauses, declared_by, declared_in, declared_in_clauses, used_by, used_in, used_in_clauses, declares_first, declare_first, clauses_declare_first, InText, InFunction, stmt_scoped, stmts_scoped, clauses_scoped}
 use Rattle.si_scope.specs.declared.seen.Seen.{Seen}
 use Rattle.si_scope.specs.inner.Walk.{with_names, using, binding_any, declaring, after, after_all, after_clauses, local_to}
@@ -176,36 +177,36 @@ two_suites n ub uc bb bc in_b in_c = in_both (n ++ ub) uc bb bc (behind_names n 
 
 mutual
   bound_apart : (a : Stmt) → Within (bound_by a) (used_by a)
-  bound_apart (Evaluate e) = no_names (names_of e)
-  bound_apart (Assign (Named x) e) = name_first x (names_of e) [] (no_names (names_of e))
-  bound_apart (Augment (Named x) o e) = name_first x (names_of e) [] (no_names (names_of e))
-  bound_apart Pass = no_names []
-  bound_apart (If a b c) = two_suites (names_of a) (used_in b) (used_in c) (bound_in b) (bound_in c) (all_bound_apart b) (all_bound_apart c)
-  bound_apart (While a b c) = two_suites (names_of a) (used_in b) (used_in c) (bound_in b) (bound_in c) (all_bound_apart b) (all_bound_apart c)
-  bound_apart (For (Named x) a b c) =
+  bound_apart (tree.Evaluate e) = no_names (names_of e)
+  bound_apart (tree.Assign (tree.Named x) e) = name_first x (names_of e) [] (no_names (names_of e))
+  bound_apart (tree.Augment (tree.Named x) o e) = name_first x (names_of e) [] (no_names (names_of e))
+  bound_apart tree.Pass = no_names []
+  bound_apart (tree.If a b c) = two_suites (names_of a) (used_in b) (used_in c) (bound_in b) (bound_in c) (all_bound_apart b) (all_bound_apart c)
+  bound_apart (tree.While a b c) = two_suites (names_of a) (used_in b) (used_in c) (bound_in b) (bound_in c) (all_bound_apart b) (all_bound_apart c)
+  bound_apart (tree.For (tree.Named x) a b c) =
       name_first x ((names_of a ++ used_in b) ++ used_in c) (bound_in b ++ bound_in c)
       (two_suites (names_of a) (used_in b) (used_in c) (bound_in b) (bound_in c) (all_bound_apart b) (all_bound_apart c))
-  bound_apart Break = no_names []
-  bound_apart Continue = no_names []
-  bound_apart (Define f ps b) = λ ys h. h
-  bound_apart (Return a) = no_names (names_of_value a)
-  bound_apart (Global xs) = no_names []
-  bound_apart (Raise a) = no_names (names_of_value a)
-  bound_apart (Try b cs c) =
+  bound_apart tree.Break = no_names []
+  bound_apart tree.Continue = no_names []
+  bound_apart (tree.Define f ps b) = λ ys h. h
+  bound_apart (tree.Return a) = no_names (names_of_value a)
+  bound_apart (tree.Global xs) = no_names []
+  bound_apart (tree.Raise a) = no_names (names_of_value a)
+  bound_apart (tree.Try b cs c) =
       in_both (used_in b) (used_in_clauses cs ++ used_in c) (bound_in b) (bound_in_clauses cs ++ bound_in c) (all_bound_apart b)
       (in_both (used_in_clauses cs) (used_in c) (bound_in_clauses cs) (bound_in c) (clauses_bound_apart cs) (all_bound_apart c))
-  bound_apart (Finally b cs c f) =
+  bound_apart (tree.Finally b cs c f) =
       in_both (used_in b) (used_in_clauses cs ++ (used_in c ++ used_in f)) (bound_in b) (bound_in_clauses cs ++ (bound_in c ++ bound_in f)) (all_bound_apart b)
       (in_both (used_in_clauses cs) (used_in c ++ used_in f) (bound_in_clauses cs) (bound_in c ++ bound_in f) (clauses_bound_apart cs)
       (in_both (used_in c) (used_in f) (bound_in c) (bound_in f) (all_bound_apart c) (all_bound_apart f)))
 
   all_bound_apart : (b : Stmts) → Within (bound_in b) (used_in b)
-  all_bound_apart NoStmts = no_names []
-  all_bound_apart (MoreStmts a b) = in_both (used_by a) (used_in b) (bound_by a) (bound_in b) (bound_apart a) (all_bound_apart b)
+  all_bound_apart tree.NoStmts = no_names []
+  all_bound_apart (tree.MoreStmts a b) = in_both (used_by a) (used_in b) (bound_by a) (bound_in b) (bound_apart a) (all_bound_apart b)
 
   clauses_bound_apart : (cs : Clauses) → Within (bound_in_clauses cs) (used_in_clauses cs)
-  clauses_bound_apart NoClauses = no_names []
-  clauses_bound_apart (MoreClauses a y b cs) =
+  clauses_bound_apart tree.NoClauses = no_names []
+  clauses_bound_apart (tree.MoreClauses a y b cs) =
       behind_names (names_of_value a) (name_in y ++ (used_in b ++ used_in_clauses cs)) (name_in y ++ (bound_in b ++ bound_in_clauses cs))
       (in_both (name_in y) (used_in b ++ used_in_clauses cs) (name_in y) (bound_in b ++ bound_in_clauses cs) (λ ys h. h)
       (in_both (used_in b) (used_in_clauses cs) (bound_in b) (bound_in_clauses cs) (all_bound_apart b) (clauses_bound_apart cs)))
@@ -229,30 +230,30 @@ named s a (Some x) = ap (λ u. seen_of u s.declared (with_new s.locals s.declare
 
 mutual
   stmt_is : (a : Stmt) (loop returns : Bool) (s : Seen) → after a loop returns s ≡ given s (used_by a) (declared_by a) (bound_by a) (declares_first a && stmt_scoped (InFunction loop returns) a)
-  stmt_is (Evaluate e) loop returns s = one_row s (names_of e) []
-  stmt_is (Assign (Named x) e) loop returns s = one_row s (x ∷ names_of e) (x ∷ [])
-  stmt_is (Augment (Named x) o e) loop returns s = one_row s (x ∷ names_of e) (x ∷ [])
-  stmt_is Pass loop returns s = one_row s [] []
-  stmt_is (If a b c) loop returns s =
+  stmt_is (tree.Evaluate e) loop returns s = one_row s (names_of e) []
+  stmt_is (tree.Assign (tree.Named x) e) loop returns s = one_row s (x ∷ names_of e) (x ∷ [])
+  stmt_is (tree.Augment (tree.Named x) o e) loop returns s = one_row s (x ∷ names_of e) (x ∷ [])
+  stmt_is tree.Pass loop returns s = one_row s [] []
+  stmt_is (tree.If a b c) loop returns s =
       suites_are (after_all c loop returns) (after_all b loop returns (using (names_of a) s)) s (names_of a) [] (used_in b) (declared_in b) (bound_in b) (used_in c) (declared_in c) (bound_in c)
       (declare_first b) (stmts_scoped (InFunction loop returns) b) (declare_first c) (stmts_scoped (InFunction loop returns) c)
       (stmts_are b loop returns (using (names_of a) s)) (stmts_are c loop returns) (no_names (names_of a)) (all_bound_apart b)
-  stmt_is (While a b c) loop returns s =
+  stmt_is (tree.While a b c) loop returns s =
       suites_are (after_all c loop returns) (after_all b true returns (using (names_of a) s)) s (names_of a) [] (used_in b) (declared_in b) (bound_in b) (used_in c) (declared_in c) (bound_in c)
       (declare_first b) (stmts_scoped (InFunction true returns) b) (declare_first c) (stmts_scoped (InFunction loop returns) c)
       (stmts_are b true returns (using (names_of a) s)) (stmts_are c loop returns) (no_names (names_of a)) (all_bound_apart b)
-  stmt_is (For (Named x) a b c) loop returns s =
+  stmt_is (tree.For (tree.Named x) a b c) loop returns s =
       let front = seen_in s (x ∷ names_of a) [] (x ∷ []) in
       suites_are (after_all c loop returns) (after_all b true returns front) s (x ∷ names_of a) (x ∷ []) (used_in b) (declared_in b) (bound_in b) (used_in c) (declared_in c) (bound_in c)
       (declare_first b) (stmts_scoped (InFunction true returns) b) (declare_first c) (stmts_scoped (InFunction loop returns) c)
       (stmts_are b true returns front) (stmts_are c loop returns) (name_first x (names_of a) [] (no_names (names_of a))) (all_bound_apart b)
-  stmt_is Break loop returns s = ap (λ a. if a && loop then Some s else None) (sym (apart_nil s.used))
-  stmt_is Continue loop returns s = ap (λ a. if a && loop then Some s else None) (sym (apart_nil s.used))
-  stmt_is (Define f ps b) loop returns s = ap (λ a. if a && false then Some (seen_in s (f ∷ []) [] (f ∷ [])) else None) (sym (apart_nil s.used))
-  stmt_is (Return a) loop returns s = ap (λ b. if b && returns then Some (using (names_of_value a) s) else None) (sym (apart_nil s.used))
-  stmt_is (Global xs) loop returns s = declaring_is xs s
-  stmt_is (Raise a) loop returns s = one_row s (names_of_value a) []
-  stmt_is (Try b cs c) loop returns s =
+  stmt_is tree.Break loop returns s = ap (λ a. if a && loop then Some s else None) (sym (apart_nil s.used))
+  stmt_is tree.Continue loop returns s = ap (λ a. if a && loop then Some s else None) (sym (apart_nil s.used))
+  stmt_is (tree.Define f ps b) loop returns s = ap (λ a. if a && false then Some (seen_in s (f ∷ []) [] (f ∷ [])) else None) (sym (apart_nil s.used))
+  stmt_is (tree.Return a) loop returns s = ap (λ b. if b && returns then Some (using (names_of_value a) s) else None) (sym (apart_nil s.used))
+  stmt_is (tree.Global xs) loop returns s = declaring_is xs s
+  stmt_is (tree.Raise a) loop returns s = one_row s (names_of_value a) []
+  stmt_is (tree.Try b cs c) loop returns s =
       let w = InFunction loop returns in
       two_rows (λ t. option_and_then (after_all c loop returns) (after_clauses cs loop returns t)) (after_all b loop returns s) s (used_in b) (declared_in b) (bound_in b) (declare_first b && stmts_scoped w b)
       (used_in_clauses cs ++ used_in c) (declared_in_clauses cs ++ declared_in c) (bound_in_clauses cs ++ bound_in c)
@@ -263,7 +264,7 @@ mutual
       (all_bound_apart b (declared_in_clauses cs ++ declared_in c))
       ∙ ap (given s (used_in b ++ (used_in_clauses cs ++ used_in c)) (declared_in b ++ (declared_in_clauses cs ++ declared_in c)) (bound_in b ++ (bound_in_clauses cs ++ bound_in c)))
       (regrouped_try (are_apart (used_in b) (declared_in_clauses cs ++ declared_in c)) (are_apart (used_in_clauses cs) (declared_in c)) (declare_first b) (clauses_declare_first cs) (declare_first c) (stmts_scoped w b) (clauses_scoped w cs) (stmts_scoped w c))
-  stmt_is (Finally b cs c f) loop returns s =
+  stmt_is (tree.Finally b cs c f) loop returns s =
       let w = InFunction loop returns in
       let last = are_apart (used_in c) (declared_in f) && ((declare_first c && stmts_scoped w c) && (declare_first f && stmts_scoped (InFunction false false) f)) in
       two_rows (λ t. option_and_then (after_all f false false) (option_and_then (after_all c loop returns) (after_clauses cs loop returns t))) (after_all b loop returns s) s (used_in b) (declared_in b) (bound_in b) (declare_first b && stmts_scoped w b)
@@ -282,8 +283,8 @@ mutual
       (declare_first b) (clauses_declare_first cs) (declare_first c) (declare_first f) (stmts_scoped w b) (clauses_scoped w cs) (stmts_scoped w c) (stmts_scoped (InFunction false false) f))
 
   stmts_are : (b : Stmts) (loop returns : Bool) (s : Seen) → after_all b loop returns s ≡ given s (used_in b) (declared_in b) (bound_in b) (declare_first b && stmts_scoped (InFunction loop returns) b)
-  stmts_are NoStmts loop returns s = one_row s [] []
-  stmts_are (MoreStmts a b) loop returns s =
+  stmts_are tree.NoStmts loop returns s = one_row s [] []
+  stmts_are (tree.MoreStmts a b) loop returns s =
       let w = InFunction loop returns in
       two_rows (after_all b loop returns) (after a loop returns s) s (used_by a) (declared_by a) (bound_by a) (declares_first a && stmt_scoped w a) (used_in b) (declared_in b) (bound_in b) (declare_first b && stmts_scoped w b)
       (stmt_is a loop returns s) (stmts_are b loop returns) (bound_apart a (declared_in b))
@@ -292,8 +293,8 @@ mutual
 
   clauses_are : (cs : Clauses) (loop returns : Bool) (s : Seen)
       → after_clauses cs loop returns s ≡ given s (used_in_clauses cs) (declared_in_clauses cs) (bound_in_clauses cs) (clauses_declare_first cs && clauses_scoped (InFunction loop returns) cs)
-  clauses_are NoClauses loop returns s = one_row s [] []
-  clauses_are (MoreClauses a y b cs) loop returns s =
+  clauses_are tree.NoClauses loop returns s = one_row s [] []
+  clauses_are (tree.MoreClauses a y b cs) loop returns s =
       let w = InFunction loop returns in
       let n = names_of_value a ++ name_in y in
       let u = used_in b ++ used_in_clauses cs in
@@ -303,15 +304,15 @@ mutual
       ∙ suites_are (after_clauses cs loop returns) (after_all b loop returns (seen_in s n [] (name_in y))) s n (name_in y) (used_in b) (declared_in b) (bound_in b) (used_in_clauses cs) (declared_in_clauses cs) (bound_in_clauses cs)
       (declare_first b) (stmts_scoped w b) (clauses_declare_first cs) (clauses_scoped w cs)
       (stmts_are b loop returns (seen_in s n [] (name_in y))) (clauses_are cs loop returns) (behind_names (names_of_value a) (name_in y) (name_in y) (λ ys h. h)) (all_bound_apart b)
-      ∙ ap (λ r. given s r d m (clauses_declare_first (MoreClauses a y b cs) && clauses_scoped w (MoreClauses a y b cs))) (append_assoc n (used_in b) (used_in_clauses cs) ∙ append_assoc (names_of_value a) (name_in y) u)
+      ∙ ap (λ r. given s r d m (clauses_declare_first (tree.MoreClauses a y b cs) && clauses_scoped w (tree.MoreClauses a y b cs))) (append_assoc n (used_in b) (used_in_clauses cs) ∙ append_assoc (names_of_value a) (name_in y) u)
 
 -- what is local to a function, if it is well scoped
-pub local_is : (ps : List Text) (b : Stmts) → local_to ps b ≡ (if stmt_scoped (InText false) (Define [] ps b) then Some (with_new ps (declared_in b) (bound_in b)) else None)
+pub local_is : (ps : List Text) (b : Stmts) → local_to ps b ≡ (if stmt_scoped (InText false) (tree.Define [] ps b) then Some (with_new ps (declared_in b) (bound_in b)) else None)
 local_is ps b =
     let s = seen_of ps [] ps in
     ap (λ o. if are_distinct ps then option_map (λ (t : Seen). t.locals) o else None) (stmts_are b false true s)
     ∙ by (are_distinct ps) (are_apart ps (declared_in b)) (declare_first b) (stmts_scoped (InFunction false true) b) (seen_in s (used_in b) (declared_in b) (bound_in b))
-    ∙ ap (λ l. if stmt_scoped (InText false) (Define [] ps b) then Some l else None) (new_alike ps (with_names [] (declared_in b)) (declared_in b) (bound_in b) (λ x. in_names x [] (declared_in b)))
+    ∙ ap (λ l. if stmt_scoped (InText false) (tree.Define [] ps b) then Some l else None) (new_alike ps (with_names [] (declared_in b)) (declared_in b) (bound_in b) (λ x. in_names x [] (declared_in b)))
   where
     by : (d a f h : Bool) (t : Seen) → (if d then option_map (λ (u : Seen). u.locals) (if a && (f && h) then Some t else None) else None) ≡ (if ((d && a) && f) && h then Some t.locals else None)
     by false a f h t = refl

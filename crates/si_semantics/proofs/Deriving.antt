@@ -3,7 +3,8 @@ use Rattle.std.proofs.Common.{ℕ, suc, ◌<◌, ◌≤◌, List, [], ◌∷◌,
 use Rattle.std.specs.Prelude.{pos}
 use Rattle.std.proofs.lemmas.List.{append-nil}
 use Rattle.si_semantics.specs.Value.{Text}
-use Rattle.si_semantics.specs.Tree.{BinaryOperator, UnaryOperator, ComparisonOperator, Or, Expr, Name, Unary, Binary, Boolean, Compare, Comparisons, Stmt, Named, Stmts, Evaluate, Assign, If, While, NoStmts}
+use Rattle.si_semantics.specs.Tree as tree
+use Rattle.si_semantics.specs.Tree.{BinaryOperator, UnaryOperator, ComparisonOperator, Expr, Comparisons, Stmt, Stmts}
 use Rattle.si_semantics.specs.Tokens as tokens
 use Rattle.si_semantics.specs.Grammar.{Terminal, NAME, NUMBER, Sign, Word, NEWLINE, INDENT, DEDENT, ENDMARKER, level_of, left_level, right_level, symbol_of, prefix_level, prefix_of, comparison_of, is_identity, value_of_int, Many, Link, links_of, Compares, Spells, max_depth, Small, Simple, Suite, Nests, max_nesting, Derives}
 use Rattle.si_semantics.specs.Worked.Straight.{int, arguments, suite}
@@ -14,7 +15,7 @@ pub record Expression (n l : ℕ) (e : Expr) : Type 0 where
   pub terminals : List Terminal
   pub spelled : Spells n l e terminals
 
-abbrev pub name : {n l : ℕ} (y : Text) → Expression (suc n) l (Name y)
+abbrev pub name : {n l : ℕ} (y : Text) → Expression (suc n) l (tree.Name y)
 name y = record { terminals = NAME y ∷ []; spelled = inl refl }
 
 abbrev pub number : {n l : ℕ} (digits : List ℕ) (k : ℕ) → value_of_int digits ≡ Some (pos k)
@@ -29,12 +30,12 @@ in_brackets e =
     }
 
 abbrev pub unary : {n l : ℕ} {a : Expr} (op : UnaryOperator) → l ≤ prefix_level op → Expression n (prefix_level op) a
-    → Expression (suc n) l (Unary op a)
+    → Expression (suc n) l (tree.Unary op a)
 unary op h a = record { terminals = prefix_of op ∷ a.terminals; spelled = inl (a.terminals, refl, h, a.spelled) }
 
 abbrev pub binary : {n l : ℕ} {a b : Expr} (op : BinaryOperator) → l ≤ level_of op → Expression n (left_level op) a
     → Expression n (right_level op) b
-    → Expression (suc n) l (Binary op a b)
+    → Expression (suc n) l (tree.Binary op a b)
 binary op h a b =
     record {
       terminals = a.terminals ++ Sign (symbol_of op) ∷ b.terminals;
@@ -63,7 +64,7 @@ compares op h e more =
 
 abbrev pub comparison : {n l : ℕ} {a : Expr} {cs : Comparisons} → l ≤ 8 → 0 < length (links_of cs) → Expression n 10 a
     → Chain n (links_of cs)
-    → Expression (suc n) l (Compare a cs)
+    → Expression (suc n) l (tree.Compare a cs)
 comparison h some a cs =
     record {
       terminals = a.terminals ++ cs.terminals;
@@ -72,7 +73,7 @@ comparison h some a cs =
 
 -- two operands with `or` between them
 abbrev pub either : {n l : ℕ} {a b : Expr} → l ≤ 3 → Expression n 5 a → Expression n 5 b
-    → Expression (suc n) l (Boolean Or a (arguments (b ∷ [])))
+    → Expression (suc n) l (tree.Boolean tree.Or a (arguments (b ∷ [])))
 either h a b =
     record {
       terminals = a.terminals ++ Word tokens.OrWord ∷ b.terminals;
@@ -94,11 +95,11 @@ pub record Statement (s : Stmt) : Type 0 where
   pub terminals : List Terminal
   pub spelled : Small s terminals
 
-abbrev pub assigned : {e : Expr} (y : Text) → Expression max_depth 1 e → Statement (Assign (Named y) e)
+abbrev pub assigned : {e : Expr} (y : Text) → Expression max_depth 1 e → Statement (tree.Assign (tree.Named y) e)
 assigned y e =
     record { terminals = NAME y ∷ (Sign tokens.Equal ∷ e.terminals); spelled = (NAME y ∷ [], e.terminals, refl, inl refl, e.spelled) }
 
-abbrev pub evaluated : {e : Expr} → Expression max_depth 1 e → Statement (Evaluate e)
+abbrev pub evaluated : {e : Expr} → Expression max_depth 1 e → Statement (tree.Evaluate e)
 evaluated e = record { terminals = e.terminals; spelled = e.spelled }
 
 abbrev pub word : (s : Stmt) (w : tokens.Keyword) → Small s (Word w ∷ []) → Statement s
@@ -139,17 +140,17 @@ in_block {s = s} t h =
 
 -- an `if` with no other suite
 abbrev pub one_branch : {n : ℕ} {e : Expr} {s : Stmt} → Expression max_depth 1 e → Suited n s
-    → Nested (suc n) (If e (suite (s ∷ [])) NoStmts)
+    → Nested (suc n) (tree.If e (suite (s ∷ [])) tree.NoStmts)
 one_branch {e = e} {s = s} test body =
     record {
       terminals = Word tokens.IfWord ∷ (test.terminals ++ body.terminals);
       spelled =
           inr (
-            If e (suite (s ∷ [])) NoStmts,
+            tree.If e (suite (s ∷ [])) tree.NoStmts,
             refl,
             (
               [],
-              NoStmts,
+              tree.NoStmts,
               test.terminals ++ body.terminals,
               [],
               [],
@@ -165,14 +166,14 @@ one_branch {e = e} {s = s} test body =
 -- one with an `elif` and an else suite
 abbrev pub three_branches : {n : ℕ} {a b : Expr} {s t u : Stmt} → Expression max_depth 1 a → Suited n s
     → Expression max_depth 1 b → Suited n t → Suited n u
-    → Nested (suc n) (If a (suite (s ∷ [])) (suite (If b (suite (t ∷ [])) (suite (u ∷ [])) ∷ [])))
+    → Nested (suc n) (tree.If a (suite (s ∷ [])) (suite (tree.If b (suite (t ∷ [])) (suite (u ∷ [])) ∷ [])))
 three_branches {a = a} {b = b} {s = s} {t = t} {u = u} test body other second last =
     let behind : List Terminal = Word tokens.ElifWord ∷ (other.terminals ++ second.terminals) in
     record {
       terminals = Word tokens.IfWord ∷ ((test.terminals ++ body.terminals) ++ (behind ++ Word tokens.ElseWord ∷ last.terminals));
       spelled =
           inr (
-            If a (suite (s ∷ [])) (suite (If b (suite (t ∷ [])) (suite (u ∷ [])) ∷ [])),
+            tree.If a (suite (s ∷ [])) (suite (tree.If b (suite (t ∷ [])) (suite (u ∷ [])) ∷ [])),
             refl,
             (
               (b, suite (t ∷ [])) ∷ [],
@@ -197,13 +198,13 @@ three_branches {a = a} {b = b} {s = s} {t = t} {u = u} test body other second la
 
 -- a `while` with no other suite
 abbrev pub loop : {n : ℕ} {e : Expr} {s : Stmt} → Expression max_depth 1 e → Suited n s
-    → Nested (suc n) (While e (suite (s ∷ [])) NoStmts)
+    → Nested (suc n) (tree.While e (suite (s ∷ [])) tree.NoStmts)
 loop {e = e} {s = s} test body =
     record {
       terminals = Word tokens.WhileWord ∷ (test.terminals ++ body.terminals);
       spelled =
           inr (
-            While e (suite (s ∷ [])) NoStmts,
+            tree.While e (suite (s ∷ [])) tree.NoStmts,
             refl,
             (
               test.terminals ++ body.terminals,

@@ -3,7 +3,7 @@ use Rattle.std.proofs.Common.{◌≡◌, ℕ, zero, suc, ◌+◌, ◌≤◌, Lis
 use Rattle.std.specs.Prelude.{nat_eq, slice_get}
 use Rattle.std.proofs.lemmas.List.{append-nil}
 use Rattle.si_semantics.specs.Value.{Text, Value, Nothing, Truth, Int, Str, Provided, Function, Range, Class, Address}
-use Rattle.si_semantics.specs.Tree.{BooleanOperator, Expr, Constant, Name, Unary, Binary, Call, Boolean, Compare, Conditional, Exprs, NoExprs, MoreExprs, Comparisons, NoComparisons, MoreComparisons, Stmt, Named, Evaluate, Assign, Augment, Pass, If, While, For, Break, Continue, Define, Return, Global, Raise, Try, Finally, Stmts, NoStmts, MoreStmts, Clauses, NoClauses, MoreClauses, functions_of, functions_in, functions_in_clauses}
+use Rattle.si_semantics.specs.Tree.{BooleanOperator, Expr, Exprs, Comparisons, Stmt, Stmts, Clauses, functions_of, functions_in, functions_in_clauses}
 use Rattle.si_semantics.specs.Tree as tree
 use Rattle.si_semantics.specs.Scope.{place_of, locals_of}
 use Rattle.si_semantics.specs.World.{World, Request, Bind, Run, Closing, Answer, Taken, Done, Replied, Got, Failed, Wants, Ran, Gave, Threw, Asked, bind_all}
@@ -71,8 +71,8 @@ choose_adds true r r' g h = g
 choose_adds false r r' g h = h
 
 compared_adds : (cs : Comparisons) (t : Value) (rest : Meaning Value) → Adds rest → Adds (compared cs t rest)
-compared_adds NoComparisons t rest h s = same s
-compared_adds (MoreComparisons o a cs) t rest h s = choose_adds (is_true t s.world) (rest s) (Gives t s) (h s) (same s)
+compared_adds tree.NoComparisons t rest h s = same s
+compared_adds (tree.MoreComparisons o a cs) t rest h s = choose_adds (is_true t s.world) (rest s) (Gives t s) (h s) (same s)
 
 read_adds : (x : Text) (p : Option ℕ) → Adds (read x p)
 read_adds x None s = ran_adds (load_global x s.world) s
@@ -108,32 +108,32 @@ calls_add e h g vs (x ∷ names) s = ran_adds (call_by_name g s.world) s
 module _ (e : Scope) (calling : Calls_add e) where
   mutual
     expr_adds : (a : Expr) → Adds (expr e a)
-    expr_adds (Constant v) s = visit_adds s
-    expr_adds (Name x) s = trans (visit_adds s) (read_adds x (place_of x e.locals) (visit s))
-    expr_adds (Unary o a) s = both_add s (expr e a (visit s)) _ (trans (visit_adds s) (expr_adds a (visit s))) (λ v s1. ran_adds (operate_unary o v s1.world) s1)
-    expr_adds (Binary o a b) s =
+    expr_adds (tree.Constant v) s = visit_adds s
+    expr_adds (tree.Name x) s = trans (visit_adds s) (read_adds x (place_of x e.locals) (visit s))
+    expr_adds (tree.Unary o a) s = both_add s (expr e a (visit s)) _ (trans (visit_adds s) (expr_adds a (visit s))) (λ v s1. ran_adds (operate_unary o v s1.world) s1)
+    expr_adds (tree.Binary o a b) s =
         both_add s (expr e a (visit s)) _ (trans (visit_adds s) (expr_adds a (visit s))) (λ u s1. both_add s1 (expr e b s1) _ (expr_adds b s1) (λ v s2. ran_adds (operate o u v s2.world) s2))
-    expr_adds (Call f args names) s =
+    expr_adds (tree.Call f args names) s =
         both_add s (expr e f (visit s)) _ (trans (visit_adds s) (expr_adds f (visit s)))
         (λ g s1. both_add s1 (exprs e args s1) _ (exprs_add args s1) (λ vs s2. calls_add e calling g vs names s2))
-    expr_adds (Boolean o a more) s = both_add s (expr e a (visit s)) _ (trans (visit_adds s) (expr_adds a (visit s))) (λ u s1. operands_add o u more s1)
-    expr_adds (Compare a cs) s = both_add s (expr e a (visit s)) _ (trans (visit_adds s) (expr_adds a (visit s))) (λ u s1. chain_adds u cs s1)
-    expr_adds (Conditional a b c) s =
+    expr_adds (tree.Boolean o a more) s = both_add s (expr e a (visit s)) _ (trans (visit_adds s) (expr_adds a (visit s))) (λ u s1. operands_add o u more s1)
+    expr_adds (tree.Compare a cs) s = both_add s (expr e a (visit s)) _ (trans (visit_adds s) (expr_adds a (visit s))) (λ u s1. chain_adds u cs s1)
+    expr_adds (tree.Conditional a b c) s =
         both_add s (expr e a (visit s)) _ (trans (visit_adds s) (expr_adds a (visit s))) (λ t s1. choose_adds (is_true t s1.world) (expr e b s1) (expr e c s1) (expr_adds b s1) (expr_adds c s1))
 
     exprs_add : (args : Exprs) → Adds (exprs e args)
-    exprs_add NoExprs s = same s
-    exprs_add (MoreExprs a args) s =
+    exprs_add tree.NoExprs s = same s
+    exprs_add (tree.MoreExprs a args) s =
         both_add s (expr e a s) _ (expr_adds a s) (λ v s1. both_add s1 (exprs e args s1) _ (exprs_add args s1) (λ vs s2. same s2))
 
     operands_add : (o : BooleanOperator) (u : Value) (more : Exprs) → Adds (operands e o u more)
-    operands_add o u NoExprs s = same s
-    operands_add o u (MoreExprs a more) s =
+    operands_add o u tree.NoExprs s = same s
+    operands_add o u (tree.MoreExprs a more) s =
         choose_adds (decides o u s.world) (Gives u s) (then (expr e a s) (λ v s1. operands e o v more s1)) (same s) (both_add s (expr e a s) _ (expr_adds a s) (λ v s1. operands_add o v more s1))
 
     chain_adds : (u : Value) (cs : Comparisons) → Adds (chain e u cs)
-    chain_adds u NoComparisons s = same s
-    chain_adds u (MoreComparisons o a cs) s =
+    chain_adds u tree.NoComparisons s = same s
+    chain_adds u (tree.MoreComparisons o a cs) s =
         both_add s (expr e a s) _ (expr_adds a s)
         (λ v s1. both_add s1 (ran (compare o u v s1.world) s1) _ (ran_adds (compare o u v s1.world) s1) (λ t s2. compared_adds cs t (chain e v cs) (λ s3. chain_adds v cs s3) s2))
 
@@ -210,38 +210,38 @@ lastly e b cs c f active = stmts (behind (functions_in b ++ (functions_in_clause
 
 mutual
   stmt_adds : (e : Scope) → Calls_add e → (a : Stmt) → Adds (stmt e a)
-  stmt_adds e h (Evaluate a) s = both_add s (expr e a (visit s)) _ (trans (visit_adds s) (expr_adds e h a (visit s))) (λ v s1. same s1)
-  stmt_adds e h (Assign (Named x) a) s =
+  stmt_adds e h (tree.Evaluate a) s = both_add s (expr e a (visit s)) _ (trans (visit_adds s) (expr_adds e h a (visit s))) (λ v s1. same s1)
+  stmt_adds e h (tree.Assign (tree.Named x) a) s =
       both_add s (expr e a (visit s)) _ (trans (visit_adds s) (expr_adds e h a (visit s))) (λ v s1. trans (visit_adds s1) (assign_adds x (place_of x e.locals) v (visit s1)))
-  stmt_adds e h (Augment (Named x) o a) s =
+  stmt_adds e h (tree.Augment (tree.Named x) o a) s =
       both_add s (read x (place_of x e.locals) (visit (visit s))) _
       (trans (trans (visit_adds s) (visit_adds (visit s))) (read_adds x (place_of x e.locals) (visit (visit s))))
       (λ u s1. both_add s1 (expr e a s1) _ (expr_adds e h a s1)
       (λ v s2. both_add s2 (ran (operate o u v s2.world) s2) _ (ran_adds (operate o u v s2.world) s2) (λ z s3. assign_adds x (place_of x e.locals) z s3)))
-  stmt_adds e h Pass s = visit_adds s
-  stmt_adds e h (If a b c) s =
+  stmt_adds e h tree.Pass s = visit_adds s
+  stmt_adds e h (tree.If a b c) s =
       both_add s (expr e a (visit s)) _ (trans (visit_adds s) (expr_adds e h a (visit s)))
       (λ t s1. choose_adds (is_true t s1.world) (stmts e b s1) (stmts (behind (functions_in b) e) c s1) (stmts_add e h b s1) (stmts_add (behind (functions_in b) e) h c s1))
-  stmt_adds e h (While a b c) s =
+  stmt_adds e h (tree.While a b c) s =
       trans (visit_adds s)
       (loop_adds e.turns (expr e a) (stmts e b) (stmts (behind (functions_in b) e) c)
       (λ s1. expr_adds e h a s1) (λ s1. stmts_add e h b s1) (λ s1. stmts_add (behind (functions_in b) e) h c s1) (visit s))
-  stmt_adds e h Break s = visit_adds s
-  stmt_adds e h Continue s = visit_adds s
-  stmt_adds e h (Define f ps b) s = trans (visit_adds s) (assign_adds f (place_of f e.locals) (Function f e.first) (visit s))
-  stmt_adds e h (Return a) s = trans (visit_adds s) (returning_adds e h a (visit s))
-  stmt_adds e h (Global xs) s = visit_adds s
-  stmt_adds e h (Raise a) s = trans (visit_adds s) (raising_adds e h a (visit s))
-  stmt_adds e h (For (Named x) a b c) s =
+  stmt_adds e h tree.Break s = visit_adds s
+  stmt_adds e h tree.Continue s = visit_adds s
+  stmt_adds e h (tree.Define f ps b) s = trans (visit_adds s) (assign_adds f (place_of f e.locals) (Function f e.first) (visit s))
+  stmt_adds e h (tree.Return a) s = trans (visit_adds s) (returning_adds e h a (visit s))
+  stmt_adds e h (tree.Global xs) s = visit_adds s
+  stmt_adds e h (tree.Raise a) s = trans (visit_adds s) (raising_adds e h a (visit s))
+  stmt_adds e h (tree.For (tree.Named x) a b c) s =
       both_add s (expr e a (visit s)) _ (trans (visit_adds s) (expr_adds e h a (visit s)))
       (λ v s1. over_adds (iterator_of v s1.world) _
       (λ it. for_loop_adds e.turns (λ u s2. assign x (place_of x e.locals) u (visit s2)) (stmts e b) (stmts (behind (functions_in b) e) c)
       (λ u s2. trans (visit_adds s2) (assign_adds x (place_of x e.locals) u (visit s2))) (λ s2. stmts_add e h b s2) (λ s2. stmts_add (behind (functions_in b) e) h c s2) it) s1)
-  stmt_adds e h (Try b cs c) s =
+  stmt_adds e h (tree.Try b cs c) s =
       trans (trans (visit_adds s) (stmts_add e h b (visit s)))
       (caught_adds (stmts e b (visit s)) (handling e b cs) (otherwise e b cs c)
       (λ x s1. clauses_add (behind (functions_in b) (with_active (Some x) e)) h cs x s1) (λ s1. stmts_add (behind (functions_in b ++ functions_in_clauses cs) e) h c s1))
-  stmt_adds e h (Finally b cs c f) s =
+  stmt_adds e h (tree.Finally b cs c f) s =
       trans
       (trans (trans (visit_adds s) (stmts_add e h b (visit s)))
       (caught_adds (stmts e b (visit s)) (handling e b cs) (otherwise e b cs c)
@@ -250,13 +250,13 @@ mutual
       (λ active s1. stmts_add (behind (functions_in b ++ (functions_in_clauses cs ++ functions_in c)) (with_active active e)) h f s1))
 
   stmts_add : (e : Scope) → Calls_add e → (b : Stmts) → Adds (stmts e b)
-  stmts_add e h NoStmts s = same s
-  stmts_add e h (MoreStmts a b) s = both_add s (stmt e a s) _ (stmt_adds e h a s) (λ u s1. stmts_add (behind (functions_of a) e) h b s1)
+  stmts_add e h tree.NoStmts s = same s
+  stmts_add e h (tree.MoreStmts a b) s = both_add s (stmt e a s) _ (stmt_adds e h a s) (λ u s1. stmts_add (behind (functions_of a) e) h b s1)
 
   clauses_add : (e : Scope) → Calls_add e → (cs : Clauses) (x : ℕ) → Adds (clauses e cs x)
-  clauses_add e h NoClauses x s = same s
-  clauses_add e h (MoreClauses None y b cs) x s = trans (visit_adds s) (named_adds e y x (stmts e b) (λ s1. stmts_add e h b s1) (visit s))
-  clauses_add e h (MoreClauses (Some a) y b cs) x s =
+  clauses_add e h tree.NoClauses x s = same s
+  clauses_add e h (tree.MoreClauses None y b cs) x s = trans (visit_adds s) (named_adds e y x (stmts e b) (λ s1. stmts_add e h b s1) (visit s))
+  clauses_add e h (tree.MoreClauses (Some a) y b cs) x s =
       both_add s (expr e a (visit s)) _ (trans (visit_adds s) (expr_adds e h a (visit s)))
       (λ v s1. both_add s1 (ran (catches v x s1.world) s1) _ (ran_adds (catches v x s1.world) s1)
       (λ t s2. choose_adds (is_true t s2.world) (named e y x (stmts e b) s2) (clauses (behind (functions_in b) e) cs x s2)
@@ -378,8 +378,8 @@ choose_further b true r q r' q' h k = h
 choose_further b false r q r' q' h k = k
 
 compared_further : (b : List Answer) (cs : Comparisons) (t : Value) (rest rest' : Meaning Value) → ((s : State) → Further b (rest s) (rest' (more b s))) → (s : State) → Further b (compared cs t rest s) (compared cs t rest' (more b s))
-compared_further b NoComparisons t rest rest' h s = refl
-compared_further b (MoreComparisons o a cs) t rest rest' h s = choose_further b (is_true t s.world) (rest s) (Gives t s) (rest' (more b s)) (Gives t (more b s)) (h s) refl
+compared_further b tree.NoComparisons t rest rest' h s = refl
+compared_further b (tree.MoreComparisons o a cs) t rest rest' h s = choose_further b (is_true t s.world) (rest s) (Gives t s) (rest' (more b s)) (Gives t (more b s)) (h s) refl
 
 after_turn_further : (b : List Answer) (r r' : Result (Unit {0})) (again again' : Meaning (Unit {0})) → Further b r r' → ((s : State) → Further b (again s) (again' (more b s))) → Adds again' → Further b (after_turn r again) (after_turn r' again')
 after_turn_further b (Gives u s) r' again again' h k g = subst (λ x. Further b (again s) (after_turn x again')) (sym h) (k s)
@@ -478,42 +478,42 @@ module _ (b : List Answer) (locals : List Text) (n m : ℕ) (fewer : n ≤ m) (c
 
   mutual
     expr_further : (z : Option ℕ) (i : ℕ) (a : Expr) (s : State) → Further b (expr (scope1 z i) a s) (expr (scope2 z i) a (more b s))
-    expr_further z i (Constant v) s = refl
-    expr_further z i (Name x) s = read_further b x (place_of x locals) (visit s)
-    expr_further z i (Unary o a) s =
+    expr_further z i (tree.Constant v) s = refl
+    expr_further z i (tree.Name x) s = read_further b x (place_of x locals) (visit s)
+    expr_further z i (tree.Unary o a) s =
         then_further b _ _ _ _ (expr_further z i a (visit s)) (λ v s1. ran_further b (operate_unary o v s1.world) s1) (λ v s1. ran_adds (operate_unary o v s1.world) s1)
-    expr_further z i (Binary o a c) s =
+    expr_further z i (tree.Binary o a c) s =
         then_further b _ _ _ _ (expr_further z i a (visit s))
         (λ u s1. then_further b _ _ _ _ (expr_further z i c s1) (λ v s2. ran_further b (operate o u v s2.world) s2) (λ v s2. ran_adds (operate o u v s2.world) s2))
         (λ u s1. both_add s1 (expr (scope2 z i) c s1) _ (expr_adds (scope2 z i) adds c s1) (λ v s2. ran_adds (operate o u v s2.world) s2))
-    expr_further z i (Call f args names) s =
+    expr_further z i (tree.Call f args names) s =
         then_further b _ _ _ _ (expr_further z i f (visit s))
         (λ g s1. then_further b _ _ _ _ (exprs_further z i args s1) (λ vs s2. calls_further z i g vs names s2) (λ vs s2. calls_add (scope2 z i) adds g vs names s2))
         (λ g s1. both_add s1 (exprs (scope2 z i) args s1) _ (exprs_add (scope2 z i) adds args s1) (λ vs s2. calls_add (scope2 z i) adds g vs names s2))
-    expr_further z i (Boolean o a c) s =
+    expr_further z i (tree.Boolean o a c) s =
         then_further b _ _ _ _ (expr_further z i a (visit s)) (λ u s1. operands_further z i o u c s1) (λ u s1. operands_add (scope2 z i) adds o u c s1)
-    expr_further z i (Compare a cs) s = then_further b _ _ _ _ (expr_further z i a (visit s)) (λ u s1. chain_further z i u cs s1) (λ u s1. chain_adds (scope2 z i) adds u cs s1)
-    expr_further z i (Conditional a c d) s =
+    expr_further z i (tree.Compare a cs) s = then_further b _ _ _ _ (expr_further z i a (visit s)) (λ u s1. chain_further z i u cs s1) (λ u s1. chain_adds (scope2 z i) adds u cs s1)
+    expr_further z i (tree.Conditional a c d) s =
         then_further b _ _ _ _ (expr_further z i a (visit s))
         (λ t s1. choose_further b (is_true t s1.world) _ _ _ _ (expr_further z i c s1) (expr_further z i d s1))
         (λ t s1. choose_adds (is_true t s1.world) (expr (scope2 z i) c s1) (expr (scope2 z i) d s1) (expr_adds (scope2 z i) adds c s1) (expr_adds (scope2 z i) adds d s1))
 
     exprs_further : (z : Option ℕ) (i : ℕ) (args : Exprs) (s : State) → Further b (exprs (scope1 z i) args s) (exprs (scope2 z i) args (more b s))
-    exprs_further z i NoExprs s = refl
-    exprs_further z i (MoreExprs a args) s =
+    exprs_further z i tree.NoExprs s = refl
+    exprs_further z i (tree.MoreExprs a args) s =
         then_further b _ _ _ _ (expr_further z i a s)
         (λ v s1. then_further b _ _ _ _ (exprs_further z i args s1) (λ vs s2. refl) (λ vs s2. same s2))
         (λ v s1. both_add s1 (exprs (scope2 z i) args s1) _ (exprs_add (scope2 z i) adds args s1) (λ vs s2. same s2))
 
     operands_further : (z : Option ℕ) (i : ℕ) (o : BooleanOperator) (u : Value) (c : Exprs) (s : State) → Further b (operands (scope1 z i) o u c s) (operands (scope2 z i) o u c (more b s))
-    operands_further z i o u NoExprs s = refl
-    operands_further z i o u (MoreExprs a c) s =
+    operands_further z i o u tree.NoExprs s = refl
+    operands_further z i o u (tree.MoreExprs a c) s =
         choose_further b (decides o u s.world) _ _ _ _ refl
         (then_further b _ _ _ _ (expr_further z i a s) (λ v s1. operands_further z i o v c s1) (λ v s1. operands_add (scope2 z i) adds o v c s1))
 
     chain_further : (z : Option ℕ) (i : ℕ) (u : Value) (cs : Comparisons) (s : State) → Further b (chain (scope1 z i) u cs s) (chain (scope2 z i) u cs (more b s))
-    chain_further z i u NoComparisons s = refl
-    chain_further z i u (MoreComparisons o a cs) s =
+    chain_further z i u tree.NoComparisons s = refl
+    chain_further z i u (tree.MoreComparisons o a cs) s =
         then_further b _ _ _ _ (expr_further z i a s)
         (λ v s1. then_further b _ _ _ _ (ran_further b (compare o u v s1.world) s1)
         (λ t s2. compared_further b cs t (chain (scope1 z i) v cs) (chain (scope2 z i) v cs) (λ s3. chain_further z i v cs s3) s2)
@@ -545,11 +545,11 @@ module _ (b : List Answer) (locals : List Text) (n m : ℕ) (fewer : n ≤ m) (c
 
   mutual
     stmt_further : (z : Option ℕ) (i : ℕ) (a : Stmt) (s : State) → Further b (stmt (scope1 z i) a s) (stmt (scope2 z i) a (more b s))
-    stmt_further z i (Evaluate a) s = then_further b _ _ _ _ (expr_further z i a (visit s)) (λ v s1. refl) (λ v s1. same s1)
-    stmt_further z i (Assign (Named x) a) s =
+    stmt_further z i (tree.Evaluate a) s = then_further b _ _ _ _ (expr_further z i a (visit s)) (λ v s1. refl) (λ v s1. same s1)
+    stmt_further z i (tree.Assign (tree.Named x) a) s =
         let p = place_of x locals in
         then_further b _ _ _ _ (expr_further z i a (visit s)) (λ v s1. assign_further b x p v (visit s1)) (λ v s1. trans (visit_adds s1) (assign_adds x p v (visit s1)))
-    stmt_further z i (Augment (Named x) o a) s =
+    stmt_further z i (tree.Augment (tree.Named x) o a) s =
         let p = place_of x locals in
         then_further b _ _ _ _ (read_further b x p (visit (visit s)))
         (λ u s1. then_further b _ _ _ _ (expr_further z i a s1)
@@ -557,24 +557,24 @@ module _ (b : List Answer) (locals : List Text) (n m : ℕ) (fewer : n ≤ m) (c
         (λ v s2. both_add s2 (ran (operate o u v s2.world) s2) _ (ran_adds (operate o u v s2.world) s2) (λ z s3. assign_adds x p z s3)))
         (λ u s1. both_add s1 (expr (scope2 z i) a s1) _ (expr_adds (scope2 z i) adds a s1)
         (λ v s2. both_add s2 (ran (operate o u v s2.world) s2) _ (ran_adds (operate o u v s2.world) s2) (λ z s3. assign_adds x p z s3)))
-    stmt_further z i Pass s = refl
-    stmt_further z i (If a c d) s =
+    stmt_further z i tree.Pass s = refl
+    stmt_further z i (tree.If a c d) s =
         let j = i + length (functions_in c) in
         then_further b _ _ _ _ (expr_further z i a (visit s))
         (λ t s1. choose_further b (is_true t s1.world) _ _ _ _ (stmts_further z i c s1) (stmts_further z j d s1))
         (λ t s1. choose_adds (is_true t s1.world) (stmts (scope2 z i) c s1) (stmts (scope2 z j) d s1) (stmts_add (scope2 z i) adds c s1) (stmts_add (scope2 z j) adds d s1))
-    stmt_further z i (While a c d) s =
+    stmt_further z i (tree.While a c d) s =
         let j = i + length (functions_in c) in
         loop_further b (expr (scope1 z i) a) (expr (scope2 z i) a) (stmts (scope1 z i) c) (stmts (scope2 z i) c) (stmts (scope1 z j) d) (stmts (scope2 z j) d)
         (λ s1. expr_further z i a s1) (λ s1. stmts_further z i c s1) (λ s1. stmts_further z j d s1)
         (λ s1. expr_adds (scope2 z i) adds a s1) (λ s1. stmts_add (scope2 z i) adds c s1) (λ s1. stmts_add (scope2 z j) adds d s1) n m fewer (visit s)
-    stmt_further z i Break s = refl
-    stmt_further z i Continue s = refl
-    stmt_further z i (Define f ps c) s = assign_further b f (place_of f locals) (Function f i) (visit s)
-    stmt_further z i (Return a) s = returning_further z i a (visit s)
-    stmt_further z i (Global xs) s = refl
-    stmt_further z i (Raise a) s = raising_further z i a (visit s)
-    stmt_further z i (For (Named x) a c d) s =
+    stmt_further z i tree.Break s = refl
+    stmt_further z i tree.Continue s = refl
+    stmt_further z i (tree.Define f ps c) s = assign_further b f (place_of f locals) (Function f i) (visit s)
+    stmt_further z i (tree.Return a) s = returning_further z i a (visit s)
+    stmt_further z i (tree.Global xs) s = refl
+    stmt_further z i (tree.Raise a) s = raising_further z i a (visit s)
+    stmt_further z i (tree.For (tree.Named x) a c d) s =
         let p = place_of x locals in
         let j = i + length (functions_in c) in
         then_further b _ _ _ _ (expr_further z i a (visit s))
@@ -585,14 +585,14 @@ module _ (b : List Answer) (locals : List Text) (n m : ℕ) (fewer : n ≤ m) (c
         (λ v s1. over_adds (iterator_of v s1.world) _
         (λ it. for_loop_adds m (λ u s3. assign x p u (visit s3)) (stmts (scope2 z i) c) (stmts (scope2 z j) d)
         (λ u s3. trans (visit_adds s3) (assign_adds x p u (visit s3))) (λ s3. stmts_add (scope2 z i) adds c s3) (λ s3. stmts_add (scope2 z j) adds d s3) it) s1)
-    stmt_further z i (Try c cs d) s =
+    stmt_further z i (tree.Try c cs d) s =
         let j = i + length (functions_in c) in
         let k = i + length (functions_in c ++ functions_in_clauses cs) in
         caught_further b (stmts (scope1 z i) c (visit s)) (stmts (scope2 z i) c (visit (more b s)))
         (handling (scope1 z i) c cs) (handling (scope2 z i) c cs) (otherwise (scope1 z i) c cs d) (otherwise (scope2 z i) c cs d)
         (stmts_further z i c (visit s)) (λ x s1. clauses_further (Some x) j cs x s1) (λ s1. stmts_further z k d s1)
         (λ x s1. clauses_add (scope2 (Some x) j) adds cs x s1) (λ s1. stmts_add (scope2 z k) adds d s1)
-    stmt_further z i (Finally c cs d f) s =
+    stmt_further z i (tree.Finally c cs d f) s =
         let j = i + length (functions_in c) in
         let k = i + length (functions_in c ++ functions_in_clauses cs) in
         let l = i + length (functions_in c ++ (functions_in_clauses cs ++ functions_in d)) in
@@ -607,16 +607,16 @@ module _ (b : List Answer) (locals : List Text) (n m : ℕ) (fewer : n ≤ m) (c
         (λ x s1. stmts_further x l f s1) (λ x s1. stmts_add (scope2 x l) adds f s1)
 
     stmts_further : (z : Option ℕ) (i : ℕ) (c : Stmts) (s : State) → Further b (stmts (scope1 z i) c s) (stmts (scope2 z i) c (more b s))
-    stmts_further z i NoStmts s = refl
-    stmts_further z i (MoreStmts a c) s =
+    stmts_further z i tree.NoStmts s = refl
+    stmts_further z i (tree.MoreStmts a c) s =
         let j = i + length (functions_of a) in
         then_further b _ _ _ _ (stmt_further z i a s) (λ u s1. stmts_further z j c s1) (λ u s1. stmts_add (scope2 z j) adds c s1)
 
     clauses_further : (z : Option ℕ) (i : ℕ) (cs : Clauses) (x : ℕ) (s : State) → Further b (clauses (scope1 z i) cs x s) (clauses (scope2 z i) cs x (more b s))
-    clauses_further z i NoClauses x s = refl
-    clauses_further z i (MoreClauses None y c cs) x s =
+    clauses_further z i tree.NoClauses x s = refl
+    clauses_further z i (tree.MoreClauses None y c cs) x s =
         named_further z i y x (stmts (scope1 z i) c) (stmts (scope2 z i) c) (λ s1. stmts_further z i c s1) (λ s1. stmts_add (scope2 z i) adds c s1) (visit s)
-    clauses_further z i (MoreClauses (Some a) y c cs) x s =
+    clauses_further z i (tree.MoreClauses (Some a) y c cs) x s =
         let j = i + length (functions_in c) in
         then_further b _ _ _ _ (expr_further z i a (visit s))
         (λ v s1. then_further b _ _ _ _ (ran_further b (catches v x s1.world) s1)

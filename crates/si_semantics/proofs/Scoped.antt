@@ -2,7 +2,7 @@
 use Rattle.std.proofs.Common.{◌≡◌, ℕ, zero, suc, List, [], ◌∷◌, ◌++◌, length, Bool, true, false, ◌&&◌, Option, Some, None, refl, subst}
 use Rattle.std.specs.Prelude.{nat_eq, slice_get}
 use Rattle.si_semantics.specs.Value.{Text, Value, Nothing, Truth, Int, Str, Provided, Function, Range, Class, Address}
-use Rattle.si_semantics.specs.Tree.{BooleanOperator, Expr, Constant, Name, Unary, Binary, Call, Boolean, Compare, Conditional, Exprs, NoExprs, MoreExprs, Comparisons, NoComparisons, MoreComparisons, Stmt, Named, Evaluate, Assign, Augment, Pass, If, While, For, Break, Continue, Define, Return, Global, Raise, Try, Finally, Stmts, NoStmts, MoreStmts, Clauses, NoClauses, MoreClauses, functions_of, functions_in, functions_in_clauses}
+use Rattle.si_semantics.specs.Tree.{BooleanOperator, Expr, Exprs, Comparisons, Stmt, Stmts, Clauses, functions_of, functions_in, functions_in_clauses}
 use Rattle.si_semantics.specs.Tree as tree
 use Rattle.si_semantics.specs.World.{Request, Answer, Replied, Got, Failed, Wants, Ran, Gave, Threw, Asked}
 use Rattle.si_semantics.specs.Operations.{exception, operate, operate_unary, is_true, compare, load_global, load_local, call_provided, call_by_name, not_callable, wrong_arguments, too_deep, catches, Iterator, iterator_of, Next, Item, Exhausted, Refuses, next_item, reply}
@@ -62,8 +62,8 @@ unassign_keeps w x None s = tt
 unassign_keeps w x (Some k) s = tt
 
 compared_keeps : (w : Within) (cs : Comparisons) (t : Value) (rest : Meaning Value) → ((s : State) → Keeps w (rest s)) → (s : State) → Keeps w (compared cs t rest s)
-compared_keeps w NoComparisons t rest h s = tt
-compared_keeps w (MoreComparisons o a cs) t rest h s = choose_keeps w (is_true t s.world) (rest s) (Gives t s) (h s) tt
+compared_keeps w tree.NoComparisons t rest h s = tt
+compared_keeps w (tree.MoreComparisons o a cs) t rest h s = choose_keeps w (is_true t s.world) (rest s) (Gives t s) (h s) tt
 
 -- ---- calls
 
@@ -108,30 +108,30 @@ calls_keep w e h g vs (x ∷ names) s = ran_keeps w (call_by_name g s.world) s
 module _ (w : Within) (e : Scope) (calling : Calls_keep e) where
   mutual
     expr_keeps : (a : Expr) (s : State) → Keeps w (expr e a s)
-    expr_keeps (Constant v) s = tt
-    expr_keeps (Name x) s = read_keeps w x (place_of x e.locals) (visit s)
-    expr_keeps (Unary o a) s = then_keeps w (expr e a (visit s)) _ (expr_keeps a (visit s)) (λ v s1. ran_keeps w (operate_unary o v s1.world) s1)
-    expr_keeps (Binary o a b) s =
+    expr_keeps (tree.Constant v) s = tt
+    expr_keeps (tree.Name x) s = read_keeps w x (place_of x e.locals) (visit s)
+    expr_keeps (tree.Unary o a) s = then_keeps w (expr e a (visit s)) _ (expr_keeps a (visit s)) (λ v s1. ran_keeps w (operate_unary o v s1.world) s1)
+    expr_keeps (tree.Binary o a b) s =
         then_keeps w (expr e a (visit s)) _ (expr_keeps a (visit s)) (λ u s1. then_keeps w (expr e b s1) _ (expr_keeps b s1) (λ v s2. ran_keeps w (operate o u v s2.world) s2))
-    expr_keeps (Call f args names) s =
+    expr_keeps (tree.Call f args names) s =
         then_keeps w (expr e f (visit s)) _ (expr_keeps f (visit s)) (λ g s1. then_keeps w (exprs e args s1) _ (exprs_keep args s1) (λ vs s2. calls_keep w e calling g vs names s2))
-    expr_keeps (Boolean o a more) s = then_keeps w (expr e a (visit s)) _ (expr_keeps a (visit s)) (λ u s1. operands_keep o u more s1)
-    expr_keeps (Compare a cs) s = then_keeps w (expr e a (visit s)) _ (expr_keeps a (visit s)) (λ u s1. chain_keeps u cs s1)
-    expr_keeps (Conditional a b c) s =
+    expr_keeps (tree.Boolean o a more) s = then_keeps w (expr e a (visit s)) _ (expr_keeps a (visit s)) (λ u s1. operands_keep o u more s1)
+    expr_keeps (tree.Compare a cs) s = then_keeps w (expr e a (visit s)) _ (expr_keeps a (visit s)) (λ u s1. chain_keeps u cs s1)
+    expr_keeps (tree.Conditional a b c) s =
         then_keeps w (expr e a (visit s)) _ (expr_keeps a (visit s)) (λ t s1. choose_keeps w (is_true t s1.world) (expr e b s1) (expr e c s1) (expr_keeps b s1) (expr_keeps c s1))
 
     exprs_keep : (args : Exprs) (s : State) → Keeps w (exprs e args s)
-    exprs_keep NoExprs s = tt
-    exprs_keep (MoreExprs a args) s = then_keeps w (expr e a s) _ (expr_keeps a s) (λ v s1. then_keeps w (exprs e args s1) _ (exprs_keep args s1) (λ vs s2. tt))
+    exprs_keep tree.NoExprs s = tt
+    exprs_keep (tree.MoreExprs a args) s = then_keeps w (expr e a s) _ (expr_keeps a s) (λ v s1. then_keeps w (exprs e args s1) _ (exprs_keep args s1) (λ vs s2. tt))
 
     operands_keep : (o : BooleanOperator) (u : Value) (more : Exprs) (s : State) → Keeps w (operands e o u more s)
-    operands_keep o u NoExprs s = tt
-    operands_keep o u (MoreExprs a more) s =
+    operands_keep o u tree.NoExprs s = tt
+    operands_keep o u (tree.MoreExprs a more) s =
         choose_keeps w (decides o u s.world) (Gives u s) (then (expr e a s) (λ v s1. operands e o v more s1)) tt (then_keeps w (expr e a s) _ (expr_keeps a s) (λ v s1. operands_keep o v more s1))
 
     chain_keeps : (u : Value) (cs : Comparisons) (s : State) → Keeps w (chain e u cs s)
-    chain_keeps u NoComparisons s = tt
-    chain_keeps u (MoreComparisons o a cs) s =
+    chain_keeps u tree.NoComparisons s = tt
+    chain_keeps u (tree.MoreComparisons o a cs) s =
         then_keeps w (expr e a s) _ (expr_keeps a s)
         (λ v s1. then_keeps w (ran (compare o u v s1.world) s1) _ (ran_keeps w (compare o u v s1.world) s1) (λ t s2. compared_keeps w cs t (chain e v cs) (λ s3. chain_keeps v cs s3) s2))
 
@@ -232,40 +232,40 @@ both_true false b h = cc
 
 mutual
   stmt_keeps : (w : Within) (e : Scope) → Calls_keep e → (a : Stmt) (s : State) → stmt_scoped w a ≡ true → Keeps w (stmt e a s)
-  stmt_keeps w e k (Evaluate a) s h = then_keeps w (expr e a (visit s)) _ (expr_keeps w e k a (visit s)) (λ v s1. tt)
-  stmt_keeps w e k (Assign (Named x) a) s h =
+  stmt_keeps w e k (tree.Evaluate a) s h = then_keeps w (expr e a (visit s)) _ (expr_keeps w e k a (visit s)) (λ v s1. tt)
+  stmt_keeps w e k (tree.Assign (tree.Named x) a) s h =
       then_keeps w (expr e a (visit s)) _ (expr_keeps w e k a (visit s)) (λ v s1. assign_keeps w x (place_of x e.locals) v (visit s1))
-  stmt_keeps w e k (Augment (Named x) o a) s h =
+  stmt_keeps w e k (tree.Augment (tree.Named x) o a) s h =
       then_keeps w (read x (place_of x e.locals) (visit (visit s))) _ (read_keeps w x (place_of x e.locals) (visit (visit s)))
       (λ u s1. then_keeps w (expr e a s1) _ (expr_keeps w e k a s1)
       (λ v s2. then_keeps w (ran (operate o u v s2.world) s2) _ (ran_keeps w (operate o u v s2.world) s2) (λ z s3. assign_keeps w x (place_of x e.locals) z s3)))
-  stmt_keeps w e k Pass s h = tt
-  stmt_keeps w e k (If a b c) s h =
+  stmt_keeps w e k tree.Pass s h = tt
+  stmt_keeps w e k (tree.If a b c) s h =
       let g = both_true (stmts_scoped w b) (stmts_scoped w c) h in
       then_keeps w (expr e a (visit s)) _ (expr_keeps w e k a (visit s))
       (λ t s1. choose_keeps w (is_true t s1.world) (stmts e b s1) (stmts (behind (functions_in b) e) c s1) (stmts_keep w e k b s1 g.0) (stmts_keep w (behind (functions_in b) e) k c s1 g.1))
-  stmt_keeps w e k (While a b c) s h =
+  stmt_keeps w e k (tree.While a b c) s h =
       let g = both_true (stmts_scoped (looping w) b) (stmts_scoped w c) h in
       loop_keeps w (expr e a) (stmts e b) (stmts (behind (functions_in b) e) c)
       (λ s1. expr_keeps w e k a s1) (λ s1. stmts_keep (looping w) e k b s1 g.0) (λ s1. stmts_keep w (behind (functions_in b) e) k c s1 g.1) e.turns (visit s)
-  stmt_keeps w e k (For (Named x) a b c) s h =
+  stmt_keeps w e k (tree.For (tree.Named x) a b c) s h =
       let g = both_true (stmts_scoped (looping w) b) (stmts_scoped w c) h in
       then_keeps w (expr e a (visit s)) _ (expr_keeps w e k a (visit s))
       (λ v s1. over_keeps w (iterator_of v s1.world) _
       (λ it s2. for_keeps w (λ u s3. assign x (place_of x e.locals) u (visit s3)) (stmts e b) (stmts (behind (functions_in b) e) c) (λ u s3. assign_keeps w x (place_of x e.locals) u (visit s3))
       (λ s3. stmts_keep (looping w) e k b s3 g.0) (λ s3. stmts_keep w (behind (functions_in b) e) k c s3 g.1) e.turns it s2) s1)
-  stmt_keeps w e k Break s h = h
-  stmt_keeps w e k Continue s h = h
-  stmt_keeps w e k (Define f ps b) s h = assign_keeps w f (place_of f e.locals) (Function f e.first) (visit s)
-  stmt_keeps w e k (Return a) s h = returning_keeps w e k a (visit s) h
-  stmt_keeps w e k (Global xs) s h = tt
-  stmt_keeps w e k (Raise a) s h = raising_keeps w e k a (visit s)
-  stmt_keeps w e k (Try b cs c) s h =
+  stmt_keeps w e k tree.Break s h = h
+  stmt_keeps w e k tree.Continue s h = h
+  stmt_keeps w e k (tree.Define f ps b) s h = assign_keeps w f (place_of f e.locals) (Function f e.first) (visit s)
+  stmt_keeps w e k (tree.Return a) s h = returning_keeps w e k a (visit s) h
+  stmt_keeps w e k (tree.Global xs) s h = tt
+  stmt_keeps w e k (tree.Raise a) s h = raising_keeps w e k a (visit s)
+  stmt_keeps w e k (tree.Try b cs c) s h =
       let g = both_true (stmts_scoped w b && clauses_scoped w cs) (stmts_scoped w c) h in
       let f = both_true (stmts_scoped w b) (clauses_scoped w cs) g.0 in
       caught_keeps w (stmts e b (visit s)) _ _ (stmts_keep w e k b (visit s) f.0)
       (λ x s1. clauses_keep w (behind (functions_in b) (with_active (Some x) e)) k cs x s1 f.1) (λ s1. stmts_keep w (behind (functions_in b ++ functions_in_clauses cs) e) k c s1 g.1)
-  stmt_keeps w e k (Finally b cs c d) s h =
+  stmt_keeps w e k (tree.Finally b cs c d) s h =
       let i = both_true ((stmts_scoped w b && clauses_scoped w cs) && stmts_scoped w c) (stmts_scoped (finishing w) d) h in
       let g = both_true (stmts_scoped w b && clauses_scoped w cs) (stmts_scoped w c) i.0 in
       let f = both_true (stmts_scoped w b) (clauses_scoped w cs) g.0 in
@@ -276,11 +276,11 @@ mutual
       (λ active s1. out_of_end w (stmts (end (with_active active e)) d s1) (stmts_keep (finishing w) (end (with_active active e)) k d s1 i.1))
 
   clauses_keep : (w : Within) (e : Scope) → Calls_keep e → (cs : Clauses) (x : ℕ) (s : State) → clauses_scoped w cs ≡ true → Keeps w (clauses e cs x s)
-  clauses_keep w e k NoClauses x s h = tt
-  clauses_keep w e k (MoreClauses None y b cs) x s h =
+  clauses_keep w e k tree.NoClauses x s h = tt
+  clauses_keep w e k (tree.MoreClauses None y b cs) x s h =
       let g = both_true (stmts_scoped w b) (clauses_scoped w cs) h in
       named_keeps w e y x (stmts e b) (λ s1. stmts_keep w e k b s1 g.0) (visit s)
-  clauses_keep w e k (MoreClauses (Some a) y b cs) x s h =
+  clauses_keep w e k (tree.MoreClauses (Some a) y b cs) x s h =
       let g = both_true (stmts_scoped w b) (clauses_scoped w cs) h in
       then_keeps w (expr e a (visit s)) _ (expr_keeps w e k a (visit s))
       (λ v s1. then_keeps w (ran (catches v x s1.world) s1) _ (ran_keeps w (catches v x s1.world) s1)
@@ -288,8 +288,8 @@ mutual
       (named_keeps w e y x (stmts e b) (λ s3. stmts_keep w e k b s3 g.0) s2) (clauses_keep w (behind (functions_in b) e) k cs x s2 g.1)))
 
   stmts_keep : (w : Within) (e : Scope) → Calls_keep e → (b : Stmts) (s : State) → stmts_scoped w b ≡ true → Keeps w (stmts e b s)
-  stmts_keep w e k NoStmts s h = tt
-  stmts_keep w e k (MoreStmts a b) s h =
+  stmts_keep w e k tree.NoStmts s h = tt
+  stmts_keep w e k (tree.MoreStmts a b) s h =
       let g = both_true (stmt_scoped w a) (stmts_scoped w b) h in
       then_keeps w (stmt e a s) _ (stmt_keeps w e k a s g.0) (λ u s1. stmts_keep w (behind (functions_of a) e) k b s1 g.1)
 

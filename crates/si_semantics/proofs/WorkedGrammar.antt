@@ -1,7 +1,7 @@
 -- The worked cases of reading hold: words and tokens compute, and the tree is derived production by production.
 use Rattle.std.proofs.Common.{ℕ, List, [], ◌∷◌, ◌++◌, inl, refl, lit<, lit≤}
 use Rattle.std.specs.Prelude.{codes}
-use Rattle.si_semantics.specs.Tree.{Named, Subtract, Multiply, Power, Minus, Not, Less, LessEqual, Or, Name, Boolean, Evaluate, Assign, Pass, Break}
+use Rattle.si_semantics.specs.Tree as tree
 use Rattle.si_semantics.specs.Tokens as tokens
 use Rattle.si_semantics.specs.Words as words
 use Rattle.si_semantics.specs.Words.{symbols, keywords}
@@ -110,11 +110,11 @@ f_is_called =
           inl (
             NAME f ∷ [],
             NAME x ∷ [],
-            Positional (Name x) ∷ [],
+            Positional (tree.Name x) ∷ [],
             refl,
             lit≤ tt,
             inl refl,
-            record { positional = Name x ∷ []; named = []; in_order = refl; values_are = refl; names_are = refl; once = refl },
+            record { positional = tree.Name x ∷ []; named = []; in_order = refl; values_are = refl; names_are = refl; once = refl },
             (NAME x ∷ [], [], refl, inl refl, inl refl),
           );
     }
@@ -123,11 +123,11 @@ abbrev if_spelled : Parsed (suite (an_if ∷ []))
 if_spelled = text (one_branch (name x) (in_block (line f_is_called) (lit< tt)))
 
 -- `pass` and `break`
-abbrev passes : Statement Pass
-passes = word Pass tokens.PassWord refl
+abbrev passes : Statement tree.Pass
+passes = word tree.Pass tokens.PassWord refl
 
-abbrev breaks : Statement Break
-breaks = word Break tokens.BreakWord refl
+abbrev breaks : Statement tree.Break
+breaks = word tree.Break tokens.BreakWord refl
 
 abbrev elif_spelled : Parsed (suite (an_elif ∷ []))
 elif_spelled = text (three_branches (name x) (in_line passes) (name f) (in_line f_is_called) (in_line passes))
@@ -147,11 +147,11 @@ f_is_called_by_name =
           inl (
             NAME f ∷ [],
             between,
-            Positional (Name x) ∷ ByName (codes "y") (int 1) ∷ [],
+            Positional (tree.Name x) ∷ ByName (codes "y") (int 1) ∷ [],
             refl,
             lit≤ tt,
             inl refl,
-            record { positional = Name x ∷ []; named = (codes "y", int 1) ∷ []; in_order = refl; values_are = refl; names_are = refl; once = refl },
+            record { positional = tree.Name x ∷ []; named = (codes "y", int 1) ∷ []; in_order = refl; values_are = refl; names_are = refl; once = refl },
             (
               NAME x ∷ [],
               Sign tokens.Comma ∷ by_name,
@@ -171,29 +171,29 @@ blocks_spelled =
     (loop (name x) (in_block (one_branch (name f) (in_block (line breaks) (lit< tt))) (lit< tt)))
     (line f_is_called)
 
-abbrev levels_spelled : Parsed (suite (Assign (Named x) difference ∷ []))
+abbrev levels_spelled : Parsed (suite (tree.Assign (tree.Named x) difference ∷ []))
 levels_spelled =
     text (line (assigned x
-    (binary Subtract (lit≤ tt)
-    (binary Subtract (lit≤ tt) (number (codes "1") 1 refl) (number (codes "2") 2 refl))
-    (binary Multiply (lit≤ tt)
-    (unary Minus (lit≤ tt) (binary Power (lit≤ tt) (number (codes "3") 3 refl) (number (codes "4") 4 refl)))
+    (binary tree.Subtract (lit≤ tt)
+    (binary tree.Subtract (lit≤ tt) (number (codes "1") 1 refl) (number (codes "2") 2 refl))
+    (binary tree.Multiply (lit≤ tt)
+    (unary tree.Minus (lit≤ tt) (binary tree.Power (lit≤ tt) (number (codes "3") 3 refl) (number (codes "4") 4 refl)))
     (number (codes "5") 5 refl)))))
 
-abbrev brackets_spelled : Parsed (suite (Assign (Named x) bracketed ∷ []))
+abbrev brackets_spelled : Parsed (suite (tree.Assign (tree.Named x) bracketed ∷ []))
 brackets_spelled =
     text (line (assigned x
-    (binary Subtract (lit≤ tt)
+    (binary tree.Subtract (lit≤ tt)
     (number (codes "1") 1 refl)
-    (in_brackets (binary Subtract (lit≤ tt) (number (codes "2") 2 refl) (number (codes "3") 3 refl))))))
+    (in_brackets (binary tree.Subtract (lit≤ tt) (number (codes "2") 2 refl) (number (codes "3") 3 refl))))))
 
-abbrev words_spelled : Parsed (suite (Evaluate (Boolean Or negated_chain (arguments (Name x ∷ []))) ∷ []))
+abbrev words_spelled : Parsed (suite (tree.Evaluate (tree.Boolean tree.Or negated_chain (arguments (tree.Name x ∷ []))) ∷ []))
 words_spelled =
     text (line (evaluated
     (either (lit≤ tt)
-    (unary Not (lit≤ tt)
+    (unary tree.Not (lit≤ tt)
     (comparison (lit≤ tt) (lit< tt) (number (codes "1") 1 refl)
-    (compares Less refl (number (codes "2") 2 refl) (compares LessEqual refl (number (codes "3") 3 refl) no_more))))
+    (compares tree.Less refl (number (codes "2") 2 refl) (compares tree.LessEqual refl (number (codes "3") 3 refl) no_more))))
     (name x))))
 
 -- ---- the cases

@@ -2,7 +2,7 @@
 -- Each rule stands in the line above its production, in the notation of the reference.
 use Rattle.std.specs.Prelude.{◌≡◌, ℕ, zero, suc, ◌<◌, ◌≤◌, Bool, true, false, List, [], ◌∷◌, ◌++◌, length, map, flat_map, ◌⊎◌, Option, Some, None}
 use Rattle.si_semantics.specs.Value.{Text, Nothing, Truth, Int, Str, Provided, Function, Range, Class, Address}
-use Rattle.si_semantics.specs.Tree.{BinaryOperator, Add, Subtract, Multiply, FloorDivide, Modulo, Power, BitOr, BitXor, BitAnd, ShiftLeft, ShiftRight, UnaryOperator, ComparisonOperator, BooleanOperator, Expr, Constant, Name, Unary, Binary, Call, Boolean, Compare, Conditional, Exprs, NoExprs, MoreExprs, Comparisons, NoComparisons, MoreComparisons, Stmt, Target, Named, Evaluate, Assign, Augment, Pass, If, While, For, Break, Continue, Define, Return, Global, Raise, Try, Finally, Stmts, NoStmts, MoreStmts, Clauses, NoClauses, MoreClauses}
+use Rattle.si_semantics.specs.Tree.{BinaryOperator, UnaryOperator, ComparisonOperator, BooleanOperator, Expr, Exprs, Comparisons, Stmt, Target, Stmts, Clauses}
 use Rattle.si_semantics.specs.Tree as tree
 use Rattle.si_semantics.specs.Scope.{are_distinct}
 use Rattle.si_semantics.specs.Text.{max_length}
@@ -42,58 +42,58 @@ terminal_of t = terminal t.kind t.text
 
 -- the level of an operator between two operands: a tighter one has a higher level
 abbrev pub level_of : BinaryOperator → ℕ
-level_of BitOr = 10
-level_of BitXor = 11
-level_of BitAnd = 12
-level_of ShiftLeft = 13
-level_of ShiftRight = 13
-level_of Add = 14
-level_of Subtract = 14
-level_of Multiply = 15
-level_of FloorDivide = 15
-level_of Modulo = 15
-level_of Power = 17
+level_of tree.BitOr = 10
+level_of tree.BitXor = 11
+level_of tree.BitAnd = 12
+level_of tree.ShiftLeft = 13
+level_of tree.ShiftRight = 13
+level_of tree.Add = 14
+level_of tree.Subtract = 14
+level_of tree.Multiply = 15
+level_of tree.FloorDivide = 15
+level_of tree.Modulo = 15
+level_of tree.Power = 17
 
 -- the level that its left operand has at least
 abbrev pub left_level : BinaryOperator → ℕ
-left_level BitOr = 10
-left_level BitXor = 11
-left_level BitAnd = 12
-left_level ShiftLeft = 13
-left_level ShiftRight = 13
-left_level Add = 14
-left_level Subtract = 14
-left_level Multiply = 15
-left_level FloorDivide = 15
-left_level Modulo = 15
-left_level Power = 18
+left_level tree.BitOr = 10
+left_level tree.BitXor = 11
+left_level tree.BitAnd = 12
+left_level tree.ShiftLeft = 13
+left_level tree.ShiftRight = 13
+left_level tree.Add = 14
+left_level tree.Subtract = 14
+left_level tree.Multiply = 15
+left_level tree.FloorDivide = 15
+left_level tree.Modulo = 15
+left_level tree.Power = 18
 
 -- the level that its right operand has at least
 abbrev pub right_level : BinaryOperator → ℕ
-right_level BitOr = 11
-right_level BitXor = 12
-right_level BitAnd = 13
-right_level ShiftLeft = 14
-right_level ShiftRight = 14
-right_level Add = 15
-right_level Subtract = 15
-right_level Multiply = 16
-right_level FloorDivide = 16
-right_level Modulo = 16
-right_level Power = 16
+right_level tree.BitOr = 11
+right_level tree.BitXor = 12
+right_level tree.BitAnd = 13
+right_level tree.ShiftLeft = 14
+right_level tree.ShiftRight = 14
+right_level tree.Add = 15
+right_level tree.Subtract = 15
+right_level tree.Multiply = 16
+right_level tree.FloorDivide = 16
+right_level tree.Modulo = 16
+right_level tree.Power = 16
 
 abbrev pub symbol_of : BinaryOperator → Symbol
-symbol_of BitOr = token.Bar
-symbol_of BitXor = token.Caret
-symbol_of BitAnd = token.Ampersand
-symbol_of ShiftLeft = token.LeftShift
-symbol_of ShiftRight = token.RightShift
-symbol_of Add = token.Plus
-symbol_of Subtract = token.Minus
-symbol_of Multiply = token.Star
-symbol_of FloorDivide = token.DoubleSlash
-symbol_of Modulo = token.Percent
-symbol_of Power = token.DoubleStar
+symbol_of tree.BitOr = token.Bar
+symbol_of tree.BitXor = token.Caret
+symbol_of tree.BitAnd = token.Ampersand
+symbol_of tree.ShiftLeft = token.LeftShift
+symbol_of tree.ShiftRight = token.RightShift
+symbol_of tree.Add = token.Plus
+symbol_of tree.Subtract = token.Minus
+symbol_of tree.Multiply = token.Star
+symbol_of tree.FloorDivide = token.DoubleSlash
+symbol_of tree.Modulo = token.Percent
+symbol_of tree.Power = token.DoubleStar
 
 -- the level of an operator before its operand, which has the same level at least
 abbrev pub prefix_level : UnaryOperator → ℕ
@@ -169,24 +169,24 @@ abbrev pub Language : Type 1
 Language = ℕ → Expr → List Terminal → Type 0
 
 abbrev pub items_of : Exprs → List Expr
-items_of NoExprs = []
-items_of (MoreExprs e es) = e ∷ items_of es
+items_of tree.NoExprs = []
+items_of (tree.MoreExprs e es) = e ∷ items_of es
 
 abbrev pub exprs_of : List Expr → Exprs
-exprs_of [] = NoExprs
-exprs_of (e ∷ es) = MoreExprs e (exprs_of es)
+exprs_of [] = tree.NoExprs
+exprs_of (e ∷ es) = tree.MoreExprs e (exprs_of es)
 
 -- an operator of a comparison, and the operand behind it
 abbrev pub Link : Type 0
 Link = ComparisonOperator × Expr
 
 abbrev pub links_of : Comparisons → List Link
-links_of NoComparisons = []
-links_of (MoreComparisons op e cs) = (op, e) ∷ links_of cs
+links_of tree.NoComparisons = []
+links_of (tree.MoreComparisons op e cs) = (op, e) ∷ links_of cs
 
 abbrev pub chain_of : List Link → Comparisons
-chain_of [] = NoComparisons
-chain_of (link ∷ links) = MoreComparisons link.0 link.1 (chain_of links)
+chain_of [] = tree.NoComparisons
+chain_of (link ∷ links) = tree.MoreComparisons link.0 link.1 (chain_of links)
 
 -- comparator: ('<' | '>' | '<=' | '>=' | '==' | '!=') bitor | 'is' ['not'] ('None' | 'True' | 'False')
 -- What stands behind `is` is one word, which is a choice of this project.
@@ -223,37 +223,37 @@ pub record IsPassed (arguments : List Argument) (values : List Expr) (names : Li
 abbrev pub Produces : Language → Language
 -- atom: NAME | NUMBER | STRING+ | 'None' | 'True' | 'False'
 -- The text of str literals beside each other is no longer than a str may be, which is a choice of this project.
-Produces E l (Name x) ts = ts ≡ NAME x ∷ []
-Produces E l (Constant (Int n)) ts = (digits : List ℕ) × (ts ≡ NUMBER digits ∷ []) × (value_of_int digits ≡ Some n)
-Produces E l (Constant (Str s)) ts = (0 < length ts) × (length s ≤ max_length) × Strings s ts
-Produces E l (Constant Nothing) ts = ts ≡ Word token.NoneWord ∷ []
-Produces E l (Constant (Truth b)) ts = ts ≡ Word (truth_word b) ∷ []
-Produces E l (Constant (Provided b)) ts = ⊥
-Produces E l (Constant (Function x k)) ts = ⊥
-Produces E l (Constant (Range a b c)) ts = ⊥
-Produces E l (Constant (Class k)) ts = ⊥
-Produces E l (Constant (Address x)) ts = ⊥
+Produces E l (tree.Name x) ts = ts ≡ NAME x ∷ []
+Produces E l (tree.Constant (Int n)) ts = (digits : List ℕ) × (ts ≡ NUMBER digits ∷ []) × (value_of_int digits ≡ Some n)
+Produces E l (tree.Constant (Str s)) ts = (0 < length ts) × (length s ≤ max_length) × Strings s ts
+Produces E l (tree.Constant Nothing) ts = ts ≡ Word token.NoneWord ∷ []
+Produces E l (tree.Constant (Truth b)) ts = ts ≡ Word (truth_word b) ∷ []
+Produces E l (tree.Constant (Provided b)) ts = ⊥
+Produces E l (tree.Constant (Function x k)) ts = ⊥
+Produces E l (tree.Constant (Range a b c)) ts = ⊥
+Produces E l (tree.Constant (Class k)) ts = ⊥
+Produces E l (tree.Constant (Address x)) ts = ⊥
 -- factor: ('+' | '-' | '~') factor; inversion: 'not' inversion
-Produces E l (Unary op a) ts = (f : List Terminal) × (ts ≡ prefix_of op ∷ f) × (l ≤ prefix_level op) × E (prefix_level op) a f
+Produces E l (tree.Unary op a) ts = (f : List Terminal) × (ts ≡ prefix_of op ∷ f) × (l ≤ prefix_level op) × E (prefix_level op) a f
 -- bitor: bitor '|' bitxor; bitxor: bitxor '^' bitand; bitand: bitand '&' shift; shift: shift ('<<' | '>>') sum;
 -- sum: sum ('+' | '-') term; term: term ('*' | '//' | '%') factor; power: primary '**' factor
-Produces E l (Binary op a b) ts =
+Produces E l (tree.Binary op a b) ts =
     (f : List Terminal) × (g : List Terminal) × (ts ≡ f ++ Sign (symbol_of op) ∷ g) × (l ≤ level_of op) × E (left_level op) a f × E (right_level op) b g
 -- primary: primary '(' [ argument { ',' argument } [','] ] ')'
-Produces E l (Call a args names) ts =
+Produces E l (tree.Call a args names) ts =
     (f : List Terminal) × (g : List Terminal) × (arguments : List Argument)
     × (ts ≡ f ++ Sign token.LeftParenthesis ∷ (g ++ Sign token.RightParenthesis ∷ [])) × (l ≤ 18) × E 18 a f
     × IsPassed arguments (items_of args) names × Separated (Passes E) token.Comma arguments g
 -- comparison: bitor comparator { comparator }
-Produces E l (Compare a cs) ts =
+Produces E l (tree.Compare a cs) ts =
     (f : List Terminal) × (g : List Terminal) × (ts ≡ f ++ g) × (l ≤ 8) × E 10 a f × (0 < length (links_of cs)) × Many (Compares E) (links_of cs) g
 -- conjunction: inversion 'and' inversion { 'and' inversion };
 -- disjunction: conjunction 'or' conjunction { 'or' conjunction }
-Produces E l (Boolean op a others) ts =
+Produces E l (tree.Boolean op a others) ts =
     (f : List Terminal) × (g : List Terminal) × (ts ≡ f ++ g) × (l ≤ boolean_level op) × E (item_level op) a f
     × (0 < length (items_of others)) × Many (Behind (Word (word_of op)) (E (item_level op))) (items_of others) g
 -- expression: disjunction 'if' disjunction 'else' expression
-Produces E l (Conditional test value other) ts =
+Produces E l (tree.Conditional test value other) ts =
     (f : List Terminal) × (g : List Terminal) × (h : List Terminal) × (ts ≡ f ++ Word token.IfWord ∷ (g ++ Word token.ElseWord ∷ h)) × (l ≤ 1)
     × E 3 value f × E 3 test g × E 1 other h
 
@@ -275,17 +275,17 @@ IsExpression = Spells max_depth 1
 
 -- the sign of an augmented assignment
 abbrev pub augmented_of : BinaryOperator → Symbol
-augmented_of BitOr = token.BarEqual
-augmented_of BitXor = token.CaretEqual
-augmented_of BitAnd = token.AmpersandEqual
-augmented_of ShiftLeft = token.LeftShiftEqual
-augmented_of ShiftRight = token.RightShiftEqual
-augmented_of Add = token.PlusEqual
-augmented_of Subtract = token.MinusEqual
-augmented_of Multiply = token.StarEqual
-augmented_of FloorDivide = token.DoubleSlashEqual
-augmented_of Modulo = token.PercentEqual
-augmented_of Power = token.DoubleStarEqual
+augmented_of tree.BitOr = token.BarEqual
+augmented_of tree.BitXor = token.CaretEqual
+augmented_of tree.BitAnd = token.AmpersandEqual
+augmented_of tree.ShiftLeft = token.LeftShiftEqual
+augmented_of tree.ShiftRight = token.RightShiftEqual
+augmented_of tree.Add = token.PlusEqual
+augmented_of tree.Subtract = token.MinusEqual
+augmented_of tree.Multiply = token.StarEqual
+augmented_of tree.FloorDivide = token.DoubleSlashEqual
+augmented_of tree.Modulo = token.PercentEqual
+augmented_of tree.Power = token.DoubleStarEqual
 
 -- a name
 abbrev pub IsName : Text → List Terminal → Type 0
@@ -293,7 +293,7 @@ IsName x ts = ts ≡ NAME x ∷ []
 
 -- target: NAME, round which brackets may stand
 abbrev pub IsTarget : Target → List Terminal → Type 0
-IsTarget (Named x) ts = IsExpression (Name x) ts
+IsTarget (tree.Named x) ts = IsExpression (tree.Name x) ts
 
 -- NAME { ',' NAME }
 abbrev pub Names : List Text → List Terminal → Type 0
@@ -303,32 +303,32 @@ Names (x ∷ xs) ts = (f : List Terminal) × (ts ≡ NAME x ∷ f) × Many (Behi
 -- small: expression | target '=' expression | target augmented expression | 'pass' | 'break' | 'continue'
 -- | 'return' [expression] | 'global' NAME { ',' NAME } | 'raise' [expression]
 abbrev pub Small : Stmt → List Terminal → Type 0
-Small (Evaluate e) ts = IsExpression e ts
-Small (Assign t e) ts = (f : List Terminal) × (g : List Terminal) × (ts ≡ f ++ Sign token.Equal ∷ g) × IsTarget t f × IsExpression e g
-Small (Augment t op e) ts =
+Small (tree.Evaluate e) ts = IsExpression e ts
+Small (tree.Assign t e) ts = (f : List Terminal) × (g : List Terminal) × (ts ≡ f ++ Sign token.Equal ∷ g) × IsTarget t f × IsExpression e g
+Small (tree.Augment t op e) ts =
     (f : List Terminal) × (g : List Terminal) × (ts ≡ f ++ Sign (augmented_of op) ∷ g) × IsTarget t f × IsExpression e g
-Small Pass ts = ts ≡ Word token.PassWord ∷ []
-Small Break ts = ts ≡ Word token.BreakWord ∷ []
-Small Continue ts = ts ≡ Word token.ContinueWord ∷ []
-Small (Return None) ts = ts ≡ Word token.ReturnWord ∷ []
-Small (Return (Some e)) ts = Behind (Word token.ReturnWord) IsExpression e ts
-Small (Global xs) ts = Behind (Word token.GlobalWord) Names xs ts
-Small (Raise None) ts = ts ≡ Word token.RaiseWord ∷ []
-Small (Raise (Some e)) ts = Behind (Word token.RaiseWord) IsExpression e ts
-Small (Define x ps body) ts = ⊥
-Small (If test body other) ts = ⊥
-Small (While test body other) ts = ⊥
-Small (For t over body other) ts = ⊥
-Small (Try body cs other) ts = ⊥
-Small (Finally body cs other last) ts = ⊥
+Small tree.Pass ts = ts ≡ Word token.PassWord ∷ []
+Small tree.Break ts = ts ≡ Word token.BreakWord ∷ []
+Small tree.Continue ts = ts ≡ Word token.ContinueWord ∷ []
+Small (tree.Return None) ts = ts ≡ Word token.ReturnWord ∷ []
+Small (tree.Return (Some e)) ts = Behind (Word token.ReturnWord) IsExpression e ts
+Small (tree.Global xs) ts = Behind (Word token.GlobalWord) Names xs ts
+Small (tree.Raise None) ts = ts ≡ Word token.RaiseWord ∷ []
+Small (tree.Raise (Some e)) ts = Behind (Word token.RaiseWord) IsExpression e ts
+Small (tree.Define x ps body) ts = ⊥
+Small (tree.If test body other) ts = ⊥
+Small (tree.While test body other) ts = ⊥
+Small (tree.For t over body other) ts = ⊥
+Small (tree.Try body cs other) ts = ⊥
+Small (tree.Finally body cs other last) ts = ⊥
 
 -- simple: small { ';' small } [';'] NEWLINE
 abbrev pub Simple : List Stmt → List Terminal → Type 0
 Simple ss ts = (f : List Terminal) × (ts ≡ f ++ NEWLINE ∷ []) × (0 < length ss) × Separated Small token.Semicolon ss f
 
 abbrev pub stmts_of : List Stmt → Stmts
-stmts_of [] = NoStmts
-stmts_of (s ∷ ss) = MoreStmts s (stmts_of ss)
+stmts_of [] = tree.NoStmts
+stmts_of (s ∷ ss) = tree.MoreStmts s (stmts_of ss)
 
 -- Which tokens spell the statements of a line, or a compound statement.
 abbrev pub Lines : Type 1
@@ -354,24 +354,24 @@ Tested L b ts = (f : List Terminal) × (g : List Terminal) × (ts ≡ f ++ g) ×
 
 -- ['else' suite]
 abbrev pub Otherwise : Lines → Stmts → List Terminal → Type 0
-Otherwise L body ts = ((body ≡ NoStmts) × (ts ≡ [])) ⊎ Behind (Word token.ElseWord) (Suite L) body ts
+Otherwise L body ts = ((body ≡ tree.NoStmts) × (ts ≡ [])) ⊎ Behind (Word token.ElseWord) (Suite L) body ts
 
 -- an `elif` is an `if` of its own, alone in the else suite of the one before it
 abbrev pub elifs_of : List Branch → Stmts → Stmts
 elifs_of [] last = last
-elifs_of (b ∷ more) last = MoreStmts (If b.0 b.1 (elifs_of more last)) NoStmts
+elifs_of (b ∷ more) last = tree.MoreStmts (tree.If b.0 b.1 (elifs_of more last)) tree.NoStmts
 
 -- an except clause: its expression, or none, the name that it binds, or none, and its suite
 abbrev pub Clause : Type 0
 Clause = Option Expr × Option Text × Stmts
 
 abbrev pub clauses_of : List Clause → Clauses
-clauses_of [] = NoClauses
-clauses_of (c ∷ cs) = MoreClauses c.0 c.1 c.2 (clauses_of cs)
+clauses_of [] = tree.NoClauses
+clauses_of (c ∷ cs) = tree.MoreClauses c.0 c.1 c.2 (clauses_of cs)
 
 abbrev pub clause_list : Clauses → List Clause
-clause_list NoClauses = []
-clause_list (MoreClauses a y b cs) = (a, y, b) ∷ clause_list cs
+clause_list tree.NoClauses = []
+clause_list (tree.MoreClauses a y b cs) = (a, y, b) ∷ clause_list cs
 
 -- except: 'except' [ expression ['as' NAME] ] suite
 abbrev pub Excepts : Lines → Clause → List Terminal → Type 0
@@ -390,7 +390,7 @@ bare_is_last ((Some e, y, b) ∷ d ∷ cs) = bare_is_last (d ∷ cs)
 
 -- { except } ['else' suite], the else suite behind an except clause alone
 abbrev pub Handlers : Lines → List Clause → Stmts → List Terminal → Type 0
-Handlers L [] other ts = (other ≡ NoStmts) × (ts ≡ [])
+Handlers L [] other ts = (other ≡ tree.NoStmts) × (ts ≡ [])
 Handlers L (c ∷ cs) other ts =
     (f : List Terminal) × (g : List Terminal) × (ts ≡ f ++ g) × Many (Excepts L) (c ∷ cs) f × (bare_is_last (c ∷ cs) ≡ true) × Otherwise L other g
 
@@ -400,27 +400,27 @@ max_parameters = 255
 
 abbrev pub Compound : Lines → Stmt → List Terminal → Type 0
 -- if: 'if' expression suite { 'elif' expression suite } ['else' suite]
-Compound L (If test body other) ts =
+Compound L (tree.If test body other) ts =
     (elifs : List Branch) × (last : Stmts) × (f : List Terminal) × (g : List Terminal) × (h : List Terminal)
     × (ts ≡ Word token.IfWord ∷ (f ++ (g ++ h))) × (other ≡ elifs_of elifs last)
     × Tested L (test, body) f × Many (Behind (Word token.ElifWord) (Tested L)) elifs g × Otherwise L last h
 -- while: 'while' expression suite ['else' suite]
-Compound L (While test body other) ts =
+Compound L (tree.While test body other) ts =
     (f : List Terminal) × (g : List Terminal) × (ts ≡ Word token.WhileWord ∷ (f ++ g)) × Tested L (test, body) f × Otherwise L other g
 -- for: 'for' target 'in' expression suite ['else' suite]
-Compound L (For t over body other) ts =
+Compound L (tree.For t over body other) ts =
     (f : List Terminal) × (g : List Terminal) × (h : List Terminal)
     × (ts ≡ Word token.ForWord ∷ (f ++ Word token.InWord ∷ (g ++ h))) × IsTarget t f × Tested L (over, body) g × Otherwise L other h
 -- try: 'try' suite except { except } ['else' suite]
-Compound L (Try body cs other) ts =
+Compound L (tree.Try body cs other) ts =
     (f : List Terminal) × (g : List Terminal)
     × (ts ≡ Word token.TryWord ∷ (f ++ g)) × Suite L body f × (0 < length (clause_list cs)) × Handlers L (clause_list cs) other g
 -- | 'try' suite { except } ['else' suite] 'finally' suite
-Compound L (Finally body cs other last) ts =
+Compound L (tree.Finally body cs other last) ts =
     (f : List Terminal) × (g : List Terminal) × (h : List Terminal)
     × (ts ≡ Word token.TryWord ∷ (f ++ (g ++ Word token.FinallyWord ∷ h))) × Suite L body f × Handlers L (clause_list cs) other g × Suite L last h
 -- def: 'def' NAME '(' [ NAME { ',' NAME } [','] ] ')' suite
-Compound L (Define x ps body) ts =
+Compound L (tree.Define x ps body) ts =
     (f : List Terminal) × (g : List Terminal)
     × (ts ≡ Word token.DefWord ∷ (NAME x ∷ (Sign token.LeftParenthesis ∷ (f ++ Sign token.RightParenthesis ∷ g))))
     × Separated IsName token.Comma ps f × (length ps ≤ max_parameters) × Suite L body g

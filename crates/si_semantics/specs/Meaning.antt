@@ -1,7 +1,7 @@
 -- What a tree means (Python Language Reference 3.14, 6 to 8): no program counter, no frame, no stack.
 use Rattle.std.specs.Prelude.{ℕ, zero, suc, ◌+◌, List, [], ◌∷◌, ◌++◌, ◌-◌, length, Bool, true, false, not, Option, Some, None, nat_eq, slice_get, slice_set}
 use Rattle.si_semantics.specs.Value.{Text, Value, Nothing, Str, Function, Address}
-use Rattle.si_semantics.specs.Tree.{BooleanOperator, And, Or, Expr, Constant, Name, Unary, Binary, Call, Boolean, Compare, Conditional, Exprs, NoExprs, MoreExprs, Comparisons, NoComparisons, MoreComparisons, Stmt, Target, Named, Evaluate, Assign, Augment, Pass, If, While, For, Break, Continue, Define, Return, Global, Raise, Try, Finally, Stmts, NoStmts, MoreStmts, Clauses, NoClauses, MoreClauses, functions_of, functions_in, functions_in_clauses}
+use Rattle.si_semantics.specs.Tree.{BooleanOperator, Expr, Exprs, Comparisons, Stmt, Target, Stmts, Clauses, functions_of, functions_in, functions_in_clauses}
 use Rattle.si_semantics.specs.Tree as tree
 use Rattle.si_semantics.specs.Scope.{place_of, locals_of}
 use Rattle.si_semantics.specs.World.{World, Request, Answer, Got, Failed, Wants, Ran, Gave, Threw, Asked, set_global, unset_global}
@@ -109,11 +109,11 @@ assign x (Some k) v s = Gives tt (record s { slots = slice_set s.slots k (Some v
 
 -- a target is bound to a value (Language Reference, 7.2)
 abbrev pub bind : Scope → Target → Value → Meaning (Unit {0})
-bind e (Named x) v s = assign x (place_of x e.locals) v s
+bind e (tree.Named x) v s = assign x (place_of x e.locals) v s
 
 -- the value that a target has (Language Reference, 7.2.1)
 abbrev pub target_value : Scope → Target → Meaning Value
-target_value e (Named x) s = read x (place_of x e.locals) s
+target_value e (tree.Named x) s = read x (place_of x e.locals) s
 
 -- a name is unbound, where it is bound (Language Reference, 8.4.1)
 abbrev pub unassign : Text → Option ℕ → Meaning (Unit {0})
@@ -133,41 +133,41 @@ choose false a b = b
 
 -- `and` ends with the first operand that is not true, `or` with the first that is (Language Reference, 6.11)
 abbrev pub decides : BooleanOperator → Value → World → Bool
-decides And v w = not (is_true v w)
-decides Or v w = is_true v w
+decides tree.And v w = not (is_true v w)
+decides tree.Or v w = is_true v w
 
 -- a comparison of a chain gave t: it ends with the last one, and with one that is not true (Language Reference, 6.10)
 abbrev pub compared : Comparisons → Value → Meaning Value → Meaning Value
-compared NoComparisons t rest s = Gives t s
-compared (MoreComparisons o a cs) t rest s = choose (is_true t s.world) (rest s) (Gives t s)
+compared tree.NoComparisons t rest s = Gives t s
+compared (tree.MoreComparisons o a cs) t rest s = choose (is_true t s.world) (rest s) (Gives t s)
 
 abbrev mutual
   -- an expression, its operands from left to right (Language Reference, 6.16); of a call the callee first (6.3.3), of a
   -- conditional expression the test (6.13)
   pub expr : Scope → Expr → Meaning Value
-  expr e (Constant v) s = Gives v (visit s)
-  expr e (Name x) s = read x (place_of x e.locals) (visit s)
-  expr e (Unary o a) s = then (expr e a (visit s)) (λ v s1. ran (operate_unary o v s1.world) s1)
-  expr e (Binary o a b) s = then (expr e a (visit s)) (λ u s1. then (expr e b s1) (λ v s2. ran (operate o u v s2.world) s2))
-  expr e (Call f args names) s = then (expr e f (visit s)) (λ g s1. then (exprs e args s1) (λ vs s2. calls e g vs names s2))
-  expr e (Boolean o a more) s = then (expr e a (visit s)) (λ u s1. operands e o u more s1)
-  expr e (Compare a cs) s = then (expr e a (visit s)) (λ u s1. chain e u cs s1)
-  expr e (Conditional a b c) s = then (expr e a (visit s)) (λ t s1. choose (is_true t s1.world) (expr e b s1) (expr e c s1))
+  expr e (tree.Constant v) s = Gives v (visit s)
+  expr e (tree.Name x) s = read x (place_of x e.locals) (visit s)
+  expr e (tree.Unary o a) s = then (expr e a (visit s)) (λ v s1. ran (operate_unary o v s1.world) s1)
+  expr e (tree.Binary o a b) s = then (expr e a (visit s)) (λ u s1. then (expr e b s1) (λ v s2. ran (operate o u v s2.world) s2))
+  expr e (tree.Call f args names) s = then (expr e f (visit s)) (λ g s1. then (exprs e args s1) (λ vs s2. calls e g vs names s2))
+  expr e (tree.Boolean o a more) s = then (expr e a (visit s)) (λ u s1. operands e o u more s1)
+  expr e (tree.Compare a cs) s = then (expr e a (visit s)) (λ u s1. chain e u cs s1)
+  expr e (tree.Conditional a b c) s = then (expr e a (visit s)) (λ t s1. choose (is_true t s1.world) (expr e b s1) (expr e c s1))
 
   -- expressions in a row
   pub exprs : Scope → Exprs → Meaning (List Value)
-  exprs e NoExprs s = Gives [] s
-  exprs e (MoreExprs a args) s = then (expr e a s) (λ v s1. then (exprs e args s1) (λ vs s2. Gives (v ∷ vs) s2))
+  exprs e tree.NoExprs s = Gives [] s
+  exprs e (tree.MoreExprs a args) s = then (expr e a s) (λ v s1. then (exprs e args s1) (λ vs s2. Gives (v ∷ vs) s2))
 
   -- what `and` or `or` makes of an operand and those behind it: each is evaluated unless one before it decides
   pub operands : Scope → BooleanOperator → Value → Exprs → Meaning Value
-  operands e o u NoExprs s = Gives u s
-  operands e o u (MoreExprs a more) s = choose (decides o u s.world) (Gives u s) (then (expr e a s) (λ v s1. operands e o v more s1))
+  operands e o u tree.NoExprs s = Gives u s
+  operands e o u (tree.MoreExprs a more) s = choose (decides o u s.world) (Gives u s) (then (expr e a s) (λ v s1. operands e o v more s1))
 
   -- a chain of comparisons behind an operand
   pub chain : Scope → Value → Comparisons → Meaning Value
-  chain e u NoComparisons s = Gives u s
-  chain e u (MoreComparisons o a cs) s =
+  chain e u tree.NoComparisons s = Gives u s
+  chain e u (tree.MoreComparisons o a cs) s =
       then (expr e a s) (λ v s1. then (ran (compare o u v s1.world) s1) (λ t s2. compared cs t (chain e v cs) s2))
 
 -- after the body of a turn there is another turn, unless the body was left by `break`, which ends the loop without its
@@ -251,39 +251,39 @@ abbrev mutual
   -- one the target, its value, the right side, the operation, and then the target is bound (7.2.1); `def` binds its name
   -- to the function (8.7), `global` does nothing (7.12)
   pub stmt : Scope → Stmt → Meaning (Unit {0})
-  stmt e (Evaluate a) s = then (expr e a (visit s)) (λ v s1. Gives tt s1)
-  stmt e (Assign t a) s = then (expr e a (visit s)) (λ v s1. bind e t v (visit s1))
-  stmt e (Augment t o a) s =
+  stmt e (tree.Evaluate a) s = then (expr e a (visit s)) (λ v s1. Gives tt s1)
+  stmt e (tree.Assign t a) s = then (expr e a (visit s)) (λ v s1. bind e t v (visit s1))
+  stmt e (tree.Augment t o a) s =
       then (target_value e t (visit (visit s))) (λ u s1. then (expr e a s1) (λ v s2. then (ran (operate o u v s2.world) s2) (λ z s3. bind e t z s3)))
-  stmt e Pass s = Gives tt (visit s)
-  stmt e (If a b c) s = then (expr e a (visit s)) (λ t s1. choose (is_true t s1.world) (stmts e b s1) (stmts (behind (functions_in b) e) c s1))
-  stmt e (While a b c) s = loop e.turns (expr e a) (stmts e b) (stmts (behind (functions_in b) e) c) (visit s)
-  stmt e (For t a b c) s =
+  stmt e tree.Pass s = Gives tt (visit s)
+  stmt e (tree.If a b c) s = then (expr e a (visit s)) (λ t s1. choose (is_true t s1.world) (stmts e b s1) (stmts (behind (functions_in b) e) c s1))
+  stmt e (tree.While a b c) s = loop e.turns (expr e a) (stmts e b) (stmts (behind (functions_in b) e) c) (visit s)
+  stmt e (tree.For t a b c) s =
       then (expr e a (visit s)) (λ v s1. over (iterator_of v s1.world) (for_loop e.turns (λ u s2. bind e t u (visit s2)) (stmts e b) (stmts (behind (functions_in b) e) c)) s1)
-  stmt e Break s = Leaves Breaks (visit s)
-  stmt e Continue s = Leaves Continues (visit s)
-  stmt e (Define f ps b) s = assign f (place_of f e.locals) (Function f e.first) (visit s)
-  stmt e (Return a) s = returning e a (visit s)
-  stmt e (Global xs) s = Gives tt (visit s)
-  stmt e (Raise a) s = raising e a (visit s)
-  stmt e (Try b cs c) s =
+  stmt e tree.Break s = Leaves Breaks (visit s)
+  stmt e tree.Continue s = Leaves Continues (visit s)
+  stmt e (tree.Define f ps b) s = assign f (place_of f e.locals) (Function f e.first) (visit s)
+  stmt e (tree.Return a) s = returning e a (visit s)
+  stmt e (tree.Global xs) s = Gives tt (visit s)
+  stmt e (tree.Raise a) s = raising e a (visit s)
+  stmt e (tree.Try b cs c) s =
       caught (stmts e b (visit s)) (λ x. clauses (behind (functions_in b) (with_active (Some x) e)) cs x) (stmts (behind (functions_in b ++ functions_in_clauses cs) e) c)
-  stmt e (Finally b cs c f) s =
+  stmt e (tree.Finally b cs c f) s =
       finally e.active
       (caught (stmts e b (visit s)) (λ x. clauses (behind (functions_in b) (with_active (Some x) e)) cs x) (stmts (behind (functions_in b ++ functions_in_clauses cs) e) c))
       (λ active. stmts (behind (functions_in b ++ (functions_in_clauses cs ++ functions_in c)) (with_active active e)) f)
 
   -- statements in a row
   pub stmts : Scope → Stmts → Meaning (Unit {0})
-  stmts e NoStmts s = Gives tt s
-  stmts e (MoreStmts a b) s = then (stmt e a s) (λ u s1. stmts (behind (functions_of a) e) b s1)
+  stmts e tree.NoStmts s = Gives tt s
+  stmts e (tree.MoreStmts a b) s = then (stmt e a s) (λ u s1. stmts (behind (functions_of a) e) b s1)
 
   -- the except clauses for an exception: the suite of the first that matches, those behind it are not looked at; a bare
   -- one matches each (Language Reference, 8.4.1)
   pub clauses : Scope → Clauses → ℕ → Meaning (Unit {0})
-  clauses e NoClauses x s = Leaves (Raises x) s
-  clauses e (MoreClauses None y b cs) x s = named e y x (stmts e b) (visit s)
-  clauses e (MoreClauses (Some a) y b cs) x s =
+  clauses e tree.NoClauses x s = Leaves (Raises x) s
+  clauses e (tree.MoreClauses None y b cs) x s = named e y x (stmts e b) (visit s)
+  clauses e (tree.MoreClauses (Some a) y b cs) x s =
       then (expr e a (visit s))
       (λ v s1. then (ran (catches v x s1.world) s1) (λ t s2. choose (is_true t s2.world) (named e y x (stmts e b) s2) (clauses (behind (functions_in b) e) cs x s2)))
 

@@ -6,7 +6,8 @@ use Rattle.si_plain.specs.Kinds.{name_of, same_kind, is_a}
 use Rattle.si_plain.specs.Integers.{sum_of, difference_of, product_of, floor_quotient, floor_remainder, power_result, negative_of, shifted_left, shifted_right, inverted, bits_and, bits_or, bits_xor}
 use Rattle.si_semantics.specs.Value.{Text, Value, Nothing, Truth, Int, Str, Provided, Function, Range, Class, Address, BuiltIn, Print, MakeRange, MakeStr, Repr, Object}
 use Rattle.si_semantics.specs.Value as value
-use Rattle.si_semantics.specs.Tree.{BinaryOperator, Add, Subtract, Multiply, FloorDivide, Modulo, Power, BitOr, BitXor, BitAnd, ShiftLeft, ShiftRight, UnaryOperator, Plus, Minus, Invert, Not, ComparisonOperator, Less, Greater, LessEqual, GreaterEqual, Equal, NotEqual, Is, IsNot}
+use Rattle.si_semantics.specs.Tree as tree
+use Rattle.si_semantics.specs.Tree.{BinaryOperator, UnaryOperator, ComparisonOperator}
 use Rattle.si_semantics.specs.Text.{max_length, same_text, same_int, str_in, repr_in, line_of}
 use Rattle.si_semantics.specs.World.{World, Request, Answer, Ran, Gave, Threw, Replied}
 
@@ -62,17 +63,17 @@ repeated s (negsuc n) w = gave (Str []) w
 
 -- an operator between integers (Language Reference, 6.5 and 6.7 to 6.9)
 abbrev pub operate_integers : BinaryOperator → ℤ → ℤ → Result ℤ Kind
-operate_integers Add i j = sum_of i j
-operate_integers Subtract i j = difference_of i j
-operate_integers Multiply i j = product_of i j
-operate_integers FloorDivide i j = floor_quotient i j
-operate_integers Modulo i j = floor_remainder i j
-operate_integers Power i j = power_result i j
-operate_integers BitOr i j = Ok (bits_or i j)
-operate_integers BitXor i j = Ok (bits_xor i j)
-operate_integers BitAnd i j = Ok (bits_and i j)
-operate_integers ShiftLeft i j = shifted_left i j
-operate_integers ShiftRight i j = shifted_right i j
+operate_integers tree.Add i j = sum_of i j
+operate_integers tree.Subtract i j = difference_of i j
+operate_integers tree.Multiply i j = product_of i j
+operate_integers tree.FloorDivide i j = floor_quotient i j
+operate_integers tree.Modulo i j = floor_remainder i j
+operate_integers tree.Power i j = power_result i j
+operate_integers tree.BitOr i j = Ok (bits_or i j)
+operate_integers tree.BitXor i j = Ok (bits_xor i j)
+operate_integers tree.BitAnd i j = Ok (bits_and i j)
+operate_integers tree.ShiftLeft i j = shifted_left i j
+operate_integers tree.ShiftRight i j = shifted_right i j
 
 -- True counts as 1 and False as 0 (Language Reference, 3.2)
 abbrev pub int_of_truth : Bool → ℤ
@@ -86,9 +87,9 @@ differ false b = b
 
 -- an operator between two of True and False: `|`, `^` and `&` give one of them (Language Reference, 6.9)
 abbrev pub operate_truths : BinaryOperator → Bool → Bool → World → Ran
-operate_truths BitOr a b w = gave (Truth (a || b)) w
-operate_truths BitXor a b w = gave (Truth (differ a b)) w
-operate_truths BitAnd a b w = gave (Truth (a && b)) w
+operate_truths tree.BitOr a b w = gave (Truth (a || b)) w
+operate_truths tree.BitXor a b w = gave (Truth (differ a b)) w
+operate_truths tree.BitAnd a b w = gave (Truth (a && b)) w
 operate_truths o a b w = integer (operate_integers o (int_of_truth a) (int_of_truth b)) w
 
 -- an operator between two values (Language Reference, 6.5 and 6.7 to 6.9)
@@ -97,11 +98,11 @@ operate o (Int i) (Int j) w = integer (operate_integers o i j) w
 operate o (Int i) (Truth b) w = integer (operate_integers o i (int_of_truth b)) w
 operate o (Truth a) (Int j) w = integer (operate_integers o (int_of_truth a) j) w
 operate o (Truth a) (Truth b) w = operate_truths o a b w
-operate Add (Str s) (Str t) w = within (s ++ t) w
-operate Multiply (Str s) (Int j) w = repeated s j w
-operate Multiply (Str s) (Truth b) w = repeated s (int_of_truth b) w
-operate Multiply (Int i) (Str t) w = repeated t i w
-operate Multiply (Truth a) (Str t) w = repeated t (int_of_truth a) w
+operate tree.Add (Str s) (Str t) w = within (s ++ t) w
+operate tree.Multiply (Str s) (Int j) w = repeated s j w
+operate tree.Multiply (Str s) (Truth b) w = repeated s (int_of_truth b) w
+operate tree.Multiply (Int i) (Str t) w = repeated t i w
+operate tree.Multiply (Truth a) (Str t) w = repeated t (int_of_truth a) w
 operate _ _ _ w = wrong_type w
 
 -- an item of a range lies before its stop, the way that the step goes (Standard Library, "Built-in Types": ranges)
@@ -125,13 +126,13 @@ is_true _ w = true
 
 -- an operator before a value (Language Reference, 6.6; `not`: 6.11)
 abbrev pub operate_unary : UnaryOperator → Value → World → Ran
-operate_unary Not v w = gave (Truth (not (is_true v w))) w
-operate_unary Plus (Int i) w = gave (Int i) w
-operate_unary Plus (Truth a) w = gave (Int (int_of_truth a)) w
-operate_unary Minus (Int i) w = integer (negative_of i) w
-operate_unary Minus (Truth a) w = integer (negative_of (int_of_truth a)) w
-operate_unary Invert (Int i) w = gave (Int (inverted i)) w
-operate_unary Invert (Truth a) w = gave (Int (inverted (int_of_truth a))) w
+operate_unary tree.Not v w = gave (Truth (not (is_true v w))) w
+operate_unary tree.Plus (Int i) w = gave (Int i) w
+operate_unary tree.Plus (Truth a) w = gave (Int (int_of_truth a)) w
+operate_unary tree.Minus (Int i) w = integer (negative_of i) w
+operate_unary tree.Minus (Truth a) w = integer (negative_of (int_of_truth a)) w
+operate_unary tree.Invert (Int i) w = gave (Int (inverted i)) w
+operate_unary tree.Invert (Truth a) w = gave (Int (inverted (int_of_truth a))) w
 operate_unary _ _ w = wrong_type w
 
 -- a text comes before another: at the first character that differs, or where it ends, a longer one goes on (6.10.1)
@@ -205,14 +206,14 @@ opposite (Err k) = Err k
 
 -- a comparison of two values (Language Reference, 6.10)
 abbrev pub compare : ComparisonOperator → Value → Value → World → Ran
-compare Less u v w = truth (is_less u v w) w
-compare Greater u v w = truth (is_less v u w) w
-compare LessEqual u v w = truth (opposite (is_less v u w)) w
-compare GreaterEqual u v w = truth (opposite (is_less u v w)) w
-compare Equal u v w = truth (are_equal u v w) w
-compare NotEqual u v w = truth (opposite (are_equal u v w)) w
-compare Is u v w = gave (Truth (is_same u v)) w
-compare IsNot u v w = gave (Truth (not (is_same u v))) w
+compare tree.Less u v w = truth (is_less u v w) w
+compare tree.Greater u v w = truth (is_less v u w) w
+compare tree.LessEqual u v w = truth (opposite (is_less v u w)) w
+compare tree.GreaterEqual u v w = truth (opposite (is_less u v w)) w
+compare tree.Equal u v w = truth (are_equal u v w) w
+compare tree.NotEqual u v w = truth (opposite (are_equal u v w)) w
+compare tree.Is u v w = gave (Truth (is_same u v)) w
+compare tree.IsNot u v w = gave (Truth (not (is_same u v))) w
 
 -- the kinds that have built-in names (Standard Library, "Built-in Exceptions")
 abbrev pub built_in_kinds : List Kind

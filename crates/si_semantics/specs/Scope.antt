@@ -3,7 +3,8 @@
 use Rattle.std.specs.Prelude.{ℕ, ◌+◌, List, [], ◌∷◌, ◌++◌, Bool, true, false, not, ◌&&◌, ◌||◌, Option, Some, None, option_map, if◌then◌else◌}
 use Rattle.si_semantics.specs.Value.{Text}
 use Rattle.si_semantics.specs.Text.{same_text}
-use Rattle.si_semantics.specs.Tree.{Expr, Constant, Name, Unary, Binary, Call, Boolean, Compare, Conditional, Exprs, NoExprs, MoreExprs, Comparisons, NoComparisons, MoreComparisons, Stmt, Target, Named, Evaluate, Assign, Augment, Pass, If, While, For, Break, Continue, Define, Return, Global, Raise, Try, Finally, Stmts, NoStmts, MoreStmts, Clauses, NoClauses, MoreClauses, Function}
+use Rattle.si_semantics.specs.Tree as tree
+use Rattle.si_semantics.specs.Tree.{Expr, Exprs, Comparisons, Stmt, Target, Stmts, Clauses, Function}
 
 -- ---- lists of names
 
@@ -37,22 +38,22 @@ place_of x (y ∷ ys) = if same_text x y then Some 0 else option_map (λ k. k + 
 abbrev mutual
   -- the names that an expression uses
   pub names_of : Expr → List Text
-  names_of (Constant v) = []
-  names_of (Name x) = x ∷ []
-  names_of (Unary o a) = names_of a
-  names_of (Binary o a b) = names_of a ++ names_of b
-  names_of (Call f args keywords) = names_of f ++ names_of_all args
-  names_of (Boolean o a more) = names_of a ++ names_of_all more
-  names_of (Compare a cs) = names_of a ++ names_of_chain cs
-  names_of (Conditional a b c) = names_of a ++ names_of b ++ names_of c
+  names_of (tree.Constant v) = []
+  names_of (tree.Name x) = x ∷ []
+  names_of (tree.Unary o a) = names_of a
+  names_of (tree.Binary o a b) = names_of a ++ names_of b
+  names_of (tree.Call f args keywords) = names_of f ++ names_of_all args
+  names_of (tree.Boolean o a more) = names_of a ++ names_of_all more
+  names_of (tree.Compare a cs) = names_of a ++ names_of_chain cs
+  names_of (tree.Conditional a b c) = names_of a ++ names_of b ++ names_of c
 
   pub names_of_all : Exprs → List Text
-  names_of_all NoExprs = []
-  names_of_all (MoreExprs a args) = names_of a ++ names_of_all args
+  names_of_all tree.NoExprs = []
+  names_of_all (tree.MoreExprs a args) = names_of a ++ names_of_all args
 
   pub names_of_chain : Comparisons → List Text
-  names_of_chain NoComparisons = []
-  names_of_chain (MoreComparisons o a cs) = names_of a ++ names_of_chain cs
+  names_of_chain tree.NoComparisons = []
+  names_of_chain (tree.MoreComparisons o a cs) = names_of a ++ names_of_chain cs
 
 -- the names of an expression that may be left out
 abbrev pub names_of_value : Option Expr → List Text
@@ -61,11 +62,11 @@ names_of_value (Some a) = names_of a
 
 -- the names that a target binds (4.2.1)
 abbrev pub bound_by_target : Target → List Text
-bound_by_target (Named x) = x ∷ []
+bound_by_target (tree.Named x) = x ∷ []
 
 -- the names that a target uses or binds
 abbrev pub used_by_target : Target → List Text
-used_by_target (Named x) = x ∷ []
+used_by_target (tree.Named x) = x ∷ []
 
 -- a name that may be left out
 abbrev pub name_in : Option Text → List Text
@@ -75,94 +76,94 @@ name_in (Some y) = y ∷ []
 abbrev mutual
   -- the names that a statement binds (4.2.1): a `for` its target, an `except` clause the name behind `as`
   pub bound_by : Stmt → List Text
-  bound_by (Assign t a) = bound_by_target t
-  bound_by (Augment t o a) = bound_by_target t
-  bound_by (If a b c) = bound_in b ++ bound_in c
-  bound_by (While a b c) = bound_in b ++ bound_in c
-  bound_by (For t a b c) = bound_by_target t ++ (bound_in b ++ bound_in c)
-  bound_by (Define f ps b) = f ∷ []
-  bound_by (Try b cs c) = bound_in b ++ (bound_in_clauses cs ++ bound_in c)
-  bound_by (Finally b cs c f) = bound_in b ++ (bound_in_clauses cs ++ (bound_in c ++ bound_in f))
+  bound_by (tree.Assign t a) = bound_by_target t
+  bound_by (tree.Augment t o a) = bound_by_target t
+  bound_by (tree.If a b c) = bound_in b ++ bound_in c
+  bound_by (tree.While a b c) = bound_in b ++ bound_in c
+  bound_by (tree.For t a b c) = bound_by_target t ++ (bound_in b ++ bound_in c)
+  bound_by (tree.Define f ps b) = f ∷ []
+  bound_by (tree.Try b cs c) = bound_in b ++ (bound_in_clauses cs ++ bound_in c)
+  bound_by (tree.Finally b cs c f) = bound_in b ++ (bound_in_clauses cs ++ (bound_in c ++ bound_in f))
   bound_by _ = []
 
   pub bound_in : Stmts → List Text
-  bound_in NoStmts = []
-  bound_in (MoreStmts a b) = bound_by a ++ bound_in b
+  bound_in tree.NoStmts = []
+  bound_in (tree.MoreStmts a b) = bound_by a ++ bound_in b
 
   pub bound_in_clauses : Clauses → List Text
-  bound_in_clauses NoClauses = []
-  bound_in_clauses (MoreClauses a y b cs) = name_in y ++ (bound_in b ++ bound_in_clauses cs)
+  bound_in_clauses tree.NoClauses = []
+  bound_in_clauses (tree.MoreClauses a y b cs) = name_in y ++ (bound_in b ++ bound_in_clauses cs)
 
 abbrev mutual
   -- the names that a statement declares global (7.12)
   pub declared_by : Stmt → List Text
-  declared_by (Global xs) = xs
-  declared_by (If a b c) = declared_in b ++ declared_in c
-  declared_by (While a b c) = declared_in b ++ declared_in c
-  declared_by (For t a b c) = declared_in b ++ declared_in c
-  declared_by (Try b cs c) = declared_in b ++ (declared_in_clauses cs ++ declared_in c)
-  declared_by (Finally b cs c f) = declared_in b ++ (declared_in_clauses cs ++ (declared_in c ++ declared_in f))
+  declared_by (tree.Global xs) = xs
+  declared_by (tree.If a b c) = declared_in b ++ declared_in c
+  declared_by (tree.While a b c) = declared_in b ++ declared_in c
+  declared_by (tree.For t a b c) = declared_in b ++ declared_in c
+  declared_by (tree.Try b cs c) = declared_in b ++ (declared_in_clauses cs ++ declared_in c)
+  declared_by (tree.Finally b cs c f) = declared_in b ++ (declared_in_clauses cs ++ (declared_in c ++ declared_in f))
   declared_by _ = []
 
   pub declared_in : Stmts → List Text
-  declared_in NoStmts = []
-  declared_in (MoreStmts a b) = declared_by a ++ declared_in b
+  declared_in tree.NoStmts = []
+  declared_in (tree.MoreStmts a b) = declared_by a ++ declared_in b
 
   pub declared_in_clauses : Clauses → List Text
-  declared_in_clauses NoClauses = []
-  declared_in_clauses (MoreClauses a y b cs) = declared_in b ++ declared_in_clauses cs
+  declared_in_clauses tree.NoClauses = []
+  declared_in_clauses (tree.MoreClauses a y b cs) = declared_in b ++ declared_in_clauses cs
 
 abbrev mutual
   -- the names that a statement uses or binds; a declaration is no use
   pub used_by : Stmt → List Text
-  used_by (Evaluate a) = names_of a
-  used_by (Assign t a) = used_by_target t ++ names_of a
-  used_by (Augment t o a) = used_by_target t ++ names_of a
-  used_by Pass = []
-  used_by (If a b c) = names_of a ++ used_in b ++ used_in c
-  used_by (While a b c) = names_of a ++ used_in b ++ used_in c
-  used_by (For t a b c) = used_by_target t ++ (names_of a ++ used_in b ++ used_in c)
-  used_by Break = []
-  used_by Continue = []
-  used_by (Define f ps b) = f ∷ []
-  used_by (Return a) = names_of_value a
-  used_by (Global xs) = []
-  used_by (Raise a) = names_of_value a
-  used_by (Try b cs c) = used_in b ++ (used_in_clauses cs ++ used_in c)
-  used_by (Finally b cs c f) = used_in b ++ (used_in_clauses cs ++ (used_in c ++ used_in f))
+  used_by (tree.Evaluate a) = names_of a
+  used_by (tree.Assign t a) = used_by_target t ++ names_of a
+  used_by (tree.Augment t o a) = used_by_target t ++ names_of a
+  used_by tree.Pass = []
+  used_by (tree.If a b c) = names_of a ++ used_in b ++ used_in c
+  used_by (tree.While a b c) = names_of a ++ used_in b ++ used_in c
+  used_by (tree.For t a b c) = used_by_target t ++ (names_of a ++ used_in b ++ used_in c)
+  used_by tree.Break = []
+  used_by tree.Continue = []
+  used_by (tree.Define f ps b) = f ∷ []
+  used_by (tree.Return a) = names_of_value a
+  used_by (tree.Global xs) = []
+  used_by (tree.Raise a) = names_of_value a
+  used_by (tree.Try b cs c) = used_in b ++ (used_in_clauses cs ++ used_in c)
+  used_by (tree.Finally b cs c f) = used_in b ++ (used_in_clauses cs ++ (used_in c ++ used_in f))
 
   pub used_in : Stmts → List Text
-  used_in NoStmts = []
-  used_in (MoreStmts a b) = used_by a ++ used_in b
+  used_in tree.NoStmts = []
+  used_in (tree.MoreStmts a b) = used_by a ++ used_in b
 
   pub used_in_clauses : Clauses → List Text
-  used_in_clauses NoClauses = []
-  used_in_clauses (MoreClauses a y b cs) = names_of_value a ++ (name_in y ++ (used_in b ++ used_in_clauses cs))
+  used_in_clauses tree.NoClauses = []
+  used_in_clauses (tree.MoreClauses a y b cs) = names_of_value a ++ (name_in y ++ (used_in b ++ used_in_clauses cs))
 
 abbrev mutual
   -- no name is used in front of its declaration (7.12)
   pub declares_first : Stmt → Bool
-  declares_first (If a b c) =
+  declares_first (tree.If a b c) =
       are_apart (names_of a) (declared_in b ++ declared_in c) && are_apart (used_in b) (declared_in c) && declare_first b && declare_first c
-  declares_first (While a b c) =
+  declares_first (tree.While a b c) =
       are_apart (names_of a) (declared_in b ++ declared_in c) && are_apart (used_in b) (declared_in c) && declare_first b && declare_first c
-  declares_first (For t a b c) =
+  declares_first (tree.For t a b c) =
       are_apart (used_by_target t ++ names_of a) (declared_in b ++ declared_in c) && are_apart (used_in b) (declared_in c) && declare_first b && declare_first c
-  declares_first (Try b cs c) =
+  declares_first (tree.Try b cs c) =
       are_apart (used_in b) (declared_in_clauses cs ++ declared_in c) && are_apart (used_in_clauses cs) (declared_in c)
       && declare_first b && clauses_declare_first cs && declare_first c
-  declares_first (Finally b cs c f) =
+  declares_first (tree.Finally b cs c f) =
       are_apart (used_in b) (declared_in_clauses cs ++ (declared_in c ++ declared_in f)) && are_apart (used_in_clauses cs) (declared_in c ++ declared_in f)
       && are_apart (used_in c) (declared_in f) && declare_first b && clauses_declare_first cs && declare_first c && declare_first f
   declares_first _ = true
 
   pub declare_first : Stmts → Bool
-  declare_first NoStmts = true
-  declare_first (MoreStmts a b) = are_apart (used_by a) (declared_in b) && declares_first a && declare_first b
+  declare_first tree.NoStmts = true
+  declare_first (tree.MoreStmts a b) = are_apart (used_by a) (declared_in b) && declares_first a && declare_first b
 
   pub clauses_declare_first : Clauses → Bool
-  clauses_declare_first NoClauses = true
-  clauses_declare_first (MoreClauses a y b cs) =
+  clauses_declare_first tree.NoClauses = true
+  clauses_declare_first (tree.MoreClauses a y b cs) =
       are_apart (names_of_value a ++ name_in y) (declared_in b ++ declared_in_clauses cs) && are_apart (used_in b) (declared_in_clauses cs)
       && declare_first b && clauses_declare_first cs
 
@@ -209,32 +210,32 @@ finishing (InFunction loop returns) = InFunction false false
 abbrev mutual
   -- a statement stands where it may; a loop's else suite is no part of its body
   pub stmt_scoped : Within → Stmt → Bool
-  stmt_scoped w (Evaluate a) = true
-  stmt_scoped w (Assign t a) = true
-  stmt_scoped w (Augment t o a) = true
-  stmt_scoped w Pass = true
-  stmt_scoped w (If a b c) = stmts_scoped w b && stmts_scoped w c
-  stmt_scoped w (While a b c) = stmts_scoped (looping w) b && stmts_scoped w c
-  stmt_scoped w (For t a b c) = stmts_scoped (looping w) b && stmts_scoped w c
-  stmt_scoped w Break = in_loop w
-  stmt_scoped w Continue = in_loop w
-  stmt_scoped w (Define f ps b) =
+  stmt_scoped w (tree.Evaluate a) = true
+  stmt_scoped w (tree.Assign t a) = true
+  stmt_scoped w (tree.Augment t o a) = true
+  stmt_scoped w tree.Pass = true
+  stmt_scoped w (tree.If a b c) = stmts_scoped w b && stmts_scoped w c
+  stmt_scoped w (tree.While a b c) = stmts_scoped (looping w) b && stmts_scoped w c
+  stmt_scoped w (tree.For t a b c) = stmts_scoped (looping w) b && stmts_scoped w c
+  stmt_scoped w tree.Break = in_loop w
+  stmt_scoped w tree.Continue = in_loop w
+  stmt_scoped w (tree.Define f ps b) =
       not (in_function w) && are_distinct ps && are_apart ps (declared_in b) && declare_first b && stmts_scoped (InFunction false true) b
-  stmt_scoped w (Return a) = may_return w
-  stmt_scoped w (Global xs) = in_function w
-  stmt_scoped w (Raise a) = true
-  stmt_scoped w (Try b cs c) = stmts_scoped w b && clauses_scoped w cs && stmts_scoped w c
-  stmt_scoped w (Finally b cs c f) = stmts_scoped w b && clauses_scoped w cs && stmts_scoped w c && stmts_scoped (finishing w) f
+  stmt_scoped w (tree.Return a) = may_return w
+  stmt_scoped w (tree.Global xs) = in_function w
+  stmt_scoped w (tree.Raise a) = true
+  stmt_scoped w (tree.Try b cs c) = stmts_scoped w b && clauses_scoped w cs && stmts_scoped w c
+  stmt_scoped w (tree.Finally b cs c f) = stmts_scoped w b && clauses_scoped w cs && stmts_scoped w c && stmts_scoped (finishing w) f
 
   -- statements in a row
   pub stmts_scoped : Within → Stmts → Bool
-  stmts_scoped w NoStmts = true
-  stmts_scoped w (MoreStmts a b) = stmt_scoped w a && stmts_scoped w b
+  stmts_scoped w tree.NoStmts = true
+  stmts_scoped w (tree.MoreStmts a b) = stmt_scoped w a && stmts_scoped w b
 
   -- except clauses
   pub clauses_scoped : Within → Clauses → Bool
-  clauses_scoped w NoClauses = true
-  clauses_scoped w (MoreClauses a y b cs) = stmts_scoped w b && clauses_scoped w cs
+  clauses_scoped w tree.NoClauses = true
+  clauses_scoped w (tree.MoreClauses a y b cs) = stmts_scoped w b && clauses_scoped w cs
 
 -- the statements of a text are well scoped
 abbrev pub is_scoped : Stmts → Bool

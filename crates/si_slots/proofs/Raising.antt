@@ -2,7 +2,7 @@
 use Rattle.std.proofs.Common.{ℕ, zero, suc, List, [], ◌∷◌, length, Bool, true, false, Option, Some, None}
 use Rattle.std.specs.Prelude.{nat_eq, slice_get}
 use Rattle.si_semantics.specs.Value.{Text, Value, Nothing, Truth, Int, Str, Provided, Function, Range, Class, Address}
-use Rattle.si_semantics.specs.Tree.{BooleanOperator, Expr, Constant, Name, Unary, Binary, Call, Boolean, Compare, Conditional, Exprs, NoExprs, MoreExprs, Comparisons, NoComparisons, MoreComparisons}
+use Rattle.si_semantics.specs.Tree.{BooleanOperator, Expr, Exprs, Comparisons}
 use Rattle.si_semantics.specs.Tree as tree
 use Rattle.si_semantics.specs.World.{Request, Answer, Replied, Got, Failed, Wants, Ran, Gave, Threw, Asked}
 use Rattle.si_semantics.specs.Operations.{exception, operate, operate_unary, is_true, compare, load_global, load_local, call_provided, call_by_name, not_callable, wrong_arguments, too_deep, reply}
@@ -43,8 +43,8 @@ read_keeps x None s = ran_keeps (load_global x s.world) s
 read_keeps x (Some k) s = ran_keeps (load_local x (slot_at k s.slots) s.world) s
 
 compared_keeps : (cs : Comparisons) (t : Value) (rest : Meaning Value) → ((s : State) → OnlyRaises (rest s)) → (s : State) → OnlyRaises (compared cs t rest s)
-compared_keeps NoComparisons t rest h s = tt
-compared_keeps (MoreComparisons o a cs) t rest h s = choose_keeps (is_true t s.world) (rest s) (Gives t s) (h s) tt
+compared_keeps tree.NoComparisons t rest h s = tt
+compared_keeps (tree.MoreComparisons o a cs) t rest h s = choose_keeps (is_true t s.world) (rest s) (Gives t s) (h s) tt
 
 -- ---- calls
 
@@ -89,29 +89,29 @@ calls_keep e h g vs (x ∷ names) s = ran_keeps (call_by_name g s.world) s
 module _ (e : Scope) (calling : Calls_keep e) where
   mutual
     pub expr_keeps : (a : Expr) (s : State) → OnlyRaises (expr e a s)
-    expr_keeps (Constant v) s = tt
-    expr_keeps (Name x) s = read_keeps x (place_of x e.locals) (visit s)
-    expr_keeps (Unary o a) s = then_keeps (expr e a (visit s)) _ (expr_keeps a (visit s)) (λ v s1. ran_keeps (operate_unary o v s1.world) s1)
-    expr_keeps (Binary o a b) s =
+    expr_keeps (tree.Constant v) s = tt
+    expr_keeps (tree.Name x) s = read_keeps x (place_of x e.locals) (visit s)
+    expr_keeps (tree.Unary o a) s = then_keeps (expr e a (visit s)) _ (expr_keeps a (visit s)) (λ v s1. ran_keeps (operate_unary o v s1.world) s1)
+    expr_keeps (tree.Binary o a b) s =
         then_keeps (expr e a (visit s)) _ (expr_keeps a (visit s)) (λ u s1. then_keeps (expr e b s1) _ (expr_keeps b s1) (λ v s2. ran_keeps (operate o u v s2.world) s2))
-    expr_keeps (Call f args names) s =
+    expr_keeps (tree.Call f args names) s =
         then_keeps (expr e f (visit s)) _ (expr_keeps f (visit s)) (λ g s1. then_keeps (exprs e args s1) _ (exprs_keep args s1) (λ vs s2. calls_keep e calling g vs names s2))
-    expr_keeps (Boolean o a more) s = then_keeps (expr e a (visit s)) _ (expr_keeps a (visit s)) (λ u s1. operands_keep o u more s1)
-    expr_keeps (Compare a cs) s = then_keeps (expr e a (visit s)) _ (expr_keeps a (visit s)) (λ u s1. chain_keeps u cs s1)
-    expr_keeps (Conditional a b c) s =
+    expr_keeps (tree.Boolean o a more) s = then_keeps (expr e a (visit s)) _ (expr_keeps a (visit s)) (λ u s1. operands_keep o u more s1)
+    expr_keeps (tree.Compare a cs) s = then_keeps (expr e a (visit s)) _ (expr_keeps a (visit s)) (λ u s1. chain_keeps u cs s1)
+    expr_keeps (tree.Conditional a b c) s =
         then_keeps (expr e a (visit s)) _ (expr_keeps a (visit s)) (λ t s1. choose_keeps (is_true t s1.world) (expr e b s1) (expr e c s1) (expr_keeps b s1) (expr_keeps c s1))
 
     exprs_keep : (args : Exprs) (s : State) → OnlyRaises (exprs e args s)
-    exprs_keep NoExprs s = tt
-    exprs_keep (MoreExprs a args) s = then_keeps (expr e a s) _ (expr_keeps a s) (λ v s1. then_keeps (exprs e args s1) _ (exprs_keep args s1) (λ vs s2. tt))
+    exprs_keep tree.NoExprs s = tt
+    exprs_keep (tree.MoreExprs a args) s = then_keeps (expr e a s) _ (expr_keeps a s) (λ v s1. then_keeps (exprs e args s1) _ (exprs_keep args s1) (λ vs s2. tt))
 
     operands_keep : (o : BooleanOperator) (u : Value) (more : Exprs) (s : State) → OnlyRaises (operands e o u more s)
-    operands_keep o u NoExprs s = tt
-    operands_keep o u (MoreExprs a more) s =
+    operands_keep o u tree.NoExprs s = tt
+    operands_keep o u (tree.MoreExprs a more) s =
         choose_keeps (decides o u s.world) (Gives u s) (then (expr e a s) (λ v s1. operands e o v more s1)) tt (then_keeps (expr e a s) _ (expr_keeps a s) (λ v s1. operands_keep o v more s1))
 
     chain_keeps : (u : Value) (cs : Comparisons) (s : State) → OnlyRaises (chain e u cs s)
-    chain_keeps u NoComparisons s = tt
-    chain_keeps u (MoreComparisons o a cs) s =
+    chain_keeps u tree.NoComparisons s = tt
+    chain_keeps u (tree.MoreComparisons o a cs) s =
         then_keeps (expr e a s) _ (expr_keeps a s)
         (λ v s1. then_keeps (ran (compare o u v s1.world) s1) _ (ran_keeps (compare o u v s1.world) s1) (λ t s2. compared_keeps cs t (chain e v cs) (λ s3. chain_keeps v cs s3) s2))

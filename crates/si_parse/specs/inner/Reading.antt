@@ -1,7 +1,7 @@
 -- Reading as a function on lists of terminals, which the parser computes: what stands between grammar and code.
 use Rattle.std.specs.Prelude.{ℕ, zero, suc, ◌+◌, max, List, [], ◌∷◌, ◌++◌, length, Option, Some, None, option_map, nat_lt, nat_le, nat_eq, Bool, true, false, not, ◌&&◌, if◌then◌else◌}
 use Rattle.si_semantics.specs.Value.{Text, Nothing, Truth, Int, Str}
-use Rattle.si_semantics.specs.Tree.{BinaryOperator, Add, Subtract, Multiply, FloorDivide, Modulo, Power, BitOr, BitXor, BitAnd, ShiftLeft, ShiftRight, UnaryOperator, ComparisonOperator, BooleanOperator, Expr, Constant, Name, Unary, Binary, Call, Boolean, Compare, Conditional, Stmt, Target, Named, Evaluate, Assign, Augment, Pass, If, While, For, Break, Continue, Define, Return, Global, Raise, Try, Finally, Stmts}
+use Rattle.si_semantics.specs.Tree.{BinaryOperator, UnaryOperator, ComparisonOperator, BooleanOperator, Expr, Stmt, Target, Stmts}
 use Rattle.si_semantics.specs.Tree as tree
 use Rattle.si_semantics.specs.Scope.{is_in}
 use Rattle.si_semantics.specs.Tokens.{Symbol, Keyword}
@@ -22,17 +22,17 @@ pub data Continuation : Type 0 where
   nothing : Continuation
 
 abbrev pub role_of : Symbol → Continuation
-role_of token.Bar = operator BitOr
-role_of token.Caret = operator BitXor
-role_of token.Ampersand = operator BitAnd
-role_of token.LeftShift = operator ShiftLeft
-role_of token.RightShift = operator ShiftRight
-role_of token.Plus = operator Add
-role_of token.Minus = operator Subtract
-role_of token.Star = operator Multiply
-role_of token.DoubleSlash = operator FloorDivide
-role_of token.Percent = operator Modulo
-role_of token.DoubleStar = operator Power
+role_of token.Bar = operator tree.BitOr
+role_of token.Caret = operator tree.BitXor
+role_of token.Ampersand = operator tree.BitAnd
+role_of token.LeftShift = operator tree.ShiftLeft
+role_of token.RightShift = operator tree.ShiftRight
+role_of token.Plus = operator tree.Add
+role_of token.Minus = operator tree.Subtract
+role_of token.Star = operator tree.Multiply
+role_of token.DoubleSlash = operator tree.FloorDivide
+role_of token.Percent = operator tree.Modulo
+role_of token.DoubleStar = operator tree.Power
 role_of token.LeftParenthesis = arguments
 role_of token.Less = comparison
 role_of token.Greater = comparison
@@ -287,18 +287,18 @@ abbrev pub within : ℕ → Expr → ℕ → List Terminal → Parsed
 within n e d ts = if nat_le d n then Some (e, d, ts) else None
 
 abbrev pub binary_by : Parser → ℕ → Expr → ℕ → BinaryOperator → List Terminal → Parsed
-binary_by sub n e d op ts = then_read (sub (right_level op) ts) (λ r. within n (Binary op e r.0) (max d r.1 + 1) r.2)
+binary_by sub n e d op ts = then_read (sub (right_level op) ts) (λ r. within n (tree.Binary op e r.0) (max d r.1 + 1) r.2)
 
 -- the call of a tree with arguments that were read
 abbrev pub called : ℕ → Expr → ℕ → (List Argument × ℕ) × List Terminal → Parsed
-called n e d r = then_read (passed_from ([], []) r.0.0) (λ p. within n (Call e (exprs_of p.0) p.1) (max d r.0.1 + 1) r.1)
+called n e d r = then_read (passed_from ([], []) r.0.0) (λ p. within n (tree.Call e (exprs_of p.0) p.1) (max d r.0.1 + 1) r.1)
 
 abbrev pub call_by : Parser → ℕ → Expr → ℕ → List Terminal → Parsed
 call_by sub n e d ts = then_read (arguments_by sub ts) (called n e d)
 
 -- a conditional expression, from behind its `if`
 abbrev pub other_by : Parser → ℕ → Expr → ℕ → Found → List Terminal → Parsed
-other_by sub n e d t ts = then_read (sub 1 ts) (λ o. within n (Conditional t.0 e o.0) (max d (max t.1 o.1) + 1) o.2)
+other_by sub n e d t ts = then_read (sub 1 ts) (λ o. within n (tree.Conditional t.0 e o.0) (max d (max t.1 o.1) + 1) o.2)
 
 abbrev pub conditional_by : Parser → ℕ → Expr → ℕ → List Terminal → Parsed
 conditional_by sub n e d ts = then_read (sub 3 ts) (λ t. then_read (after (Word token.ElseWord) t.2) (other_by sub n e d t))
@@ -311,7 +311,7 @@ abbrev pub operands_by : Parser → BooleanOperator → List Terminal → Option
 operands_by sub op ts = chain_by (λ o e. e) (λ ts. with_word op (after_boolean op ts)) (λ o. sub (item_level o)) (length ts) ([], 0) ts
 
 abbrev pub boolean_by : Parser → ℕ → Expr → ℕ → BooleanOperator → List Terminal → Parsed
-boolean_by sub n e d op ts = then_read (operands_by sub op ts) (λ r. within n (Boolean op e (exprs_of r.0.0)) (max d r.0.1 + 1) r.1)
+boolean_by sub n e d op ts = then_read (operands_by sub op ts) (λ r. within n (tree.Boolean op e (exprs_of r.0.0)) (max d r.0.1 + 1) r.1)
 
 -- an operator of a comparison, and the terminals behind it
 abbrev pub comparison_symbol : Symbol → Option ComparisonOperator
@@ -335,8 +335,8 @@ comparison_at (_ ∷ ts) = None
 
 -- whether a tree of this depth is None, True or False, by one word alone
 abbrev pub is_singleton : Expr → ℕ → Bool
-is_singleton (Constant Nothing) d = nat_eq d 1
-is_singleton (Constant (Truth b)) d = nat_eq d 1
+is_singleton (tree.Constant Nothing) d = nat_eq d 1
+is_singleton (tree.Constant (Truth b)) d = nat_eq d 1
 is_singleton _ d = false
 
 abbrev pub compared_to : ComparisonOperator → Found → Parsed
@@ -350,7 +350,7 @@ abbrev pub links_by : Parser → List Terminal → Option ((List Link × ℕ) ×
 links_by sub ts = chain_by (λ o e. (o, e)) comparison_at (compared_by sub) (length ts) ([], 0) ts
 
 abbrev pub compare_by : Parser → ℕ → Expr → ℕ → List Terminal → Parsed
-compare_by sub n e d ts = then_read (links_by sub ts) (λ r. within n (Compare e (chain_of r.0.0)) (max d r.0.1 + 1) r.1)
+compare_by sub n e d ts = then_read (links_by sub ts) (λ r. within n (tree.Compare e (chain_of r.0.0)) (max d r.0.1 + 1) r.1)
 
 -- the operand with what continues it; the terminals begin with the one that does
 abbrev pub extended_by : Parser → ℕ → Expr → ℕ → List Terminal → Continuation → Parsed
@@ -397,19 +397,19 @@ prefix_at (Word token.NotWord ∷ ts) = Some tree.Not
 prefix_at (_ ∷ ts) = None
 
 abbrev pub unary_by : Parser → ℕ → UnaryOperator → List Terminal → Parsed
-unary_by sub l op ts = if nat_le l (prefix_level op) then then_read (sub (prefix_level op) ts) (λ r. Some (Unary op r.0, r.1 + 1, r.2)) else None
+unary_by sub l op ts = if nat_le l (prefix_level op) then then_read (sub (prefix_level op) ts) (λ r. Some (tree.Unary op r.0, r.1 + 1, r.2)) else None
 
 abbrev pub bracketed_by : Parser → List Terminal → Parsed
 bracketed_by sub ts = then_read (sub 1 ts) (λ r. closed r.0 r.1 (after (Sign token.RightParenthesis) r.2))
 
 abbrev pub atom_by : Parser → List Terminal → Parsed
 atom_by sub [] = None
-atom_by sub (NAME x ∷ ts) = Some (Name x, 1, ts)
-atom_by sub (NUMBER digits ∷ ts) = then_read (value_of_int digits) (λ n. Some (Constant (Int n), 1, ts))
-atom_by sub (STRING literal ∷ ts) = then_read (str_by (STRING literal ∷ ts)) (λ r. Some (Constant (Str r.0), 1, r.1))
-atom_by sub (Word token.NoneWord ∷ ts) = Some (Constant Nothing, 1, ts)
-atom_by sub (Word token.TrueWord ∷ ts) = Some (Constant (Truth true), 1, ts)
-atom_by sub (Word token.FalseWord ∷ ts) = Some (Constant (Truth false), 1, ts)
+atom_by sub (NAME x ∷ ts) = Some (tree.Name x, 1, ts)
+atom_by sub (NUMBER digits ∷ ts) = then_read (value_of_int digits) (λ n. Some (tree.Constant (Int n), 1, ts))
+atom_by sub (STRING literal ∷ ts) = then_read (str_by (STRING literal ∷ ts)) (λ r. Some (tree.Constant (Str r.0), 1, r.1))
+atom_by sub (Word token.NoneWord ∷ ts) = Some (tree.Constant Nothing, 1, ts)
+atom_by sub (Word token.TrueWord ∷ ts) = Some (tree.Constant (Truth true), 1, ts)
+atom_by sub (Word token.FalseWord ∷ ts) = Some (tree.Constant (Truth false), 1, ts)
 atom_by sub (Sign token.LeftParenthesis ∷ ts) = bracketed_by sub ts
 atom_by sub (_ ∷ ts) = None
 
@@ -433,17 +433,17 @@ expression_at (suc n) l ts = expression_by (expression_at n) (suc n) l ts
 -- the assignment that a sign is: a plain one, or an augmented one with its operator
 abbrev pub assignment_symbol : Symbol → Option (Option BinaryOperator)
 assignment_symbol token.Equal = Some None
-assignment_symbol token.BarEqual = Some (Some BitOr)
-assignment_symbol token.CaretEqual = Some (Some BitXor)
-assignment_symbol token.AmpersandEqual = Some (Some BitAnd)
-assignment_symbol token.LeftShiftEqual = Some (Some ShiftLeft)
-assignment_symbol token.RightShiftEqual = Some (Some ShiftRight)
-assignment_symbol token.PlusEqual = Some (Some Add)
-assignment_symbol token.MinusEqual = Some (Some Subtract)
-assignment_symbol token.StarEqual = Some (Some Multiply)
-assignment_symbol token.DoubleSlashEqual = Some (Some FloorDivide)
-assignment_symbol token.PercentEqual = Some (Some Modulo)
-assignment_symbol token.DoubleStarEqual = Some (Some Power)
+assignment_symbol token.BarEqual = Some (Some tree.BitOr)
+assignment_symbol token.CaretEqual = Some (Some tree.BitXor)
+assignment_symbol token.AmpersandEqual = Some (Some tree.BitAnd)
+assignment_symbol token.LeftShiftEqual = Some (Some tree.ShiftLeft)
+assignment_symbol token.RightShiftEqual = Some (Some tree.ShiftRight)
+assignment_symbol token.PlusEqual = Some (Some tree.Add)
+assignment_symbol token.MinusEqual = Some (Some tree.Subtract)
+assignment_symbol token.StarEqual = Some (Some tree.Multiply)
+assignment_symbol token.DoubleSlashEqual = Some (Some tree.FloorDivide)
+assignment_symbol token.PercentEqual = Some (Some tree.Modulo)
+assignment_symbol token.DoubleStarEqual = Some (Some tree.Power)
 assignment_symbol _ = None
 
 abbrev pub assignment_at : List Terminal → Option (Option BinaryOperator × List Terminal)
@@ -453,16 +453,16 @@ assignment_at (_ ∷ ts) = None
 
 -- the target that an expression is
 abbrev pub as_target : Expr → Option Target
-as_target (Name x) = Some (Named x)
+as_target (tree.Name x) = Some (tree.Named x)
 as_target _ = None
 
 abbrev pub assigned : Target → Option BinaryOperator → Expr → Stmt
-assigned t None e = Assign t e
-assigned t (Some op) e = Augment t op e
+assigned t None e = tree.Assign t e
+assigned t (Some op) e = tree.Augment t op e
 
 -- what an expression begins: an assignment to it, or itself
 abbrev pub statement_from : Parser → List Terminal → Expr → Option (Option BinaryOperator × List Terminal) → Option (Stmt × List Terminal)
-statement_from sub ts e None = Some (Evaluate e, ts)
+statement_from sub ts e None = Some (tree.Evaluate e, ts)
 statement_from sub ts e (Some a) = then_read (as_target e) (λ t. then_read (sub 1 a.1) (λ r. Some (assigned t a.0 r.0, r.2)))
 
 abbrev pub spelled_by : Parser → List Terminal → Option (Stmt × List Terminal)
@@ -471,9 +471,9 @@ spelled_by sub ts = then_read (sub 1 ts) (λ r. statement_from sub r.2 r.0 (assi
 -- the statement that is one word
 abbrev pub word_statement : List Terminal → Option Stmt
 word_statement [] = None
-word_statement (Word token.PassWord ∷ ts) = Some Pass
-word_statement (Word token.BreakWord ∷ ts) = Some Break
-word_statement (Word token.ContinueWord ∷ ts) = Some Continue
+word_statement (Word token.PassWord ∷ ts) = Some tree.Pass
+word_statement (Word token.BreakWord ∷ ts) = Some tree.Break
+word_statement (Word token.ContinueWord ∷ ts) = Some tree.Continue
 word_statement (_ ∷ ts) = None
 
 -- whether a small statement ends in front of the terminals
@@ -489,15 +489,15 @@ value_by sub ts = if ends_small ts then Some (None, ts) else then_read (sub 1 ts
 
 -- from behind the `return`
 abbrev pub returned_by : Parser → List Terminal → Option (Stmt × List Terminal)
-returned_by sub ts = then_read (value_by sub ts) (λ r. Some (Return r.0, r.1))
+returned_by sub ts = then_read (value_by sub ts) (λ r. Some (tree.Return r.0, r.1))
 
 -- from behind the `raise`
 abbrev pub raised_by : Parser → List Terminal → Option (Stmt × List Terminal)
-raised_by sub ts = then_read (value_by sub ts) (λ r. Some (Raise r.0, r.1))
+raised_by sub ts = then_read (value_by sub ts) (λ r. Some (tree.Raise r.0, r.1))
 
 -- from behind the `global`
 abbrev pub global_by : List Terminal → Option (Stmt × List Terminal)
-global_by ts = then_read (names_by ts) (λ r. Some (Global r.0, r.1))
+global_by ts = then_read (names_by ts) (λ r. Some (tree.Global r.0, r.1))
 
 -- a small statement, by the word that stands first
 abbrev pub small_from : Parser → List Terminal → Option Stmt → (return global raise : Option (List Terminal)) → Option (Stmt × List Terminal)
@@ -563,14 +563,14 @@ abbrev pub otherwise_by : LineParser → List Terminal → Option (List Stmt × 
 otherwise_by line ts = otherwise_from line ts (after (Word token.ElseWord) ts)
 
 abbrev pub joined_if : Branch → List Branch → List Stmt × List Terminal → Option (Stmt × List Terminal)
-joined_if b elifs o = Some (If b.0 b.1 (elifs_of elifs (stmts_of o.0)), o.1)
+joined_if b elifs o = Some (tree.If b.0 b.1 (elifs_of elifs (stmts_of o.0)), o.1)
 
 -- from behind the `if`
 abbrev pub if_by : LineParser → List Terminal → Option (Stmt × List Terminal)
 if_by line ts = then_read (branch_by line ts) (λ b. then_read (elifs_by line b.1) (λ es. then_read (otherwise_by line es.1) (joined_if b.0 es.0)))
 
 abbrev pub joined_while : Branch → List Stmt × List Terminal → Option (Stmt × List Terminal)
-joined_while b o = Some (While b.0 b.1 (stmts_of o.0), o.1)
+joined_while b o = Some (tree.While b.0 b.1 (stmts_of o.0), o.1)
 
 -- from behind the `while`
 abbrev pub while_by : LineParser → List Terminal → Option (Stmt × List Terminal)
@@ -585,7 +585,7 @@ abbrev pub target_by : List Terminal → Option (Target × List Terminal)
 target_by ts = then_read (expression_at max_depth 16 ts) (λ r. target_from r.0 (after (Word token.InWord) r.2))
 
 abbrev pub joined_for : Target → Branch → List Stmt × List Terminal → Option (Stmt × List Terminal)
-joined_for t b o = Some (For t b.0 b.1 (stmts_of o.0), o.1)
+joined_for t b o = Some (tree.For t b.0 b.1 (stmts_of o.0), o.1)
 
 -- from behind the `for`
 abbrev pub for_by : LineParser → List Terminal → Option (Stmt × List Terminal)
@@ -593,7 +593,7 @@ for_by line ts = then_read (target_by ts) (λ t. then_read (branch_by line t.1) 
 
 -- a function of this name and these parameters, from its suite on
 abbrev pub defined_by : LineParser → Text → List Text × List Terminal → Option (Stmt × List Terminal)
-defined_by line x ps = then_read (suite_by line ps.1) (λ b. Some (Define x ps.0 (stmts_of b.0), b.1))
+defined_by line x ps = then_read (suite_by line ps.1) (λ b. Some (tree.Define x ps.0 (stmts_of b.0), b.1))
 
 -- from behind the `def`
 abbrev pub define_by : LineParser → List Terminal → Option (Stmt × List Terminal)
@@ -661,12 +661,12 @@ handlers_by line ts = then_read (clauses_by line ts) (λ cs. handled_from line c
 -- a `try` without `finally`, which has a clause at least
 abbrev pub tried : Stmts → List Clause → List Stmt → List Terminal → Option (Stmt × List Terminal)
 tried body [] last ts = None
-tried body (c ∷ cs) last ts = Some (Try body (clauses_of (c ∷ cs)) (stmts_of last), ts)
+tried body (c ∷ cs) last ts = Some (tree.Try body (clauses_of (c ∷ cs)) (stmts_of last), ts)
 
 -- a `try` whose clauses were read, once it is known whether a `finally` follows
 abbrev pub finally_from : LineParser → Stmts → Handled × List Terminal → Option (List Terminal) → Option (Stmt × List Terminal)
 finally_from line body h None = tried body h.0.0 h.0.1 h.1
-finally_from line body h (Some rest) = then_read (suite_by line rest) (λ b. Some (Finally body (clauses_of h.0.0) (stmts_of h.0.1) (stmts_of b.0), b.1))
+finally_from line body h (Some rest) = then_read (suite_by line rest) (λ b. Some (tree.Finally body (clauses_of h.0.0) (stmts_of h.0.1) (stmts_of b.0), b.1))
 
 -- from behind the `try`
 abbrev pub try_by : LineParser → List Terminal → Option (Stmt × List Terminal)

@@ -3,15 +3,16 @@ use Rattle.std.specs.Prelude.{List, [], ◌∷◌, ◌++◌, Bool, true, false, 
 use Rattle.std.specs.Option.{option_and_then, option_map}
 use Rattle.si_plain.specs.Names.{with_name}
 use Rattle.si_semantics.specs.Value.{Text}
-use Rattle.si_semantics.specs.Tree.{Stmt, Target, Named, Evaluate, Assign, Augment, Pass, If, While, For, Break, Continue, Define, Return, Global, Raise, Try, Finally, Stmts, NoStmts, MoreStmts, Clauses, NoClauses, MoreClauses}
+use Rattle.si_semantics.specs.Tree as tree
+use Rattle.si_semantics.specs.Tree.{Stmt, Target, Stmts, Clauses}
 use Rattle.si_semantics.specs.Scope.{is_in, are_distinct, with_new, names_of, names_of_value}
 use Rattle.si_scope.specs.declared.seen.Seen.{Seen}
 
 -- the except clauses of a statement, or none
 abbrev pub clauses_in : Stmt → Clauses
-clauses_in (Try b cs c) = cs
-clauses_in (Finally b cs c f) = cs
-clauses_in _ = NoClauses
+clauses_in (tree.Try b cs c) = cs
+clauses_in (tree.Finally b cs c f) = cs
+clauses_in _ = tree.NoClauses
 
 -- ---- a function
 
@@ -30,7 +31,7 @@ binding x s = record { used = with_name s.used x; declared = s.declared; locals 
 
 -- a target is bound
 abbrev pub binding_target : Target → Seen → Seen
-binding_target (Named x) s = binding x s
+binding_target (tree.Named x) s = binding x s
 
 -- names are declared global, of which none was used
 abbrev pub declaring : List Text → Seen → Option Seen
@@ -45,42 +46,42 @@ binding_any (Some x) s = binding x s
 abbrev mutual
   -- a statement, in a loop or in none, where `return` may stand or may not
   pub after : Stmt → (loop returns : Bool) → Seen → Option Seen
-  after (Evaluate a) loop returns s = Some (using (names_of a) s)
-  after (Assign t a) loop returns s = Some (using (names_of a) (binding_target t s))
-  after (Augment t o a) loop returns s = Some (using (names_of a) (binding_target t s))
-  after Pass loop returns s = Some s
-  after (If a b c) loop returns s = option_and_then (after_all c loop returns) (after_all b loop returns (using (names_of a) s))
-  after (While a b c) loop returns s = option_and_then (after_all c loop returns) (after_all b true returns (using (names_of a) s))
-  after (For t a b c) loop returns s =
+  after (tree.Evaluate a) loop returns s = Some (using (names_of a) s)
+  after (tree.Assign t a) loop returns s = Some (using (names_of a) (binding_target t s))
+  after (tree.Augment t o a) loop returns s = Some (using (names_of a) (binding_target t s))
+  after tree.Pass loop returns s = Some s
+  after (tree.If a b c) loop returns s = option_and_then (after_all c loop returns) (after_all b loop returns (using (names_of a) s))
+  after (tree.While a b c) loop returns s = option_and_then (after_all c loop returns) (after_all b true returns (using (names_of a) s))
+  after (tree.For t a b c) loop returns s =
       option_and_then (after_all c loop returns) (after_all b true returns (using (names_of a) (binding_target t s)))
-  after Break loop returns s = if loop then Some s else None
-  after Continue loop returns s = if loop then Some s else None
-  after (Define f ps b) loop returns s = None
-  after (Return a) loop returns s = if returns then Some (using (names_of_value a) s) else None
-  after (Global xs) loop returns s = declaring xs s
-  after (Raise a) loop returns s = Some (using (names_of_value a) s)
-  after (Try b cs c) loop returns s =
+  after tree.Break loop returns s = if loop then Some s else None
+  after tree.Continue loop returns s = if loop then Some s else None
+  after (tree.Define f ps b) loop returns s = None
+  after (tree.Return a) loop returns s = if returns then Some (using (names_of_value a) s) else None
+  after (tree.Global xs) loop returns s = declaring xs s
+  after (tree.Raise a) loop returns s = Some (using (names_of_value a) s)
+  after (tree.Try b cs c) loop returns s =
       option_and_then (λ t. option_and_then (after_all c loop returns) (after_clauses cs loop returns t)) (after_all b loop returns s)
-  after (Finally b cs c f) loop returns s =
+  after (tree.Finally b cs c f) loop returns s =
       option_and_then
       (λ t. option_and_then (after_all f false false) (option_and_then (after_all c loop returns) (after_clauses cs loop returns t)))
       (after_all b loop returns s)
 
   -- statements in a row
   pub after_all : Stmts → (loop returns : Bool) → Seen → Option Seen
-  after_all NoStmts loop returns s = Some s
-  after_all (MoreStmts a b) loop returns s = option_and_then (after_all b loop returns) (after a loop returns s)
+  after_all tree.NoStmts loop returns s = Some s
+  after_all (tree.MoreStmts a b) loop returns s = option_and_then (after_all b loop returns) (after a loop returns s)
 
   -- except clauses
   pub after_clauses : Clauses → (loop returns : Bool) → Seen → Option Seen
-  after_clauses NoClauses loop returns s = Some s
-  after_clauses (MoreClauses a y b cs) loop returns s =
+  after_clauses tree.NoClauses loop returns s = Some s
+  after_clauses (tree.MoreClauses a y b cs) loop returns s =
       option_and_then (after_clauses cs loop returns) (after_all b loop returns (binding_any y (using (names_of_value a) s)))
 
 -- a `try`; other statements are passed over
 abbrev pub after_try : Stmt → (loop returns : Bool) → Seen → Option Seen
-after_try (Try b cs c) loop returns s = after (Try b cs c) loop returns s
-after_try (Finally b cs c f) loop returns s = after (Finally b cs c f) loop returns s
+after_try (tree.Try b cs c) loop returns s = after (tree.Try b cs c) loop returns s
+after_try (tree.Finally b cs c f) loop returns s = after (tree.Finally b cs c f) loop returns s
 after_try _ loop returns s = Some s
 
 -- what is local to a function with these parameters and this suite
@@ -93,17 +94,17 @@ local_to ps b =
 abbrev mutual
   -- a statement, in a loop or in none, behind functions of which these are the locals
   pub resolved : Stmt → Bool → List (List Text) → Option (List (List Text))
-  resolved (If a b c) loop names = option_and_then (resolved_all c loop) (resolved_all b loop names)
-  resolved (While a b c) loop names = option_and_then (resolved_all c loop) (resolved_all b true names)
-  resolved (For t a b c) loop names = option_and_then (resolved_all c loop) (resolved_all b true names)
-  resolved Break loop names = if loop then Some names else None
-  resolved Continue loop names = if loop then Some names else None
-  resolved (Define f ps b) loop names = option_map (λ locals. names ++ locals ∷ []) (local_to ps b)
-  resolved (Return a) loop names = None
-  resolved (Global xs) loop names = None
-  resolved (Try b cs c) loop names =
+  resolved (tree.If a b c) loop names = option_and_then (resolved_all c loop) (resolved_all b loop names)
+  resolved (tree.While a b c) loop names = option_and_then (resolved_all c loop) (resolved_all b true names)
+  resolved (tree.For t a b c) loop names = option_and_then (resolved_all c loop) (resolved_all b true names)
+  resolved tree.Break loop names = if loop then Some names else None
+  resolved tree.Continue loop names = if loop then Some names else None
+  resolved (tree.Define f ps b) loop names = option_map (λ locals. names ++ locals ∷ []) (local_to ps b)
+  resolved (tree.Return a) loop names = None
+  resolved (tree.Global xs) loop names = None
+  resolved (tree.Try b cs c) loop names =
       option_and_then (λ more. option_and_then (resolved_all c loop) (resolved_clauses cs loop more)) (resolved_all b loop names)
-  resolved (Finally b cs c f) loop names =
+  resolved (tree.Finally b cs c f) loop names =
       option_and_then
       (λ more. option_and_then (resolved_all f false) (option_and_then (resolved_all c loop) (resolved_clauses cs loop more)))
       (resolved_all b loop names)
@@ -111,16 +112,16 @@ abbrev mutual
 
   -- statements in a row
   pub resolved_all : Stmts → Bool → List (List Text) → Option (List (List Text))
-  resolved_all NoStmts loop names = Some names
-  resolved_all (MoreStmts a b) loop names = option_and_then (resolved_all b loop) (resolved a loop names)
+  resolved_all tree.NoStmts loop names = Some names
+  resolved_all (tree.MoreStmts a b) loop names = option_and_then (resolved_all b loop) (resolved a loop names)
 
   -- except clauses
   pub resolved_clauses : Clauses → Bool → List (List Text) → Option (List (List Text))
-  resolved_clauses NoClauses loop names = Some names
-  resolved_clauses (MoreClauses a y b cs) loop names = option_and_then (resolved_clauses cs loop) (resolved_all b loop names)
+  resolved_clauses tree.NoClauses loop names = Some names
+  resolved_clauses (tree.MoreClauses a y b cs) loop names = option_and_then (resolved_clauses cs loop) (resolved_all b loop names)
 
 -- a `try`; other statements are passed over
 abbrev pub resolved_try : Stmt → Bool → List (List Text) → Option (List (List Text))
-resolved_try (Try b cs c) loop names = resolved (Try b cs c) loop names
-resolved_try (Finally b cs c f) loop names = resolved (Finally b cs c f) loop names
+resolved_try (tree.Try b cs c) loop names = resolved (tree.Try b cs c) loop names
+resolved_try (tree.Finally b cs c f) loop names = resolved (tree.Finally b cs c f) loop names
 resolved_try _ loop names = Some names

@@ -1,7 +1,8 @@
 -- Worked cases of `raise` and `try`: what scripts print and how they end, computed from the definitions.
 use Rattle.std.specs.Prelude.{◌≡◌, codes, ℕ, List, [], ◌∷◌, Some, Err}
 use Rattle.si_plain.specs.declared.kind.Kind.TheVariants.{RuntimeError, RecursionError, OverflowError, TypeError, ValueError}
-use Rattle.si_semantics.specs.Tree.{FloorDivide, Equal, Name, Binary, Stmt, Named, Evaluate, Assign, Pass, Break, Return, Global, NoClauses}
+use Rattle.si_semantics.specs.Tree as tree
+use Rattle.si_semantics.specs.Tree.{Stmt}
 use Rattle.si_semantics.specs.Text.{message_of}
 use Rattle.si_semantics.specs.World.{Answer, Taken, Done, Run}
 use Rattle.si_semantics.specs.Life.{Returned, Raised, End, life_of}
@@ -15,18 +16,18 @@ use Rattle.si_semantics.specs.Worked.Scripts.{a, b, e, i, k, t, recursion_error,
 -- `e = ValueError()`, `for i in range(count): e = ValueError(e)`, and then this
 abbrev pub nested : ℕ → Stmt → List Stmt
 nested count last =
-    Assign (Named e) (new value_error []) ∷ each i (a_range (int count ∷ [])) (Assign (Named e) (new value_error (Name e ∷ [])) ∷ []) ∷ last ∷ []
+    tree.Assign (tree.Named e) (new value_error []) ∷ each i (a_range (int count ∷ [])) (tree.Assign (tree.Named e) (new value_error (tree.Name e ∷ [])) ∷ []) ∷ last ∷ []
 
 -- `1 // 0` in a `try` whose clause binds it to `a`; it leaves the run by `KeyError`
 abbrev pub first_text : List Stmt
-first_text = try_except (divides_by_zero ∷ []) (except_as zero_division_error e (Assign (Named a) (Name e) ∷ raises key_error ∷ []) NoClauses) ∷ []
+first_text = try_except (divides_by_zero ∷ []) (except_as zero_division_error e (tree.Assign (tree.Named a) (tree.Name e) ∷ raises key_error ∷ []) tree.NoClauses) ∷ []
 
 -- that is run, and then `print(a)`, `raise`
 abbrev pub two_texts : List Answer
 two_texts =
     Taken (Run (Some (record { body = suite first_text })))
     ∷ Done
-    ∷ Taken (Run (Some (record { body = suite (prints (Name a ∷ []) ∷ raises_again ∷ []) })))
+    ∷ Taken (Run (Some (record { body = suite (prints (tree.Name a ∷ []) ∷ raises_again ∷ []) })))
     ∷ []
 
 -- ---- the cases
@@ -50,7 +51,7 @@ pub record ExceptionCases : Type 0 where
   pub none_is_active : ends (raises_again ∷ []) ≡ codes "raised RuntimeError: no active exception\n"
   -- the exception of the expression is raised in its place
   --     raise ValueError(1 // 0)
-  pub expression_first : ends (raises (new value_error (Binary FloorDivide (int 1) (int 0) ∷ [])) ∷ []) ≡ codes "raised ZeroDivisionError: division by zero\n"
+  pub expression_first : ends (raises (new value_error (tree.Binary tree.FloorDivide (int 1) (int 0) ∷ [])) ∷ []) ≡ codes "raised ZeroDivisionError: division by zero\n"
   -- the callers of a function are left too
   --     def f():
   --         raise LookupError('x')
@@ -61,8 +62,8 @@ pub record ExceptionCases : Type 0 where
   pub left_from_a_call :
       ends
       (define f [] (raises (new lookup_error (str (codes "x") ∷ [])) ∷ [])
-      ∷ define g [] (Evaluate (called f []) ∷ says (codes "a") ∷ [])
-      ∷ Evaluate (called g [])
+      ∷ define g [] (tree.Evaluate (called f []) ∷ says (codes "a") ∷ [])
+      ∷ tree.Evaluate (called g [])
       ∷ [])
       ≡ codes "raised LookupError: x\n"
   -- ---- except clauses
@@ -75,7 +76,7 @@ pub record ExceptionCases : Type 0 where
   --     print('c')
   pub caught :
       ends
-      (try_except (says (codes "a") ∷ divides_by_zero ∷ says (codes "b") ∷ []) (except_as zero_division_error e (prints (Name e ∷ []) ∷ []) NoClauses)
+      (try_except (says (codes "a") ∷ divides_by_zero ∷ says (codes "b") ∷ []) (except_as zero_division_error e (prints (tree.Name e ∷ []) ∷ []) tree.NoClauses)
       ∷ says (codes "c")
       ∷ [])
       ≡ codes "a\ndivision by zero\nc\n"
@@ -88,7 +89,7 @@ pub record ExceptionCases : Type 0 where
   pub caught_from_a_call :
       ends
       (define f [] (raises (new value_error (str (codes "x") ∷ [])) ∷ [])
-      ∷ try_except (Evaluate (called f []) ∷ []) (except_as value_error e (prints (Name e ∷ []) ∷ []) NoClauses)
+      ∷ try_except (tree.Evaluate (called f []) ∷ []) (except_as value_error e (prints (tree.Name e ∷ []) ∷ []) tree.NoClauses)
       ∷ [])
       ≡ codes "x\n"
   -- no clause matches
@@ -100,7 +101,7 @@ pub record ExceptionCases : Type 0 where
   --         print('b')
   pub not_caught :
       ends
-      (try_except (divides_by_zero ∷ []) (except_of value_error (says (codes "a") ∷ []) (except_of lookup_error (says (codes "b") ∷ []) NoClauses))
+      (try_except (divides_by_zero ∷ []) (except_of value_error (says (codes "a") ∷ []) (except_of lookup_error (says (codes "b") ∷ []) tree.NoClauses))
       ∷ [])
       ≡ codes "raised ZeroDivisionError: division by zero\n"
   -- the expressions of the clauses are evaluated in order, up to the first that matches
@@ -117,14 +118,14 @@ pub record ExceptionCases : Type 0 where
   --         print('c')
   pub clauses_in_order :
       ends
-      (define t (k ∷ []) (prints (Name k ∷ []) ∷ Return (Some (Name k)) ∷ [])
+      (define t (k ∷ []) (prints (tree.Name k ∷ []) ∷ tree.Return (Some (tree.Name k)) ∷ [])
       ∷ try_except
       (divides_by_zero ∷ [])
       (except_of (called t (key_error ∷ []))
       (says (codes "a") ∷ [])
       (except_of (called t (arithmetic_error ∷ []))
       (says (codes "b") ∷ [])
-      (except_of (called t (zero_division_error ∷ [])) (says (codes "c") ∷ []) NoClauses)))
+      (except_of (called t (zero_division_error ∷ [])) (says (codes "c") ∷ []) tree.NoClauses)))
       ∷ [])
       ≡ codes "<class 'KeyError'>\n<class 'ArithmeticError'>\nb\n"
   -- without an exception no clause is looked at
@@ -132,7 +133,7 @@ pub record ExceptionCases : Type 0 where
   --         print('a')
   --     except f:
   --         print('b')
-  pub no_clause_tested : ends (try_except (says (codes "a") ∷ []) (except_of (Name f) (says (codes "b") ∷ []) NoClauses) ∷ []) ≡ codes "a\n"
+  pub no_clause_tested : ends (try_except (says (codes "a") ∷ []) (except_of (tree.Name f) (says (codes "b") ∷ []) tree.NoClauses) ∷ []) ≡ codes "a\n"
   -- a clause with a value that is no kind; the clauses behind it do not catch that exception
   --     try:
   --         1 // 0
@@ -148,7 +149,7 @@ pub record ExceptionCases : Type 0 where
       (divides_by_zero ∷ [])
       (except_of (int 1)
       (says (codes "a") ∷ [])
-      (except_of type_error (says (codes "b") ∷ []) (except_of zero_division_error (says (codes "c") ∷ []) NoClauses)))
+      (except_of type_error (says (codes "b") ∷ []) (except_of zero_division_error (says (codes "c") ∷ []) tree.NoClauses)))
       ∷ [])
       ≡ codes "raised TypeError: wrong type\n"
   --     try:
@@ -159,7 +160,7 @@ pub record ExceptionCases : Type 0 where
   --         print('b')
   pub no_kind_behind_a_match :
       ends
-      (try_except (divides_by_zero ∷ []) (except_of zero_division_error (says (codes "a") ∷ []) (except_of (int 1) (says (codes "b") ∷ []) NoClauses))
+      (try_except (divides_by_zero ∷ []) (except_of zero_division_error (says (codes "a") ∷ []) (except_of (int 1) (says (codes "b") ∷ []) tree.NoClauses))
       ∷ [])
       ≡ codes "a\n"
   --     try:
@@ -167,7 +168,7 @@ pub record ExceptionCases : Type 0 where
   --     except ZeroDivisionError():
   --         print('a')
   pub exception_is_no_kind :
-      ends (try_except (divides_by_zero ∷ []) (except_of (new zero_division_error []) (says (codes "a") ∷ []) NoClauses) ∷ [])
+      ends (try_except (divides_by_zero ∷ []) (except_of (new zero_division_error []) (says (codes "a") ∷ []) tree.NoClauses) ∷ [])
       ≡ codes "raised TypeError: wrong type\n"
   -- a kind catches what stands under it
   --     try:
@@ -180,8 +181,8 @@ pub record ExceptionCases : Type 0 where
   --         print('b')
   pub base_kind_catches :
       ends
-      (try_except (divides_by_zero ∷ []) (except_of arithmetic_error (says (codes "a") ∷ []) NoClauses)
-      ∷ try_except (raises key_error ∷ []) (except_of base_exception (says (codes "b") ∷ []) NoClauses)
+      (try_except (divides_by_zero ∷ []) (except_of arithmetic_error (says (codes "a") ∷ []) tree.NoClauses)
+      ∷ try_except (raises key_error ∷ []) (except_of base_exception (says (codes "b") ∷ []) tree.NoClauses)
       ∷ [])
       ≡ codes "a\nb\n"
   -- and not what stands above it
@@ -190,7 +191,7 @@ pub record ExceptionCases : Type 0 where
   --     except ZeroDivisionError:
   --         print('a')
   pub kind_above_not_caught :
-      ends (try_except (raises (new arithmetic_error (str (codes "x") ∷ [])) ∷ []) (except_of zero_division_error (says (codes "a") ∷ []) NoClauses) ∷ [])
+      ends (try_except (raises (new arithmetic_error (str (codes "x") ∷ [])) ∷ []) (except_of zero_division_error (says (codes "a") ∷ []) tree.NoClauses) ∷ [])
       ≡ codes "raised ArithmeticError: x\n"
   --     k = LookupError
   --     try:
@@ -199,15 +200,15 @@ pub record ExceptionCases : Type 0 where
   --         print(repr(e))
   pub kind_by_another_name :
       ends
-      (Assign (Named k) lookup_error
-      ∷ try_except (raises (new index_error (str (codes "x") ∷ [])) ∷ []) (except_as (Name k) e (prints (a_repr (Name e) ∷ []) ∷ []) NoClauses)
+      (tree.Assign (tree.Named k) lookup_error
+      ∷ try_except (raises (new index_error (str (codes "x") ∷ [])) ∷ []) (except_as (tree.Name k) e (prints (a_repr (tree.Name e) ∷ []) ∷ []) tree.NoClauses)
       ∷ [])
       ≡ codes "IndexError('x')\n"
   --     try:
   --         print(x)
   --     except:
   --         print('a')
-  pub bare_clause : ends (try_except (prints (Name x ∷ []) ∷ []) (except_any (says (codes "a") ∷ []) NoClauses) ∷ []) ≡ codes "a\n"
+  pub bare_clause : ends (try_except (prints (tree.Name x ∷ []) ∷ []) (except_any (says (codes "a") ∷ []) tree.NoClauses) ∷ []) ≡ codes "a\n"
   --     def f():
   --         print(x)
   --         x = 1
@@ -217,8 +218,8 @@ pub record ExceptionCases : Type 0 where
   --         print(e)
   pub caught_unbound_local :
       ends
-      (define f [] (prints (Name x ∷ []) ∷ Assign (Named x) (int 1) ∷ [])
-      ∷ try_except (Evaluate (called f []) ∷ []) (except_as name_error e (prints (Name e ∷ []) ∷ []) NoClauses)
+      (define f [] (prints (tree.Name x ∷ []) ∷ tree.Assign (tree.Named x) (int 1) ∷ [])
+      ∷ try_except (tree.Evaluate (called f []) ∷ []) (except_as name_error e (prints (tree.Name e ∷ []) ∷ []) tree.NoClauses)
       ∷ [])
       ≡ codes "local x is not bound\n"
   -- one call too many within each other
@@ -230,8 +231,8 @@ pub record ExceptionCases : Type 0 where
   --         print(e)
   pub caught_too_deep :
       ends
-      (define f [] (Evaluate (called f []) ∷ [])
-      ∷ try_except (Evaluate (called f []) ∷ []) (except_as recursion_error e (prints (Name e ∷ []) ∷ []) NoClauses)
+      (define f [] (tree.Evaluate (called f []) ∷ [])
+      ∷ try_except (tree.Evaluate (called f []) ∷ []) (except_as recursion_error e (prints (tree.Name e ∷ []) ∷ []) tree.NoClauses)
       ∷ [])
       ≡ codes "too deep\n"
   -- an exception of a clause is not caught beside it
@@ -247,7 +248,7 @@ pub record ExceptionCases : Type 0 where
       (divides_by_zero ∷ [])
       (except_of zero_division_error
       (raises (new key_error (str (codes "a") ∷ [])) ∷ [])
-      (except_of key_error (says (codes "b") ∷ []) NoClauses))
+      (except_of key_error (says (codes "b") ∷ []) tree.NoClauses))
       ∷ [])
       ≡ codes "raised KeyError: 'a'\n"
   -- nor is one of a clause's expression
@@ -258,7 +259,7 @@ pub record ExceptionCases : Type 0 where
   --     except NameError:
   --         print('b')
   pub raised_in_a_test :
-      ends (try_except (divides_by_zero ∷ []) (except_of (Name x) (says (codes "a") ∷ []) (except_of name_error (says (codes "b") ∷ []) NoClauses)) ∷ [])
+      ends (try_except (divides_by_zero ∷ []) (except_of (tree.Name x) (says (codes "a") ∷ []) (except_of name_error (says (codes "b") ∷ []) tree.NoClauses)) ∷ [])
       ≡ codes "raised NameError: name x is not defined\n"
   -- it is caught further out
   --     try:
@@ -271,8 +272,8 @@ pub record ExceptionCases : Type 0 where
   pub caught_outside :
       ends
       (try_except
-      (try_except (divides_by_zero ∷ []) (except_of zero_division_error (raises (new key_error (str (codes "a") ∷ [])) ∷ []) NoClauses) ∷ [])
-      (except_as key_error e (prints (Name e ∷ []) ∷ []) NoClauses)
+      (try_except (divides_by_zero ∷ []) (except_of zero_division_error (raises (new key_error (str (codes "a") ∷ [])) ∷ []) tree.NoClauses) ∷ [])
+      (except_as key_error e (prints (tree.Name e ∷ []) ∷ []) tree.NoClauses)
       ∷ [])
       ≡ codes "'a'\n"
   -- ---- the name behind `as`
@@ -284,9 +285,9 @@ pub record ExceptionCases : Type 0 where
   --     print(e)
   pub unbound_behind_a_clause :
       ends
-      (Assign (Named e) (int 1)
-      ∷ try_except (divides_by_zero ∷ []) (except_as zero_division_error e (prints (Name e ∷ []) ∷ []) NoClauses)
-      ∷ prints (Name e ∷ [])
+      (tree.Assign (tree.Named e) (int 1)
+      ∷ try_except (divides_by_zero ∷ []) (except_as zero_division_error e (prints (tree.Name e ∷ []) ∷ []) tree.NoClauses)
+      ∷ prints (tree.Name e ∷ [])
       ∷ [])
       ≡ codes "division by zero\nraised NameError: name e is not defined\n"
   --     for i in range(1):
@@ -297,8 +298,8 @@ pub record ExceptionCases : Type 0 where
   --     print(e)
   pub unbound_behind_a_break :
       ends_within 1
-      (each i (a_range (int 1 ∷ [])) (try_except (divides_by_zero ∷ []) (except_as zero_division_error e (Break ∷ []) NoClauses) ∷ [])
-      ∷ prints (Name e ∷ [])
+      (each i (a_range (int 1 ∷ [])) (try_except (divides_by_zero ∷ []) (except_as zero_division_error e (tree.Break ∷ []) tree.NoClauses) ∷ [])
+      ∷ prints (tree.Name e ∷ [])
       ∷ [])
       ≡ codes "raised NameError: name e is not defined\n"
   --     try:
@@ -311,8 +312,8 @@ pub record ExceptionCases : Type 0 where
   pub unbound_behind_an_exception :
       ends
       (try_except
-      (try_except (divides_by_zero ∷ []) (except_as zero_division_error e (raises key_error ∷ []) NoClauses) ∷ [])
-      (except_of key_error (prints (Name e ∷ []) ∷ []) NoClauses)
+      (try_except (divides_by_zero ∷ []) (except_as zero_division_error e (raises key_error ∷ []) tree.NoClauses) ∷ [])
+      (except_of key_error (prints (tree.Name e ∷ []) ∷ []) tree.NoClauses)
       ∷ [])
       ≡ codes "raised NameError: name e is not defined\n"
   -- a value that the suite binds is gone too
@@ -324,8 +325,8 @@ pub record ExceptionCases : Type 0 where
   --     print(e)
   pub bound_in_the_clause :
       ends
-      (try_except (divides_by_zero ∷ []) (except_as zero_division_error e (Assign (Named e) (int 2) ∷ prints (Name e ∷ []) ∷ []) NoClauses)
-      ∷ prints (Name e ∷ [])
+      (try_except (divides_by_zero ∷ []) (except_as zero_division_error e (tree.Assign (tree.Named e) (int 2) ∷ prints (tree.Name e ∷ []) ∷ []) tree.NoClauses)
+      ∷ prints (tree.Name e ∷ [])
       ∷ [])
       ≡ codes "2\nraised NameError: name e is not defined\n"
   --     def f():
@@ -339,8 +340,8 @@ pub record ExceptionCases : Type 0 where
       ends
       (define f
       []
-      (try_except (divides_by_zero ∷ []) (except_as zero_division_error e (prints (Name e ∷ []) ∷ []) NoClauses) ∷ prints (Name e ∷ []) ∷ [])
-      ∷ Evaluate (called f [])
+      (try_except (divides_by_zero ∷ []) (except_as zero_division_error e (prints (tree.Name e ∷ []) ∷ []) tree.NoClauses) ∷ prints (tree.Name e ∷ []) ∷ [])
+      ∷ tree.Evaluate (called f [])
       ∷ [])
       ≡ codes "division by zero\nraised UnboundLocalError: local e is not bound\n"
   -- a global name too, from a function
@@ -355,10 +356,10 @@ pub record ExceptionCases : Type 0 where
   --     print(e)
   pub global_name_unbound :
       ends
-      (define f [] (Global (e ∷ []) ∷ try_except (divides_by_zero ∷ []) (except_as zero_division_error e (prints (Name e ∷ []) ∷ []) NoClauses) ∷ [])
-      ∷ Assign (Named e) (int 1)
-      ∷ Evaluate (called f [])
-      ∷ prints (Name e ∷ [])
+      (define f [] (tree.Global (e ∷ []) ∷ try_except (divides_by_zero ∷ []) (except_as zero_division_error e (prints (tree.Name e ∷ []) ∷ []) tree.NoClauses) ∷ [])
+      ∷ tree.Assign (tree.Named e) (int 1)
+      ∷ tree.Evaluate (called f [])
+      ∷ prints (tree.Name e ∷ [])
       ∷ [])
       ≡ codes "division by zero\nraised NameError: name e is not defined\n"
   -- a clause that does not match binds nothing
@@ -372,10 +373,10 @@ pub record ExceptionCases : Type 0 where
   --         print(e)
   pub not_caught_not_bound :
       ends
-      (Assign (Named e) (int 1)
+      (tree.Assign (tree.Named e) (int 1)
       ∷ try_except
-      (try_except (divides_by_zero ∷ []) (except_as key_error e (Pass ∷ []) NoClauses) ∷ [])
-      (except_of zero_division_error (prints (Name e ∷ []) ∷ []) NoClauses)
+      (try_except (divides_by_zero ∷ []) (except_as key_error e (tree.Pass ∷ []) tree.NoClauses) ∷ [])
+      (except_of zero_division_error (prints (tree.Name e ∷ []) ∷ []) tree.NoClauses)
       ∷ [])
       ≡ codes "1\n"
   -- ---- the active exception
@@ -393,9 +394,9 @@ pub record ExceptionCases : Type 0 where
       (try_except
       (try_except
       (raises (new value_error (str (codes "x") ∷ [])) ∷ [])
-      (except_as value_error e (Assign (Named a) (Name e) ∷ raises_again ∷ []) NoClauses)
+      (except_as value_error e (tree.Assign (tree.Named a) (tree.Name e) ∷ raises_again ∷ []) tree.NoClauses)
       ∷ [])
-      (except_as value_error b (prints (Name b ∷ compared Equal (Name a) (Name b) ∷ []) ∷ []) NoClauses)
+      (except_as value_error b (prints (tree.Name b ∷ compared tree.Equal (tree.Name a) (tree.Name b) ∷ []) ∷ []) tree.NoClauses)
       ∷ [])
       ≡ codes "x True\n"
   --     def f():
@@ -407,7 +408,7 @@ pub record ExceptionCases : Type 0 where
   pub raised_again_in_a_call :
       ends
       (define f [] (raises_again ∷ [])
-      ∷ try_except (divides_by_zero ∷ []) (except_of zero_division_error (Evaluate (called f []) ∷ []) NoClauses)
+      ∷ try_except (divides_by_zero ∷ []) (except_of zero_division_error (tree.Evaluate (called f []) ∷ []) tree.NoClauses)
       ∷ [])
       ≡ codes "raised ZeroDivisionError: division by zero\n"
   -- it is active in the expressions of the clauses
@@ -418,7 +419,7 @@ pub record ExceptionCases : Type 0 where
   --     except f():
   --         print('a')
   pub raised_again_in_a_test :
-      ends (define f [] (raises_again ∷ []) ∷ try_except (divides_by_zero ∷ []) (except_of (called f []) (says (codes "a") ∷ []) NoClauses) ∷ [])
+      ends (define f [] (raises_again ∷ []) ∷ try_except (divides_by_zero ∷ []) (except_of (called f []) (says (codes "a") ∷ []) tree.NoClauses) ∷ [])
       ≡ codes "raised ZeroDivisionError: division by zero\n"
   --     try:
   --         1 // 0
@@ -426,7 +427,7 @@ pub record ExceptionCases : Type 0 where
   --         print('a')
   --     raise
   pub none_active_behind :
-      ends (try_except (divides_by_zero ∷ []) (except_of zero_division_error (says (codes "a") ∷ []) NoClauses) ∷ raises_again ∷ [])
+      ends (try_except (divides_by_zero ∷ []) (except_of zero_division_error (says (codes "a") ∷ []) tree.NoClauses) ∷ raises_again ∷ [])
       ≡ codes "a\nraised RuntimeError: no active exception\n"
   --     try:
   --         print('a')
@@ -435,7 +436,7 @@ pub record ExceptionCases : Type 0 where
   --     else:
   --         raise
   pub none_active_in_an_else_suite :
-      ends (try_else (says (codes "a") ∷ []) (except_of value_error (says (codes "b") ∷ []) NoClauses) (raises_again ∷ []) ∷ [])
+      ends (try_else (says (codes "a") ∷ []) (except_of value_error (says (codes "b") ∷ []) tree.NoClauses) (raises_again ∷ []) ∷ [])
       ≡ codes "a\nraised RuntimeError: no active exception\n"
   -- behind an inner clause the outer exception is active again
   --     try:
@@ -451,8 +452,8 @@ pub record ExceptionCases : Type 0 where
       (try_except
       (raises (new key_error (str (codes "a") ∷ [])) ∷ [])
       (except_of key_error
-      (try_except (divides_by_zero ∷ []) (except_of zero_division_error (says (codes "b") ∷ []) NoClauses) ∷ raises_again ∷ [])
-      NoClauses)
+      (try_except (divides_by_zero ∷ []) (except_of zero_division_error (says (codes "b") ∷ []) tree.NoClauses) ∷ raises_again ∷ [])
+      tree.NoClauses)
       ∷ [])
       ≡ codes "b\nraised KeyError: 'a'\n"
   --     try:
@@ -466,7 +467,7 @@ pub record ExceptionCases : Type 0 where
       ends
       (try_except
       (raises (new key_error (str (codes "a") ∷ [])) ∷ [])
-      (except_of key_error (try_except (divides_by_zero ∷ []) (except_of zero_division_error (raises_again ∷ []) NoClauses) ∷ []) NoClauses)
+      (except_of key_error (try_except (divides_by_zero ∷ []) (except_of zero_division_error (raises_again ∷ []) tree.NoClauses) ∷ []) tree.NoClauses)
       ∷ [])
       ≡ codes "raised ZeroDivisionError: division by zero\n"
   --     try:
@@ -480,7 +481,7 @@ pub record ExceptionCases : Type 0 where
       ends
       (try_except
       (raises (new key_error (str (codes "a") ∷ [])) ∷ [])
-      (except_of key_error (try_except (raises_again ∷ []) (except_as lookup_error e (prints (Name e ∷ []) ∷ []) NoClauses) ∷ []) NoClauses)
+      (except_of key_error (try_except (raises_again ∷ []) (except_as lookup_error e (prints (tree.Name e ∷ []) ∷ []) tree.NoClauses) ∷ []) tree.NoClauses)
       ∷ [])
       ≡ codes "'a'\n"
   -- a call leaves what is active as it was
@@ -496,8 +497,8 @@ pub record ExceptionCases : Type 0 where
   --         raise
   pub active_again_behind_a_call :
       ends
-      (define f [] (try_except (divides_by_zero ∷ []) (except_of zero_division_error (Return (Some (int 1)) ∷ []) NoClauses) ∷ [])
-      ∷ try_except (raises (new key_error (str (codes "a") ∷ [])) ∷ []) (except_of key_error (Evaluate (called f []) ∷ raises_again ∷ []) NoClauses)
+      (define f [] (try_except (divides_by_zero ∷ []) (except_of zero_division_error (tree.Return (Some (int 1)) ∷ []) tree.NoClauses) ∷ [])
+      ∷ try_except (raises (new key_error (str (codes "a") ∷ [])) ∷ []) (except_of key_error (tree.Evaluate (called f []) ∷ raises_again ∷ []) tree.NoClauses)
       ∷ [])
       ≡ codes "raised KeyError: 'a'\n"
   -- in a finally suite the exception that entered it is active, and none if none did
@@ -514,7 +515,7 @@ pub record ExceptionCases : Type 0 where
   --         raise
   pub pending_is_active :
       ends
-      (try_except (ensured (divides_by_zero ∷ []) (raises_again ∷ []) ∷ []) (except_as arithmetic_error e (prints (Name e ∷ []) ∷ []) NoClauses)
+      (try_except (ensured (divides_by_zero ∷ []) (raises_again ∷ []) ∷ []) (except_as arithmetic_error e (prints (tree.Name e ∷ []) ∷ []) tree.NoClauses)
       ∷ ensured (says (codes "a") ∷ []) (raises_again ∷ [])
       ∷ [])
       ≡ codes "division by zero\na\nraised RuntimeError: no active exception\n"
@@ -529,7 +530,7 @@ pub record ExceptionCases : Type 0 where
       ends
       (try_except
       (raises (new key_error (str (codes "a") ∷ [])) ∷ [])
-      (except_of key_error (ensured (divides_by_zero ∷ []) (raises_again ∷ []) ∷ []) NoClauses)
+      (except_of key_error (ensured (divides_by_zero ∷ []) (raises_again ∷ []) ∷ []) tree.NoClauses)
       ∷ [])
       ≡ codes "raised ZeroDivisionError: division by zero\n"
   -- a finally suite that no exception entered has what is active around it
@@ -544,7 +545,7 @@ pub record ExceptionCases : Type 0 where
       ends
       (try_except
       (raises (new key_error (str (codes "a") ∷ [])) ∷ [])
-      (except_of key_error (ensured (says (codes "b") ∷ []) (raises_again ∷ []) ∷ []) NoClauses)
+      (except_of key_error (ensured (says (codes "b") ∷ []) (raises_again ∷ []) ∷ []) tree.NoClauses)
       ∷ [])
       ≡ codes "b\nraised KeyError: 'a'\n"
   --     def f():
@@ -560,8 +561,8 @@ pub record ExceptionCases : Type 0 where
       ends
       (define f [] (raises_again ∷ [])
       ∷ try_except
-      (ensured (divides_by_zero ∷ []) (Evaluate (called f []) ∷ []) ∷ [])
-      (except_as arithmetic_error e (prints (Name e ∷ []) ∷ []) NoClauses)
+      (ensured (divides_by_zero ∷ []) (tree.Evaluate (called f []) ∷ []) ∷ [])
+      (except_as arithmetic_error e (prints (tree.Name e ∷ []) ∷ []) tree.NoClauses)
       ∷ [])
       ≡ codes "division by zero\n"
   -- a clause that is left is over before the finally suite runs
@@ -580,9 +581,9 @@ pub record ExceptionCases : Type 0 where
       ends
       (define f
       []
-      (try_finally (divides_by_zero ∷ []) (except_of zero_division_error (Return (Some (str (codes "a"))) ∷ []) NoClauses) [] (raises_again ∷ [])
+      (try_finally (divides_by_zero ∷ []) (except_of zero_division_error (tree.Return (Some (str (codes "a"))) ∷ []) tree.NoClauses) [] (raises_again ∷ [])
       ∷ [])
-      ∷ try_except (Evaluate (called f []) ∷ []) (except_as runtime_error e (prints (Name e ∷ []) ∷ []) NoClauses)
+      ∷ try_except (tree.Evaluate (called f []) ∷ []) (except_as runtime_error e (prints (tree.Name e ∷ []) ∷ []) tree.NoClauses)
       ∷ [])
       ≡ codes "no active exception\n"
   -- in an else suite what is active around the `try`
@@ -600,8 +601,8 @@ pub record ExceptionCases : Type 0 where
       (try_except
       (raises (new key_error (str (codes "a") ∷ [])) ∷ [])
       (except_of key_error
-      (try_else (says (codes "b") ∷ []) (except_of value_error (says (codes "c") ∷ []) NoClauses) (raises_again ∷ []) ∷ [])
-      NoClauses)
+      (try_else (says (codes "b") ∷ []) (except_of value_error (says (codes "c") ∷ []) tree.NoClauses) (raises_again ∷ []) ∷ [])
+      tree.NoClauses)
       ∷ [])
       ≡ codes "b\nraised KeyError: 'a'\n"
   -- ---- else suites
@@ -612,7 +613,7 @@ pub record ExceptionCases : Type 0 where
   --     else:
   --         print('c')
   pub else_suite :
-      ends (try_else (says (codes "a") ∷ []) (except_of value_error (says (codes "b") ∷ []) NoClauses) (says (codes "c") ∷ []) ∷ []) ≡ codes "a\nc\n"
+      ends (try_else (says (codes "a") ∷ []) (except_of value_error (says (codes "b") ∷ []) tree.NoClauses) (says (codes "c") ∷ []) ∷ []) ≡ codes "a\nc\n"
   --     try:
   --         1 // 0
   --     except ZeroDivisionError:
@@ -620,7 +621,7 @@ pub record ExceptionCases : Type 0 where
   --     else:
   --         print('b')
   pub no_else_behind_an_exception :
-      ends (try_else (divides_by_zero ∷ []) (except_of zero_division_error (says (codes "a") ∷ []) NoClauses) (says (codes "b") ∷ []) ∷ []) ≡ codes "a\n"
+      ends (try_else (divides_by_zero ∷ []) (except_of zero_division_error (says (codes "a") ∷ []) tree.NoClauses) (says (codes "b") ∷ []) ∷ []) ≡ codes "a\n"
   --     for i in 'abc':
   --         try:
   --             print(i)
@@ -632,7 +633,7 @@ pub record ExceptionCases : Type 0 where
   pub no_else_behind_a_break :
       ends_within 1
       (each i (str (codes "abc"))
-      (try_else (prints (Name i ∷ []) ∷ Break ∷ []) (except_of value_error (says (codes "x") ∷ []) NoClauses) (says (codes "y") ∷ []) ∷ [])
+      (try_else (prints (tree.Name i ∷ []) ∷ tree.Break ∷ []) (except_of value_error (says (codes "x") ∷ []) tree.NoClauses) (says (codes "y") ∷ []) ∷ [])
       ∷ [])
       ≡ codes "a\n"
   --     def f():
@@ -647,7 +648,7 @@ pub record ExceptionCases : Type 0 where
       ends
       (define f
       []
-      (try_else (Return (Some (str (codes "a"))) ∷ []) (except_of value_error (says (codes "b") ∷ []) NoClauses) (says (codes "c") ∷ []) ∷ [])
+      (try_else (tree.Return (Some (str (codes "a"))) ∷ []) (except_of value_error (says (codes "b") ∷ []) tree.NoClauses) (says (codes "c") ∷ []) ∷ [])
       ∷ prints (called f [] ∷ [])
       ∷ [])
       ≡ codes "a\n"
@@ -664,7 +665,7 @@ pub record ExceptionCases : Type 0 where
       ends
       (try_finally
       (says (codes "a") ∷ [])
-      (except_of value_error (says (codes "b") ∷ []) NoClauses)
+      (except_of value_error (says (codes "b") ∷ []) tree.NoClauses)
       (raises (new value_error (str (codes "x") ∷ [])) ∷ [])
       (says (codes "c") ∷ [])
       ∷ [])
@@ -680,14 +681,14 @@ pub record ExceptionCases : Type 0 where
   --     except ZeroDivisionError as e:
   --         pass
   pub visits_of_clauses :
-      end_of (run_of (try_except (divides_by_zero ∷ []) (except_of key_error (Pass ∷ []) (except_as zero_division_error e (Pass ∷ []) NoClauses)) ∷ []))
+      end_of (run_of (try_except (divides_by_zero ∷ []) (except_of key_error (tree.Pass ∷ []) (except_as zero_division_error e (tree.Pass ∷ []) tree.NoClauses)) ∷ []))
       ≡ Some (Some (End Returned), 12)
   -- a clause without an expression is a visit too, here 7; the visits before and behind it are 6 and 8
   --     try:
   --         1 // 0
   --     except:
   --         pass
-  pub visits_of_a_bare_clause : end_of (run_of (try_except (divides_by_zero ∷ []) (except_any (Pass ∷ []) NoClauses) ∷ [])) ≡ Some (Some (End Returned), 9)
+  pub visits_of_a_bare_clause : end_of (run_of (try_except (divides_by_zero ∷ []) (except_any (tree.Pass ∷ []) tree.NoClauses) ∷ [])) ≡ Some (Some (End Returned), 9)
   -- `raise ValueError('x')`: the statement is 2, the call 3, its callee 4, the literal 5
   pub visits_of_raise :
       end_of (run_of (raises (new value_error (str (codes "x") ∷ [])) ∷ [])) ≡ Some (Some (End (Raised ValueError (codes "x"))), 6)
@@ -702,10 +703,10 @@ pub record ExceptionCases : Type 0 where
   --     for i in range(199):
   --         e = ValueError(e)
   --     raise e
-  pub deepest : ends_within 200 (nested 199 (raises (Name e))) ≡ codes "raised ValueError\n"
+  pub deepest : ends_within 200 (nested 199 (raises (tree.Name e))) ≡ codes "raised ValueError\n"
   -- the same with `range(200)`, and with `print(e)` behind that
-  pub too_deep : ends_within 201 (nested 200 (raises (Name e))) ≡ codes "raised ValueError: <exception str() failed>\n"
-  pub print_too_deep : ends_within 201 (nested 200 (prints (Name e ∷ []))) ≡ codes "raised RecursionError: too deep\n"
+  pub too_deep : ends_within 201 (nested 200 (raises (tree.Name e))) ≡ codes "raised ValueError: <exception str() failed>\n"
+  pub print_too_deep : ends_within 201 (nested 200 (prints (tree.Name e ∷ []))) ≡ codes "raised RecursionError: too deep\n"
   -- ---- texts of one life
   -- the exception of a text is not active in the next one, and what the first bound is still there
   pub second_text : texts_of (life_of 0 two_texts) ≡ codes "division by zero\n" ∷ []

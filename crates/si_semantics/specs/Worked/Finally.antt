@@ -1,7 +1,8 @@
 -- Worked cases of finally suites: what scripts print and how they end, computed from the definitions.
 use Rattle.std.specs.Prelude.{◌≡◌, codes, List, [], ◌∷◌, true, Some, None}
 use Rattle.si_semantics.specs.Value.{Text, Truth, Function}
-use Rattle.si_semantics.specs.Tree.{Equal, Constant, Name, Stmt, Named, Assign, Pass, If, While, Break, Continue, Return, NoStmts, NoClauses}
+use Rattle.si_semantics.specs.Tree as tree
+use Rattle.si_semantics.specs.Tree.{Stmt}
 use Rattle.si_semantics.specs.Life.{Returned, End}
 use Rattle.si_semantics.specs.Shows.{end_of, texts_of}
 use Rattle.si_semantics.specs.Worked.Straight.{int, str, suite, compared, run_within, run_of}
@@ -13,18 +14,18 @@ use Rattle.si_semantics.specs.Worked.Scripts.{a, b, c, d, e, i, zero_division_er
 -- `while True: pass` in the suite of a `try`, whose other suites print
 abbrev pub cut_script : List Stmt
 cut_script =
-    try_finally (While (Constant (Truth true)) (suite (Pass ∷ [])) NoStmts ∷ []) (except_any (says (codes "a") ∷ []) NoClauses) [] (says (codes "b") ∷ []) ∷ []
+    try_finally (tree.While (tree.Constant (Truth true)) (suite (tree.Pass ∷ [])) tree.NoStmts ∷ []) (except_any (says (codes "a") ∷ []) tree.NoClauses) [] (says (codes "b") ∷ []) ∷ []
 
 -- `def NAME(): pass`
 abbrev pub defined : Text → Stmt
-defined y = define y [] (Pass ∷ [])
+defined y = define y [] (tree.Pass ∷ [])
 
 -- a function in each suite of a `try`, with these statements behind the first, and one behind the `try`
 abbrev pub defining : List Stmt → List Stmt
 defining behind =
     try_finally
     (defined a ∷ behind)
-    (except_of key_error (defined b ∷ []) (except_of zero_division_error (defined c ∷ []) NoClauses))
+    (except_of key_error (defined b ∷ []) (except_of zero_division_error (defined c ∷ []) tree.NoClauses))
     (defined d ∷ [])
     (defined f ∷ [])
     ∷ defined g
@@ -58,12 +59,12 @@ pub record FinallyCases : Type 0 where
       (ensured (says (codes "a") ∷ []) (says (codes "b") ∷ [])
       ∷ try_finally
       (divides_by_zero ∷ [])
-      (except_of zero_division_error (says (codes "c") ∷ []) NoClauses)
+      (except_of zero_division_error (says (codes "c") ∷ []) tree.NoClauses)
       (says (codes "d") ∷ [])
       (says (codes "e") ∷ [])
       ∷ try_finally
       (says (codes "f") ∷ [])
-      (except_of zero_division_error (says (codes "g") ∷ []) NoClauses)
+      (except_of zero_division_error (says (codes "g") ∷ []) tree.NoClauses)
       (says (codes "h") ∷ [])
       (says (codes "i") ∷ [])
       ∷ [])
@@ -86,7 +87,7 @@ pub record FinallyCases : Type 0 where
   --     print(f())
   pub finally_behind_a_return :
       ends
-      (define f [] (Assign (Named x) (int 1) ∷ ensured (Return (Some (Name x)) ∷ []) (Assign (Named x) (int 2) ∷ says (codes "a") ∷ []) ∷ [])
+      (define f [] (tree.Assign (tree.Named x) (int 1) ∷ ensured (tree.Return (Some (tree.Name x)) ∷ []) (tree.Assign (tree.Named x) (int 2) ∷ says (codes "a") ∷ []) ∷ [])
       ∷ prints (called f [] ∷ [])
       ∷ [])
       ≡ codes "a\n1\n"
@@ -107,11 +108,11 @@ pub record FinallyCases : Type 0 where
       ends_within 5
       (each_else i (a_range (int 4 ∷ []))
       (ensured
-      (If (compared Equal (Name i) (int 1)) (suite (Continue ∷ [])) NoStmts
-      ∷ If (compared Equal (Name i) (int 2)) (suite (Break ∷ [])) NoStmts
-      ∷ prints (Name i ∷ [])
+      (tree.If (compared tree.Equal (tree.Name i) (int 1)) (suite (tree.Continue ∷ [])) tree.NoStmts
+      ∷ tree.If (compared tree.Equal (tree.Name i) (int 2)) (suite (tree.Break ∷ [])) tree.NoStmts
+      ∷ prints (tree.Name i ∷ [])
       ∷ [])
-      (prints (str (codes "a") ∷ Name i ∷ []) ∷ [])
+      (prints (str (codes "a") ∷ tree.Name i ∷ []) ∷ [])
       ∷ [])
       (says (codes "b") ∷ [])
       ∷ says (codes "c")
@@ -127,7 +128,7 @@ pub record FinallyCases : Type 0 where
   --         print('b')
   pub finally_behind_continue :
       ends_within 3
-      (each_else i (a_range (int 2 ∷ [])) (ensured (Continue ∷ []) (prints (str (codes "a") ∷ Name i ∷ []) ∷ []) ∷ []) (says (codes "b") ∷ []) ∷ [])
+      (each_else i (a_range (int 2 ∷ [])) (ensured (tree.Continue ∷ []) (prints (str (codes "a") ∷ tree.Name i ∷ []) ∷ []) ∷ []) (says (codes "b") ∷ []) ∷ [])
       ≡ codes "a 0\na 1\nb\n"
   -- an exception of the finally suite takes the place of the pending one
   --     try:
@@ -144,7 +145,7 @@ pub record FinallyCases : Type 0 where
   --             raise KeyError('a')
   --     print(f())
   pub raised_before_a_return :
-      ends (define f [] (ensured (Return (Some (int 1)) ∷ []) (raises (new key_error (str (codes "a") ∷ [])) ∷ []) ∷ []) ∷ prints (called f [] ∷ []) ∷ [])
+      ends (define f [] (ensured (tree.Return (Some (int 1)) ∷ []) (raises (new key_error (str (codes "a") ∷ [])) ∷ []) ∷ []) ∷ prints (called f [] ∷ []) ∷ [])
       ≡ codes "raised KeyError: 'a'\n"
   -- what a finally suite catches within itself leaves the pending exception pending
   --     try:
@@ -158,7 +159,7 @@ pub record FinallyCases : Type 0 where
       ends
       (ensured
       (divides_by_zero ∷ [])
-      (try_except (raises (new key_error (str (codes "a") ∷ [])) ∷ []) (except_as key_error e (prints (Name e ∷ []) ∷ []) NoClauses) ∷ [])
+      (try_except (raises (new key_error (str (codes "a") ∷ [])) ∷ []) (except_as key_error e (prints (tree.Name e ∷ []) ∷ []) tree.NoClauses) ∷ [])
       ∷ [])
       ≡ codes "'a'\nraised ZeroDivisionError: division by zero\n"
   -- so does `break` in a loop of its own
@@ -172,7 +173,7 @@ pub record FinallyCases : Type 0 where
   --     print(f())
   pub loop_in_a_finally_suite :
       ends_within 1
-      (define f [] (ensured (Return (Some (str (codes "a"))) ∷ []) (each i (a_range (int 3 ∷ [])) (Break ∷ []) ∷ prints (Name i ∷ []) ∷ []) ∷ [])
+      (define f [] (ensured (tree.Return (Some (str (codes "a"))) ∷ []) (each i (a_range (int 3 ∷ [])) (tree.Break ∷ []) ∷ prints (tree.Name i ∷ []) ∷ []) ∷ [])
       ∷ prints (called f [] ∷ [])
       ∷ [])
       ≡ codes "0\na\n"
@@ -192,7 +193,7 @@ pub record FinallyCases : Type 0 where
       (define f
       []
       (ensured
-      (each i (a_range (int 3 ∷ [])) (ensured (Return (Some (Name i)) ∷ []) (prints (str (codes "a") ∷ Name i ∷ []) ∷ []) ∷ []) ∷ [])
+      (each i (a_range (int 3 ∷ [])) (ensured (tree.Return (Some (tree.Name i)) ∷ []) (prints (str (codes "a") ∷ tree.Name i ∷ []) ∷ []) ∷ []) ∷ [])
       (says (codes "b") ∷ [])
       ∷ [])
       ∷ prints (called f [] ∷ [])
@@ -212,11 +213,11 @@ pub record FinallyCases : Type 0 where
       (try_except
       (try_finally
       (divides_by_zero ∷ [])
-      (except_of zero_division_error (raises (new key_error (str (codes "a") ∷ [])) ∷ []) NoClauses)
+      (except_of zero_division_error (raises (new key_error (str (codes "a") ∷ [])) ∷ []) tree.NoClauses)
       []
       (says (codes "b") ∷ [])
       ∷ [])
-      (except_as key_error e (prints (Name e ∷ []) ∷ []) NoClauses)
+      (except_as key_error e (prints (tree.Name e ∷ []) ∷ []) tree.NoClauses)
       ∷ [])
       ≡ codes "b\n'a'\n"
   --     try:
@@ -226,7 +227,7 @@ pub record FinallyCases : Type 0 where
   --     finally:
   --         print('b')
   pub finally_behind_no_match :
-      ends (try_finally (divides_by_zero ∷ []) (except_of key_error (says (codes "a") ∷ []) NoClauses) [] (says (codes "b") ∷ []) ∷ [])
+      ends (try_finally (divides_by_zero ∷ []) (except_of key_error (says (codes "a") ∷ []) tree.NoClauses) [] (says (codes "b") ∷ []) ∷ [])
       ≡ codes "b\nraised ZeroDivisionError: division by zero\n"
   -- the name is unbound before the finally suite runs
   --     def f():
@@ -246,9 +247,9 @@ pub record FinallyCases : Type 0 where
       []
       (try_finally
       (divides_by_zero ∷ [])
-      (except_as zero_division_error e (Return (Some (Name e)) ∷ []) NoClauses)
+      (except_as zero_division_error e (tree.Return (Some (tree.Name e)) ∷ []) tree.NoClauses)
       []
-      (try_except (prints (Name e ∷ []) ∷ []) (except_of unbound_local_error (says (codes "a") ∷ []) NoClauses) ∷ [])
+      (try_except (prints (tree.Name e ∷ []) ∷ []) (except_of unbound_local_error (says (codes "a") ∷ []) tree.NoClauses) ∷ [])
       ∷ [])
       ∷ prints (called f [] ∷ [])
       ∷ [])
@@ -264,7 +265,7 @@ pub record FinallyCases : Type 0 where
   --     finally:
   --         pass
   pub visits_of_suites :
-      end_of (run_of (try_finally (Pass ∷ []) (except_any (Pass ∷ []) NoClauses) (Pass ∷ []) (Pass ∷ []) ∷ [])) ≡ Some (Some (End Returned), 6)
+      end_of (run_of (try_finally (tree.Pass ∷ []) (except_any (tree.Pass ∷ []) tree.NoClauses) (tree.Pass ∷ []) (tree.Pass ∷ []) ∷ [])) ≡ Some (Some (End Returned), 6)
   -- a loop that wants a turn too many is cut, and no suite runs behind it
   --     try:
   --         while True:

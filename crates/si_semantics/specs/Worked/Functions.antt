@@ -1,7 +1,8 @@
 -- Worked cases of functions: what scripts with functions print and how they end, computed from the definitions.
 use Rattle.std.specs.Prelude.{◌≡◌, codes, ℕ, List, [], ◌∷◌, true, false, Option, Some, None}
 use Rattle.si_semantics.specs.Value.{Text, Value, Function, Truth}
-use Rattle.si_semantics.specs.Tree.{Add, Subtract, FloorDivide, Equal, Expr, Constant, Name, Binary, Call, Stmt, Named, Evaluate, Assign, Augment, Pass, If, While, Define, Return, Global, NoStmts}
+use Rattle.si_semantics.specs.Tree as tree
+use Rattle.si_semantics.specs.Tree.{Expr, Stmt}
 use Rattle.si_semantics.specs.World.{Answer, Taken, Done, Run}
 use Rattle.si_semantics.specs.Life.{Returned, End, Told, life_of}
 use Rattle.si_semantics.specs.Shows.{pieces_of, end_of, texts_of}
@@ -28,25 +29,25 @@ x = codes "x"
 
 -- a call of a function by its name
 abbrev pub called : Text → List Expr → Expr
-called y args = Call (Name y) (arguments args) []
+called y args = tree.Call (tree.Name y) (arguments args) []
 
 -- a statement that prints these
 abbrev pub prints : List Expr → Stmt
-prints args = Evaluate (print args)
+prints args = tree.Evaluate (print args)
 
 -- `def NAME(parameters):` with these statements for its suite
 abbrev pub define : Text → List Text → List Stmt → Stmt
-define y parameters body = Define y parameters (suite body)
+define y parameters body = tree.Define y parameters (suite body)
 
 -- `def NAME(): return VALUE`
 abbrev pub gives : Text → Expr → Stmt
-gives y e = define y [] (Return (Some e) ∷ [])
+gives y e = define y [] (tree.Return (Some e) ∷ [])
 
 -- `if n == 1: return 1`, `return 1 + f(n - 1)`
 abbrev pub counts : List Stmt
 counts =
-    If (compared Equal (Name n) (int 1)) (suite (Return (Some (int 1)) ∷ [])) NoStmts
-    ∷ Return (Some (Binary Add (int 1) (called f (Binary Subtract (Name n) (int 1) ∷ []))))
+    tree.If (compared tree.Equal (tree.Name n) (int 1)) (suite (tree.Return (Some (int 1)) ∷ [])) tree.NoStmts
+    ∷ tree.Return (Some (tree.Binary tree.Add (int 1) (called f (tree.Binary tree.Subtract (tree.Name n) (int 1) ∷ []))))
     ∷ []
 
 -- `def f(n):` with that for its suite, then `print(f(k))`
@@ -56,13 +57,13 @@ counted k = define f (n ∷ []) counts ∷ prints (called f (int k ∷ []) ∷ [
 -- `if n: f(n - 1)`, `print(n)`
 abbrev pub prints_behind : List Stmt
 prints_behind =
-    If (Name n) (suite (Evaluate (called f (Binary Subtract (Name n) (int 1) ∷ [])) ∷ [])) NoStmts
-    ∷ prints (Name n ∷ [])
+    tree.If (tree.Name n) (suite (tree.Evaluate (called f (tree.Binary tree.Subtract (tree.Name n) (int 1) ∷ [])) ∷ [])) tree.NoStmts
+    ∷ prints (tree.Name n ∷ [])
     ∷ []
 
 -- `if False:` `def f(): return 1`, `else:` `def g(): return 2`, then `def h(): return 3`
 abbrev pub three_functions : List Stmt
-three_functions = If (Constant (Truth false)) (suite (gives f (int 1) ∷ [])) (suite (gives g (int 2) ∷ [])) ∷ gives h (int 3) ∷ []
+three_functions = tree.If (tree.Constant (Truth false)) (suite (gives f (int 1) ∷ [])) (suite (gives g (int 2) ∷ [])) ∷ gives h (int 3) ∷ []
 
 -- `def f(): return 1` is run, and then `def g(): return 2`, `print(f(), g())`
 abbrev pub two_texts : List Answer
@@ -80,15 +81,15 @@ left_in r y = (state_of r).world.globals y
 
 pub record FunctionCases : Type 0 where
   -- `def f(): pass`, `def g(): return`, then `print(f(), g())`
-  pub none_is_given : report_of (define f [] (Pass ∷ []) ∷ define g [] (Return None ∷ []) ∷ prints (called f [] ∷ called g [] ∷ []) ∷ []) ≡ codes "== interpreter 0 ==\nNone None\nend: finished\n"
+  pub none_is_given : report_of (define f [] (tree.Pass ∷ []) ∷ define g [] (tree.Return None ∷ []) ∷ prints (called f [] ∷ called g [] ∷ []) ∷ []) ≡ codes "== interpreter 0 ==\nNone None\nend: finished\n"
   -- `x = 1`, `def f():` `print(x)`, `x = 2`, then `f()`: x is local in all of f
-  pub unbound_local : report_of (Assign (Named x) (int 1) ∷ define f [] (prints (Name x ∷ []) ∷ Assign (Named x) (int 2) ∷ []) ∷ Evaluate (called f []) ∷ []) ≡ codes "== interpreter 0 ==\nraised UnboundLocalError: local x is not bound\nend: finished\n"
+  pub unbound_local : report_of (tree.Assign (tree.Named x) (int 1) ∷ define f [] (prints (tree.Name x ∷ []) ∷ tree.Assign (tree.Named x) (int 2) ∷ []) ∷ tree.Evaluate (called f []) ∷ []) ≡ codes "== interpreter 0 ==\nraised UnboundLocalError: local x is not bound\nend: finished\n"
   -- `x = 1`, `def f():` `x = 2`, then `f()`, `print(x)`
-  pub local_is_apart : report_of (Assign (Named x) (int 1) ∷ define f [] (Assign (Named x) (int 2) ∷ []) ∷ Evaluate (called f []) ∷ prints (Name x ∷ []) ∷ []) ≡ codes "== interpreter 0 ==\n1\nend: finished\n"
+  pub local_is_apart : report_of (tree.Assign (tree.Named x) (int 1) ∷ define f [] (tree.Assign (tree.Named x) (int 2) ∷ []) ∷ tree.Evaluate (called f []) ∷ prints (tree.Name x ∷ []) ∷ []) ≡ codes "== interpreter 0 ==\n1\nend: finished\n"
   -- `x = 1`, `def f():` `global x`, `x += 1`, then `f()`, `f()`, `print(x)`
-  pub global_is_changed : report_of (Assign (Named x) (int 1) ∷ define f [] (Global (x ∷ []) ∷ Augment (Named x) Add (int 1) ∷ []) ∷ Evaluate (called f []) ∷ Evaluate (called f []) ∷ prints (Name x ∷ []) ∷ []) ≡ codes "== interpreter 0 ==\n3\nend: finished\n"
+  pub global_is_changed : report_of (tree.Assign (tree.Named x) (int 1) ∷ define f [] (tree.Global (x ∷ []) ∷ tree.Augment (tree.Named x) tree.Add (int 1) ∷ []) ∷ tree.Evaluate (called f []) ∷ tree.Evaluate (called f []) ∷ prints (tree.Name x ∷ []) ∷ []) ≡ codes "== interpreter 0 ==\n3\nend: finished\n"
   -- `def f(): return x`, `x = 1`, then `print(f())`: a global name is looked up when the call comes to it
-  pub looked_up_in_the_call : report_of (gives f (Name x) ∷ Assign (Named x) (int 1) ∷ prints (called f [] ∷ []) ∷ []) ≡ codes "== interpreter 0 ==\n1\nend: finished\n"
+  pub looked_up_in_the_call : report_of (gives f (tree.Name x) ∷ tree.Assign (tree.Named x) (int 1) ∷ prints (called f [] ∷ []) ∷ []) ≡ codes "== interpreter 0 ==\n1\nend: finished\n"
   -- The wait for the job is visit 1, `def` 2. The last statement is 3, the call of `print` 4, its callee 5; the call of
   -- f is 6, its callee 7, the literal 8. In f(3) the `if` is 9, its test 10, 11 and 12; `return` is 13, the sum 14, the
   -- literal 15, the call 16, its callee 17, the argument 18, 19 and 20; f(2) has as many, 21 to 32. In f(1) the `if` is
@@ -99,28 +100,28 @@ pub record FunctionCases : Type 0 where
   pub visits_of_calls : end_of (run_of (counted 3)) ≡ Some (Some (End Returned), 39)
   -- `def f(n):` `if n: f(n - 1)`, `print(n)`, then `f(2)`: each call has locals of its own, and the caller has its own
   -- again behind it
-  pub locals_of_each_call : report_of (define f (n ∷ []) prints_behind ∷ Evaluate (called f (int 2 ∷ [])) ∷ []) ≡ codes "== interpreter 0 ==\n0\n1\n2\nend: finished\n"
+  pub locals_of_each_call : report_of (define f (n ∷ []) prints_behind ∷ tree.Evaluate (called f (int 2 ∷ [])) ∷ []) ≡ codes "== interpreter 0 ==\n0\n1\n2\nend: finished\n"
   -- 200 calls within each other are made, and no more
   pub deepest : report_of (counted 200) ≡ codes "== interpreter 0 ==\n200\nend: finished\n"
   pub too_deep : report_of (counted 201) ≡ codes "== interpreter 0 ==\nraised RecursionError: too deep\nend: finished\n"
   -- `def f(n): pass`, then `f(print('a'), 2)`: the arguments are evaluated, then the call is refused
-  pub wrong_number_of_arguments : report_of (define f (n ∷ []) (Pass ∷ []) ∷ Evaluate (called f (print (a_text ∷ []) ∷ int 2 ∷ [])) ∷ []) ≡ codes "== interpreter 0 ==\na\nraised TypeError: wrong arguments\nend: finished\n"
+  pub wrong_number_of_arguments : report_of (define f (n ∷ []) (tree.Pass ∷ []) ∷ tree.Evaluate (called f (print (a_text ∷ []) ∷ int 2 ∷ [])) ∷ []) ≡ codes "== interpreter 0 ==\na\nraised TypeError: wrong arguments\nend: finished\n"
   -- `def f(n): pass`, then `f(n=print('a'))`
-  pub argument_by_name : report_of (define f (n ∷ []) (Pass ∷ []) ∷ Evaluate (Call (Name f) (arguments (print (a_text ∷ []) ∷ [])) (n ∷ [])) ∷ []) ≡ codes "== interpreter 0 ==\na\nraised TypeError: wrong arguments\nend: finished\n"
+  pub argument_by_name : report_of (define f (n ∷ []) (tree.Pass ∷ []) ∷ tree.Evaluate (tree.Call (tree.Name f) (arguments (print (a_text ∷ []) ∷ [])) (n ∷ [])) ∷ []) ≡ codes "== interpreter 0 ==\na\nraised TypeError: wrong arguments\nend: finished\n"
   -- `print(n='a')`
-  pub print_by_name : report_of (Evaluate (Call (Name (codes "print")) (arguments (a_text ∷ [])) (n ∷ [])) ∷ []) ≡ codes "== interpreter 0 ==\nraised TypeError: wrong arguments\nend: finished\n"
+  pub print_by_name : report_of (tree.Evaluate (tree.Call (tree.Name (codes "print")) (arguments (a_text ∷ [])) (n ∷ [])) ∷ []) ≡ codes "== interpreter 0 ==\nraised TypeError: wrong arguments\nend: finished\n"
   -- `'a'(n='a')`
-  pub not_callable_by_name : report_of (Evaluate (Call a_text (arguments (a_text ∷ [])) (n ∷ [])) ∷ []) ≡ codes "== interpreter 0 ==\nraised TypeError: not callable\nend: finished\n"
+  pub not_callable_by_name : report_of (tree.Evaluate (tree.Call a_text (arguments (a_text ∷ [])) (n ∷ [])) ∷ []) ≡ codes "== interpreter 0 ==\nraised TypeError: not callable\nend: finished\n"
   -- `def f(): pass`, then `print(f)`
-  pub shown_by_name : report_of (define f [] (Pass ∷ []) ∷ prints (Name f ∷ []) ∷ []) ≡ codes "== interpreter 0 ==\n<function f>\nend: finished\n"
+  pub shown_by_name : report_of (define f [] (tree.Pass ∷ []) ∷ prints (tree.Name f ∷ []) ∷ []) ≡ codes "== interpreter 0 ==\n<function f>\nend: finished\n"
   -- `def f(): pass`, then `print(f == 1)`, `f == f`: of two functions there is no answer
-  pub functions_compared : report_of (define f [] (Pass ∷ []) ∷ prints (compared Equal (Name f) (int 1) ∷ []) ∷ Evaluate (compared Equal (Name f) (Name f)) ∷ []) ≡ codes "== interpreter 0 ==\nFalse\nraised TypeError: wrong type\nend: finished\n"
+  pub functions_compared : report_of (define f [] (tree.Pass ∷ []) ∷ prints (compared tree.Equal (tree.Name f) (int 1) ∷ []) ∷ tree.Evaluate (compared tree.Equal (tree.Name f) (tree.Name f)) ∷ []) ≡ codes "== interpreter 0 ==\nFalse\nraised TypeError: wrong type\nend: finished\n"
   -- `def f(print): print('a')`, then `f(1)`
-  pub parameter_before_built_in : report_of (define f (codes "print" ∷ []) (prints (a_text ∷ []) ∷ []) ∷ Evaluate (called f (int 1 ∷ [])) ∷ []) ≡ codes "== interpreter 0 ==\nraised TypeError: not callable\nend: finished\n"
+  pub parameter_before_built_in : report_of (define f (codes "print" ∷ []) (prints (a_text ∷ []) ∷ []) ∷ tree.Evaluate (called f (int 1 ∷ [])) ∷ []) ≡ codes "== interpreter 0 ==\nraised TypeError: not callable\nend: finished\n"
   -- `def f():` `while True:` `return 'a'`, then `print(f())`
-  pub returned_from_a_loop : report_within 1 (define f [] (While (Constant (Truth true)) (suite (Return (Some a_text) ∷ [])) NoStmts ∷ []) ∷ prints (called f [] ∷ []) ∷ []) ≡ codes "== interpreter 0 ==\na\nend: finished\n"
+  pub returned_from_a_loop : report_within 1 (define f [] (tree.While (tree.Constant (Truth true)) (suite (tree.Return (Some a_text) ∷ [])) tree.NoStmts ∷ []) ∷ prints (called f [] ∷ []) ∷ []) ≡ codes "== interpreter 0 ==\na\nend: finished\n"
   -- `def f():` `print('a')`, `1 // 0`, then `f()`, `print('a')`: an exception leaves the call and the run
-  pub raised_in_a_call : report_of (define f [] (prints (a_text ∷ []) ∷ Evaluate (Binary FloorDivide (int 1) (int 0)) ∷ []) ∷ Evaluate (called f []) ∷ prints (a_text ∷ []) ∷ []) ≡ codes "== interpreter 0 ==\na\nraised ZeroDivisionError: division by zero\nend: finished\n"
+  pub raised_in_a_call : report_of (define f [] (prints (a_text ∷ []) ∷ tree.Evaluate (tree.Binary tree.FloorDivide (int 1) (int 0)) ∷ []) ∷ tree.Evaluate (called f []) ∷ prints (a_text ∷ []) ∷ []) ≡ codes "== interpreter 0 ==\na\nraised ZeroDivisionError: division by zero\nend: finished\n"
   -- `def f(): return 1`, `def g(): return 2`: the second function has number 1
   pub second_function : left_in (run_of (gives f (int 1) ∷ gives g (int 2) ∷ [])) g ≡ Some (Function g 1)
   -- a function that is read has its number, whether its `def` is run or not

@@ -1,6 +1,7 @@
 -- Worked cases of reading: which words of a text are the longest, and which tokens and which tree texts have.
 use Rattle.std.specs.Prelude.{codes, ℕ, List, [], ◌∷◌, map}
-use Rattle.si_semantics.specs.Tree.{Subtract, Multiply, Power, Minus, Not, Less, LessEqual, Or, Expr, Name, Unary, Binary, Call, Boolean, Compare, MoreComparisons, NoComparisons, Stmt, Named, Evaluate, Assign, Pass, If, While, Break, NoStmts}
+use Rattle.si_semantics.specs.Tree as tree
+use Rattle.si_semantics.specs.Tree.{Expr, Stmt}
 use Rattle.si_semantics.specs.Tokens as tokens
 use Rattle.si_semantics.specs.Tokens.{Token}
 use Rattle.si_semantics.specs.Words.{IsLongest}
@@ -15,11 +16,11 @@ IsReadAs text body = (ts : List Token) × HasTokens ts text × Derives (suite bo
 
 -- `f(x)`
 abbrev pub f_of_x : Stmt
-f_of_x = Evaluate (called f (Name x ∷ []))
+f_of_x = tree.Evaluate (called f (tree.Name x ∷ []))
 
 -- `if x:`, then `  f(x)`
 abbrev pub an_if : Stmt
-an_if = If (Name x) (suite (f_of_x ∷ [])) NoStmts
+an_if = tree.If (tree.Name x) (suite (f_of_x ∷ [])) tree.NoStmts
 
 abbrev pub tokens_of_an_if : List Token
 tokens_of_an_if =
@@ -39,32 +40,32 @@ tokens_of_an_if =
 
 -- `if x: pass`, `elif f: f(x)`, `else: pass`
 abbrev pub an_elif : Stmt
-an_elif = If (Name x) (suite (Pass ∷ [])) (suite (If (Name f) (suite (f_of_x ∷ [])) (suite (Pass ∷ [])) ∷ []))
+an_elif = tree.If (tree.Name x) (suite (tree.Pass ∷ [])) (suite (tree.If (tree.Name f) (suite (f_of_x ∷ [])) (suite (tree.Pass ∷ [])) ∷ []))
 
 -- `f(x, y=1)`
 abbrev pub a_call : Stmt
-a_call = Evaluate (Call (Name f) (arguments (Name x ∷ int 1 ∷ [])) (codes "y" ∷ []))
+a_call = tree.Evaluate (tree.Call (tree.Name f) (arguments (tree.Name x ∷ int 1 ∷ [])) (codes "y" ∷ []))
 
 -- `while x:`, then `  if f:`, then `    break`
 abbrev pub a_while : Stmt
-a_while = While (Name x) (suite (If (Name f) (suite (Break ∷ [])) NoStmts ∷ [])) NoStmts
+a_while = tree.While (tree.Name x) (suite (tree.If (tree.Name f) (suite (tree.Break ∷ [])) tree.NoStmts ∷ [])) tree.NoStmts
 
 -- `-3 ** 4`: the power is negated
 abbrev pub negated_power : Expr
-negated_power = Unary Minus (Binary Power (int 3) (int 4))
+negated_power = tree.Unary tree.Minus (tree.Binary tree.Power (int 3) (int 4))
 
 -- `1 - 2 - -3 ** 4 * 5`
 abbrev pub difference : Expr
-difference = Binary Subtract (Binary Subtract (int 1) (int 2)) (Binary Multiply negated_power (int 5))
+difference = tree.Binary tree.Subtract (tree.Binary tree.Subtract (int 1) (int 2)) (tree.Binary tree.Multiply negated_power (int 5))
 
 -- `1 - (2 - 3)`
 abbrev pub bracketed : Expr
-bracketed = Binary Subtract (int 1) (Binary Subtract (int 2) (int 3))
+bracketed = tree.Binary tree.Subtract (int 1) (tree.Binary tree.Subtract (int 2) (int 3))
 
 -- `not 1 < 2 <= 3`: the whole chain is negated
 abbrev pub negated_chain : Expr
 negated_chain =
-    Unary Not (Compare (int 1) (MoreComparisons Less (int 2) (MoreComparisons LessEqual (int 3) NoComparisons)))
+    tree.Unary tree.Not (tree.Compare (int 1) (tree.MoreComparisons tree.Less (int 2) (tree.MoreComparisons tree.LessEqual (int 3) tree.NoComparisons)))
 
 pub record GrammarCases : Type 0 where
   -- `if` is the longest word before a blank, but not before a letter
@@ -91,8 +92,8 @@ pub record GrammarCases : Type 0 where
   -- the last line closes two blocks
   pub two_blocks : IsReadAs (codes "while x:\n  if f:\n    break\nf(x)\n") (a_while ∷ f_of_x ∷ [])
   -- operators by their levels, and at one level from the left
-  pub levels : IsReadAs (codes "x = 1 - 2 - -3 ** 4 * 5\n") (Assign (Named x) difference ∷ [])
-  pub brackets : IsReadAs (codes "x = 1 - (2 - 3)\n") (Assign (Named x) bracketed ∷ [])
+  pub levels : IsReadAs (codes "x = 1 - 2 - -3 ** 4 * 5\n") (tree.Assign (tree.Named x) difference ∷ [])
+  pub brackets : IsReadAs (codes "x = 1 - (2 - 3)\n") (tree.Assign (tree.Named x) bracketed ∷ [])
   -- `or` behind `not`, and `not` before comparisons
   pub words_between_operands :
-      IsReadAs (codes "not 1 < 2 <= 3 or x\n") (Evaluate (Boolean Or negated_chain (arguments (Name x ∷ []))) ∷ [])
+      IsReadAs (codes "not 1 < 2 <= 3 or x\n") (tree.Evaluate (tree.Boolean tree.Or negated_chain (arguments (tree.Name x ∷ []))) ∷ [])

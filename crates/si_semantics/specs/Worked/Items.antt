@@ -1,7 +1,8 @@
 -- Worked cases of `for`, ranges, kinds and `repr`: what scripts print and how they end, computed from the definitions.
 use Rattle.std.specs.Prelude.{◌≡◌, codes, List, [], ◌∷◌, true, Some, None}
 use Rattle.si_semantics.specs.Value.{Nothing, Truth}
-use Rattle.si_semantics.specs.Tree.{Add, Subtract, Not, Less, Equal, NotEqual, Constant, Name, Unary, Binary, Stmt, Named, Evaluate, Assign, Augment, Pass, If, While, Break, Continue, Return, Global, NoStmts, NoClauses}
+use Rattle.si_semantics.specs.Tree as tree
+use Rattle.si_semantics.specs.Tree.{Stmt}
 use Rattle.si_semantics.specs.Life.{Returned, End}
 use Rattle.si_semantics.specs.Shows.{end_of, texts_of}
 use Rattle.si_semantics.specs.Worked.Straight.{int, str, minus, suite, compared, run_within}
@@ -12,7 +13,7 @@ use Rattle.si_semantics.specs.Worked.Scripts.{a, c, e, i, lookup_error, index_er
 
 -- `for i in range(3): print(i)`
 abbrev pub three_turns : List Stmt
-three_turns = each i (a_range (int 3 ∷ [])) (prints (Name i ∷ []) ∷ []) ∷ []
+three_turns = each i (a_range (int 3 ∷ [])) (prints (tree.Name i ∷ []) ∷ []) ∷ []
 
 -- ---- the cases
 
@@ -20,13 +21,13 @@ pub record ItemCases : Type 0 where
   -- ---- `for`
   --     for i in range(3):
   --         print(i)
-  pub over_a_range : ends_within 4 (each i (a_range (int 3 ∷ [])) (prints (Name i ∷ []) ∷ []) ∷ []) ≡ codes "0\n1\n2\n"
+  pub over_a_range : ends_within 4 (each i (a_range (int 3 ∷ [])) (prints (tree.Name i ∷ []) ∷ []) ∷ []) ≡ codes "0\n1\n2\n"
   --     for i in range(0, 7, 3):
   --         print(i)
-  pub steps_of_three : ends_within 4 (each i (a_range (int 0 ∷ int 7 ∷ int 3 ∷ [])) (prints (Name i ∷ []) ∷ []) ∷ []) ≡ codes "0\n3\n6\n"
+  pub steps_of_three : ends_within 4 (each i (a_range (int 0 ∷ int 7 ∷ int 3 ∷ [])) (prints (tree.Name i ∷ []) ∷ []) ∷ []) ≡ codes "0\n3\n6\n"
   --     for i in range(3, 0, -1):
   --         print(i)
-  pub steps_down : ends_within 4 (each i (a_range (int 3 ∷ int 0 ∷ minus (int 1) ∷ [])) (prints (Name i ∷ []) ∷ []) ∷ []) ≡ codes "3\n2\n1\n"
+  pub steps_down : ends_within 4 (each i (a_range (int 3 ∷ int 0 ∷ minus (int 1) ∷ [])) (prints (tree.Name i ∷ []) ∷ []) ∷ []) ≡ codes "3\n2\n1\n"
   --     for i in range(2, 2):
   --         print(i)
   --     for i in range(0, 2, -1):
@@ -36,9 +37,9 @@ pub record ItemCases : Type 0 where
   --     print('a')
   pub over_nothing :
       ends_within 1
-      (each i (a_range (int 2 ∷ int 2 ∷ [])) (prints (Name i ∷ []) ∷ [])
-      ∷ each i (a_range (int 0 ∷ int 2 ∷ minus (int 1) ∷ [])) (prints (Name i ∷ []) ∷ [])
-      ∷ each i (str []) (prints (Name i ∷ []) ∷ [])
+      (each i (a_range (int 2 ∷ int 2 ∷ [])) (prints (tree.Name i ∷ []) ∷ [])
+      ∷ each i (a_range (int 0 ∷ int 2 ∷ minus (int 1) ∷ [])) (prints (tree.Name i ∷ []) ∷ [])
+      ∷ each i (str []) (prints (tree.Name i ∷ []) ∷ [])
       ∷ says (codes "a")
       ∷ [])
       ≡ codes "a\n"
@@ -46,28 +47,28 @@ pub record ItemCases : Type 0 where
   --     for i in range(9223372036854775800, 9223372036854775807, 5):
   --         print(i)
   pub end_of_the_integers :
-      ends_within 3 (each i (a_range (int 9223372036854775800 ∷ int 9223372036854775807 ∷ int 5 ∷ [])) (prints (Name i ∷ []) ∷ []) ∷ [])
+      ends_within 3 (each i (a_range (int 9223372036854775800 ∷ int 9223372036854775807 ∷ int 5 ∷ [])) (prints (tree.Name i ∷ []) ∷ []) ∷ [])
       ≡ codes "9223372036854775800\n9223372036854775805\n"
   --     for i in range(-9223372036854775807, -9223372036854775807 - 1, -1):
   --         print(i)
   pub start_of_the_integers :
       ends_within 2
-      (each i (a_range (minus (int 9223372036854775807) ∷ Binary Subtract (minus (int 9223372036854775807)) (int 1) ∷ minus (int 1) ∷ []))
-      (prints (Name i ∷ []) ∷ [])
+      (each i (a_range (minus (int 9223372036854775807) ∷ tree.Binary tree.Subtract (minus (int 9223372036854775807)) (int 1) ∷ minus (int 1) ∷ []))
+      (prints (tree.Name i ∷ []) ∷ [])
       ∷ [])
       ≡ codes "-9223372036854775807\n"
   --     for c in 'ab':
   --         print(c)
-  pub over_a_text : ends_within 3 (each c (str (codes "ab")) (prints (Name c ∷ []) ∷ []) ∷ []) ≡ codes "a\nb\n"
+  pub over_a_text : ends_within 3 (each c (str (codes "ab")) (prints (tree.Name c ∷ []) ∷ []) ∷ []) ≡ codes "a\nb\n"
   -- the name keeps the last item
   --     for i in range(2):
   --         pass
   --     print(i)
-  pub bound_behind_the_loop : ends_within 3 (each i (a_range (int 2 ∷ [])) (Pass ∷ []) ∷ prints (Name i ∷ []) ∷ []) ≡ codes "1\n"
+  pub bound_behind_the_loop : ends_within 3 (each i (a_range (int 2 ∷ [])) (tree.Pass ∷ []) ∷ prints (tree.Name i ∷ []) ∷ []) ≡ codes "1\n"
   --     for x in '':
   --         pass
   --     print(x)
-  pub not_bound_without_an_item : ends_within 1 (each x (str []) (Pass ∷ []) ∷ prints (Name x ∷ []) ∷ []) ≡ codes "raised NameError: name x is not defined\n"
+  pub not_bound_without_an_item : ends_within 1 (each x (str []) (tree.Pass ∷ []) ∷ prints (tree.Name x ∷ []) ∷ []) ≡ codes "raised NameError: name x is not defined\n"
   -- in a function the name is local
   --     i = 'a'
   --     def f():
@@ -77,9 +78,9 @@ pub record ItemCases : Type 0 where
   --     print(f(), i)
   pub local_target :
       ends_within 3
-      (Assign (Named i) (str (codes "a"))
-      ∷ define f [] (each i (a_range (int 2 ∷ [])) (Pass ∷ []) ∷ Return (Some (Name i)) ∷ [])
-      ∷ prints (called f [] ∷ Name i ∷ [])
+      (tree.Assign (tree.Named i) (str (codes "a"))
+      ∷ define f [] (each i (a_range (int 2 ∷ [])) (tree.Pass ∷ []) ∷ tree.Return (Some (tree.Name i)) ∷ [])
+      ∷ prints (called f [] ∷ tree.Name i ∷ [])
       ∷ [])
       ≡ codes "1 a\n"
   --     def f():
@@ -89,7 +90,7 @@ pub record ItemCases : Type 0 where
   --     f()
   --     print(i)
   pub global_target :
-      ends_within 3 (define f [] (Global (i ∷ []) ∷ each i (a_range (int 2 ∷ [])) (Pass ∷ []) ∷ []) ∷ Evaluate (called f []) ∷ prints (Name i ∷ []) ∷ [])
+      ends_within 3 (define f [] (tree.Global (i ∷ []) ∷ each i (a_range (int 2 ∷ [])) (tree.Pass ∷ []) ∷ []) ∷ tree.Evaluate (called f []) ∷ prints (tree.Name i ∷ []) ∷ [])
       ≡ codes "1\n"
   -- what the body binds the name to does not change the next item
   --     for i in range(2):
@@ -97,28 +98,28 @@ pub record ItemCases : Type 0 where
   --         print(i)
   --     print(i)
   pub bound_in_the_body :
-      ends_within 3 (each i (a_range (int 2 ∷ [])) (Assign (Named i) (int 7) ∷ prints (Name i ∷ []) ∷ []) ∷ prints (Name i ∷ []) ∷ []) ≡ codes "7\n7\n7\n"
+      ends_within 3 (each i (a_range (int 2 ∷ [])) (tree.Assign (tree.Named i) (int 7) ∷ prints (tree.Name i ∷ []) ∷ []) ∷ prints (tree.Name i ∷ []) ∷ []) ≡ codes "7\n7\n7\n"
   --     a = 'ab'
   --     for c in a:
   --         a = a + c
   --     print(a)
   pub evaluated_once :
-      ends_within 3 (Assign (Named a) (str (codes "ab")) ∷ each c (Name a) (Assign (Named a) (Binary Add (Name a) (Name c)) ∷ []) ∷ prints (Name a ∷ []) ∷ [])
+      ends_within 3 (tree.Assign (tree.Named a) (str (codes "ab")) ∷ each c (tree.Name a) (tree.Assign (tree.Named a) (tree.Binary tree.Add (tree.Name a) (tree.Name c)) ∷ []) ∷ prints (tree.Name a ∷ []) ∷ [])
       ≡ codes "abab\n"
   --     for i in 3:
   --         print(i)
-  pub over_an_integer : ends (each i (int 3) (prints (Name i ∷ []) ∷ []) ∷ []) ≡ codes "raised TypeError: wrong type\n"
+  pub over_an_integer : ends (each i (int 3) (prints (tree.Name i ∷ []) ∷ []) ∷ []) ≡ codes "raised TypeError: wrong type\n"
   --     for i in ValueError:
   --         print(i)
-  pub over_a_kind : ends (each i value_error (prints (Name i ∷ []) ∷ []) ∷ []) ≡ codes "raised TypeError: wrong type\n"
+  pub over_a_kind : ends (each i value_error (prints (tree.Name i ∷ []) ∷ []) ∷ []) ≡ codes "raised TypeError: wrong type\n"
   --     for i in ValueError('x'):
   --         print(i)
-  pub over_an_exception : ends (each i (new value_error (str (codes "x") ∷ [])) (prints (Name i ∷ []) ∷ []) ∷ []) ≡ codes "raised TypeError: wrong type\n"
+  pub over_an_exception : ends (each i (new value_error (str (codes "x") ∷ [])) (prints (tree.Name i ∷ []) ∷ []) ∷ []) ≡ codes "raised TypeError: wrong type\n"
   --     for a in 'ab':
   --         for i in range(2):
   --             print(a, i)
   pub in_another :
-      ends_within 3 (each a (str (codes "ab")) (each i (a_range (int 2 ∷ [])) (prints (Name a ∷ Name i ∷ []) ∷ []) ∷ []) ∷ []) ≡ codes "a 0\na 1\nb 0\nb 1\n"
+      ends_within 3 (each a (str (codes "ab")) (each i (a_range (int 2 ∷ [])) (prints (tree.Name a ∷ tree.Name i ∷ []) ∷ []) ∷ []) ∷ []) ≡ codes "a 0\na 1\nb 0\nb 1\n"
   --     for i in range(2):
   --         if i == 0:
   --             continue
@@ -128,7 +129,7 @@ pub record ItemCases : Type 0 where
   pub else_behind_the_items :
       ends_within 3
       (each_else i (a_range (int 2 ∷ []))
-      (If (compared Equal (Name i) (int 0)) (suite (Continue ∷ [])) NoStmts ∷ prints (Name i ∷ []) ∷ [])
+      (tree.If (compared tree.Equal (tree.Name i) (int 0)) (suite (tree.Continue ∷ [])) tree.NoStmts ∷ prints (tree.Name i ∷ []) ∷ [])
       (says (codes "a") ∷ [])
       ∷ [])
       ≡ codes "1\na\n"
@@ -142,7 +143,7 @@ pub record ItemCases : Type 0 where
   pub no_else_behind_break :
       ends_within 2
       (each_else i (a_range (int 2 ∷ []))
-      (If (compared Equal (Name i) (int 1)) (suite (Break ∷ [])) NoStmts ∷ prints (Name i ∷ []) ∷ [])
+      (tree.If (compared tree.Equal (tree.Name i) (int 1)) (suite (tree.Break ∷ [])) tree.NoStmts ∷ prints (tree.Name i ∷ []) ∷ [])
       (says (codes "a") ∷ [])
       ∷ says (codes "b")
       ∷ [])
@@ -155,8 +156,8 @@ pub record ItemCases : Type 0 where
   --         print(i)
   pub else_of_a_while :
       ends_within 3
-      (Assign (Named i) (int 0)
-      ∷ While (compared Less (Name i) (int 2)) (suite (Augment (Named i) Add (int 1) ∷ Continue ∷ [])) (suite (prints (Name i ∷ []) ∷ []))
+      (tree.Assign (tree.Named i) (int 0)
+      ∷ tree.While (compared tree.Less (tree.Name i) (int 2)) (suite (tree.Augment (tree.Named i) tree.Add (int 1) ∷ tree.Continue ∷ [])) (suite (prints (tree.Name i ∷ []) ∷ []))
       ∷ [])
       ≡ codes "2\n"
   --     while True:
@@ -165,7 +166,7 @@ pub record ItemCases : Type 0 where
   --         print('a')
   --     print('b')
   pub no_else_of_a_while :
-      ends_within 1 (While (Constant (Truth true)) (suite (Break ∷ [])) (suite (says (codes "a") ∷ [])) ∷ says (codes "b") ∷ []) ≡ codes "b\n"
+      ends_within 1 (tree.While (tree.Constant (Truth true)) (suite (tree.Break ∷ [])) (suite (says (codes "a") ∷ [])) ∷ says (codes "b") ∷ []) ≡ codes "b\n"
   -- `break` in an else suite belongs to the loop around it
   --     for a in 'ab':
   --         for i in '':
@@ -175,7 +176,7 @@ pub record ItemCases : Type 0 where
   --         print('c')
   --     print(a)
   pub break_in_an_else_suite :
-      ends_within 1 (each a (str (codes "ab")) (each_else i (str []) (Pass ∷ []) (Break ∷ []) ∷ says (codes "c") ∷ []) ∷ prints (Name a ∷ []) ∷ [])
+      ends_within 1 (each a (str (codes "ab")) (each_else i (str []) (tree.Pass ∷ []) (tree.Break ∷ []) ∷ says (codes "c") ∷ []) ∷ prints (tree.Name a ∷ []) ∷ [])
       ≡ codes "a\n"
   --     def f():
   --         for i in range(3):
@@ -185,7 +186,7 @@ pub record ItemCases : Type 0 where
   --     print(f())
   pub returned_from_a_for :
       ends_within 1
-      (define f [] (each_else i (a_range (int 3 ∷ [])) (Return (Some (Name i)) ∷ []) (Return (Some (str (codes "a"))) ∷ []) ∷ [])
+      (define f [] (each_else i (a_range (int 3 ∷ [])) (tree.Return (Some (tree.Name i)) ∷ []) (tree.Return (Some (str (codes "a"))) ∷ []) ∷ [])
       ∷ prints (called f [] ∷ [])
       ∷ [])
       ≡ codes "0\n"
@@ -195,7 +196,7 @@ pub record ItemCases : Type 0 where
   --     else:
   --         print('a')
   pub raised_in_a_for :
-      ends_within 1 (each_else i (a_range (int 3 ∷ [])) (prints (Name i ∷ []) ∷ divides_by_zero ∷ []) (says (codes "a") ∷ []) ∷ [])
+      ends_within 1 (each_else i (a_range (int 3 ∷ [])) (prints (tree.Name i ∷ []) ∷ divides_by_zero ∷ []) (says (codes "a") ∷ []) ∷ [])
       ≡ codes "0\nraised ZeroDivisionError: division by zero\n"
   -- ---- ranges
   --     print(range(3), range(1, 3), range(0, 3, 2), repr(range(0, 3, -1)), range(True))
@@ -206,28 +207,28 @@ pub record ItemCases : Type 0 where
       ∷ a_range (int 1 ∷ int 3 ∷ [])
       ∷ a_range (int 0 ∷ int 3 ∷ int 2 ∷ [])
       ∷ a_repr (a_range (int 0 ∷ int 3 ∷ minus (int 1) ∷ []))
-      ∷ a_range (Constant (Truth true) ∷ [])
+      ∷ a_range (tree.Constant (Truth true) ∷ [])
       ∷ [])
       ∷ [])
       ≡ codes "range(0, 3) range(1, 3) range(0, 3, 2) range(0, 3, -1) range(0, 1)\n"
   --     print('a')
   --     range(1, 2, 0)
-  pub step_of_nothing : ends (says (codes "a") ∷ Evaluate (a_range (int 1 ∷ int 2 ∷ int 0 ∷ [])) ∷ []) ≡ codes "a\nraised ValueError: wrong value\n"
+  pub step_of_nothing : ends (says (codes "a") ∷ tree.Evaluate (a_range (int 1 ∷ int 2 ∷ int 0 ∷ [])) ∷ []) ≡ codes "a\nraised ValueError: wrong value\n"
   --     range('a')
-  pub range_of_a_text : ends (Evaluate (a_range (str (codes "a") ∷ [])) ∷ []) ≡ codes "raised TypeError: wrong type\n"
+  pub range_of_a_text : ends (tree.Evaluate (a_range (str (codes "a") ∷ [])) ∷ []) ≡ codes "raised TypeError: wrong type\n"
   --     range()
-  pub range_of_nothing : ends (Evaluate (a_range []) ∷ []) ≡ codes "raised TypeError: wrong arguments\n"
+  pub range_of_nothing : ends (tree.Evaluate (a_range []) ∷ []) ≡ codes "raised TypeError: wrong arguments\n"
   -- ranges are equal that have the same items
   --     print(range(0, 3, 2) == range(0, 4, 2), range(0) == range(2, 1, 3), range(0, 1, 2) == range(0, 2, 5),
   --         range(1) == range(2), range(2) == range(1, 3))
   pub same_items :
       ends
       (prints
-      (compared Equal (a_range (int 0 ∷ int 3 ∷ int 2 ∷ [])) (a_range (int 0 ∷ int 4 ∷ int 2 ∷ []))
-      ∷ compared Equal (a_range (int 0 ∷ [])) (a_range (int 2 ∷ int 1 ∷ int 3 ∷ []))
-      ∷ compared Equal (a_range (int 0 ∷ int 1 ∷ int 2 ∷ [])) (a_range (int 0 ∷ int 2 ∷ int 5 ∷ []))
-      ∷ compared Equal (a_range (int 1 ∷ [])) (a_range (int 2 ∷ []))
-      ∷ compared Equal (a_range (int 2 ∷ [])) (a_range (int 1 ∷ int 3 ∷ []))
+      (compared tree.Equal (a_range (int 0 ∷ int 3 ∷ int 2 ∷ [])) (a_range (int 0 ∷ int 4 ∷ int 2 ∷ []))
+      ∷ compared tree.Equal (a_range (int 0 ∷ [])) (a_range (int 2 ∷ int 1 ∷ int 3 ∷ []))
+      ∷ compared tree.Equal (a_range (int 0 ∷ int 1 ∷ int 2 ∷ [])) (a_range (int 0 ∷ int 2 ∷ int 5 ∷ []))
+      ∷ compared tree.Equal (a_range (int 1 ∷ [])) (a_range (int 2 ∷ []))
+      ∷ compared tree.Equal (a_range (int 2 ∷ [])) (a_range (int 1 ∷ int 3 ∷ []))
       ∷ [])
       ∷ [])
       ≡ codes "True True True False False\n"
@@ -235,9 +236,9 @@ pub record ItemCases : Type 0 where
   pub other_steps :
       ends
       (prints
-      (compared Equal (a_range (int 0 ∷ int 3 ∷ int 2 ∷ [])) (a_range (int 0 ∷ int 3 ∷ int 1 ∷ []))
-      ∷ compared Equal (a_range (int 3 ∷ int 0 ∷ minus (int 2) ∷ [])) (a_range (int 3 ∷ minus (int 1) ∷ minus (int 2) ∷ []))
-      ∷ compared NotEqual (a_range (int 3 ∷ [])) (a_range (int 0 ∷ int 3 ∷ []))
+      (compared tree.Equal (a_range (int 0 ∷ int 3 ∷ int 2 ∷ [])) (a_range (int 0 ∷ int 3 ∷ int 1 ∷ []))
+      ∷ compared tree.Equal (a_range (int 3 ∷ int 0 ∷ minus (int 2) ∷ [])) (a_range (int 3 ∷ minus (int 1) ∷ minus (int 2) ∷ []))
+      ∷ compared tree.NotEqual (a_range (int 3 ∷ [])) (a_range (int 0 ∷ int 3 ∷ []))
       ∷ [])
       ∷ [])
       ≡ codes "False True False\n"
@@ -245,21 +246,21 @@ pub record ItemCases : Type 0 where
   pub empty_range_is_false :
       ends
       (prints
-      (Unary Not (a_range (int 0 ∷ []))
-      ∷ Unary Not (a_range (int 1 ∷ []))
-      ∷ Unary Not (a_range (int 0 ∷ int 2 ∷ minus (int 1) ∷ []))
-      ∷ Unary Not (a_range (int 2 ∷ int 0 ∷ minus (int 1) ∷ []))
+      (tree.Unary tree.Not (a_range (int 0 ∷ []))
+      ∷ tree.Unary tree.Not (a_range (int 1 ∷ []))
+      ∷ tree.Unary tree.Not (a_range (int 0 ∷ int 2 ∷ minus (int 1) ∷ []))
+      ∷ tree.Unary tree.Not (a_range (int 2 ∷ int 0 ∷ minus (int 1) ∷ []))
       ∷ [])
       ∷ [])
       ≡ codes "True False True False\n"
   --     range(1) < range(2)
-  pub no_order_of_ranges : ends (Evaluate (compared Less (a_range (int 1 ∷ [])) (a_range (int 2 ∷ []))) ∷ []) ≡ codes "raised TypeError: wrong type\n"
+  pub no_order_of_ranges : ends (tree.Evaluate (compared tree.Less (a_range (int 1 ∷ [])) (a_range (int 2 ∷ []))) ∷ []) ≡ codes "raised TypeError: wrong type\n"
   -- ---- kinds and exceptions as values
   --     print(ValueError, KeyError == KeyError, KeyError == LookupError, KeyError != IndexError)
   pub reprs_of_kinds :
       ends
       (prints
-      (value_error ∷ compared Equal key_error key_error ∷ compared Equal key_error lookup_error ∷ compared NotEqual key_error index_error ∷ [])
+      (value_error ∷ compared tree.Equal key_error key_error ∷ compared tree.Equal key_error lookup_error ∷ compared tree.NotEqual key_error index_error ∷ [])
       ∷ [])
       ≡ codes "<class 'ValueError'> True False True\n"
   --     print(repr(ValueError('x')), repr(ValueError()), repr(KeyError(7)), repr(TypeError(None)))
@@ -269,7 +270,7 @@ pub record ItemCases : Type 0 where
       (a_repr (new value_error (str (codes "x") ∷ []))
       ∷ a_repr (new value_error [])
       ∷ a_repr (new key_error (int 7 ∷ []))
-      ∷ a_repr (new type_error (Constant Nothing ∷ []))
+      ∷ a_repr (new type_error (tree.Constant Nothing ∷ []))
       ∷ [])
       ∷ [])
       ≡ codes "ValueError('x') ValueError() KeyError(7) TypeError(None)\n"
@@ -294,33 +295,33 @@ pub record ItemCases : Type 0 where
   --     print(e == e, e == ValueError('x'), e != e, e == 'x', e == ValueError)
   pub exceptions_compared :
       ends
-      (Assign (Named e) (new value_error (str (codes "x") ∷ []))
+      (tree.Assign (tree.Named e) (new value_error (str (codes "x") ∷ []))
       ∷ prints
-      (compared Equal (Name e) (Name e)
-      ∷ compared Equal (Name e) (new value_error (str (codes "x") ∷ []))
-      ∷ compared NotEqual (Name e) (Name e)
-      ∷ compared Equal (Name e) (str (codes "x"))
-      ∷ compared Equal (Name e) value_error
+      (compared tree.Equal (tree.Name e) (tree.Name e)
+      ∷ compared tree.Equal (tree.Name e) (new value_error (str (codes "x") ∷ []))
+      ∷ compared tree.NotEqual (tree.Name e) (tree.Name e)
+      ∷ compared tree.Equal (tree.Name e) (str (codes "x"))
+      ∷ compared tree.Equal (tree.Name e) value_error
       ∷ [])
       ∷ [])
       ≡ codes "True False False False False\n"
   --     print(not ValueError(), not ValueError)
-  pub exceptions_are_true : ends (prints (Unary Not (new value_error []) ∷ Unary Not value_error ∷ []) ∷ []) ≡ codes "False False\n"
+  pub exceptions_are_true : ends (prints (tree.Unary tree.Not (new value_error []) ∷ tree.Unary tree.Not value_error ∷ []) ∷ []) ≡ codes "False False\n"
   --     e = ValueError(KeyError('a'))
   --     print(repr(e), e, repr(IndexError(e)), KeyError(ValueError('b')))
   pub exceptions_of_exceptions :
       ends
-      (Assign (Named e) (new value_error (new key_error (str (codes "a") ∷ []) ∷ []))
-      ∷ prints (a_repr (Name e) ∷ Name e ∷ a_repr (new index_error (Name e ∷ [])) ∷ new key_error (new value_error (str (codes "b") ∷ []) ∷ []) ∷ [])
+      (tree.Assign (tree.Named e) (new value_error (new key_error (str (codes "a") ∷ []) ∷ []))
+      ∷ prints (a_repr (tree.Name e) ∷ tree.Name e ∷ a_repr (new index_error (tree.Name e ∷ [])) ∷ new key_error (new value_error (str (codes "b") ∷ []) ∷ []) ∷ [])
       ∷ [])
       ≡ codes "ValueError(KeyError('a')) 'a' IndexError(ValueError(KeyError('a'))) ValueError('b')\n"
   -- at most one (this project's own)
   --     print('a')
   --     ValueError(1, 2)
-  pub too_many_arguments : ends (says (codes "a") ∷ Evaluate (new value_error (int 1 ∷ int 2 ∷ [])) ∷ []) ≡ codes "a\nraised TypeError: wrong arguments\n"
+  pub too_many_arguments : ends (says (codes "a") ∷ tree.Evaluate (new value_error (int 1 ∷ int 2 ∷ [])) ∷ []) ≡ codes "a\nraised TypeError: wrong arguments\n"
   -- some kinds have no built-in name
   --     NotShareableError
-  pub kind_that_has_no_name : ends (Evaluate (Name (codes "NotShareableError")) ∷ []) ≡ codes "raised NameError: name NotShareableError is not defined\n"
+  pub kind_that_has_no_name : ends (tree.Evaluate (tree.Name (codes "NotShareableError")) ∷ []) ≡ codes "raised NameError: name NotShareableError is not defined\n"
   -- a global name hides that of a kind
   --     KeyError = ValueError
   --     try:
@@ -329,8 +330,8 @@ pub record ItemCases : Type 0 where
   --         print(e)
   pub another_value :
       ends
-      (Assign (Named (codes "KeyError")) value_error
-      ∷ try_except (raises (new value_error (str (codes "x") ∷ [])) ∷ []) (except_as key_error e (prints (Name e ∷ []) ∷ []) NoClauses)
+      (tree.Assign (tree.Named (codes "KeyError")) value_error
+      ∷ try_except (raises (new value_error (str (codes "x") ∷ [])) ∷ []) (except_as key_error e (prints (tree.Name e ∷ []) ∷ []) tree.NoClauses)
       ∷ [])
       ≡ codes "x\n"
   -- ---- str and repr
@@ -342,27 +343,27 @@ pub record ItemCases : Type 0 where
       ∷ a_repr (str (codes "a"))
       ∷ a_str (int 7)
       ∷ a_repr (int 7)
-      ∷ a_str (Constant Nothing)
-      ∷ a_repr (Constant (Truth true))
+      ∷ a_str (tree.Constant Nothing)
+      ∷ a_repr (tree.Constant (Truth true))
       ∷ a_repr (a_repr (str (codes "a")))
       ∷ [])
       ∷ [])
       ≡ codes "a 'a' 7 7 None True \"'a'\"\n"
   --     str(1, 2)
-  pub str_of_two : ends (Evaluate (called (codes "str") (int 1 ∷ int 2 ∷ [])) ∷ []) ≡ codes "raised TypeError: wrong arguments\n"
+  pub str_of_two : ends (tree.Evaluate (called (codes "str") (int 1 ∷ int 2 ∷ [])) ∷ []) ≡ codes "raised TypeError: wrong arguments\n"
   -- (this project's own)
   --     print(str, repr, range)
   pub shown_built_ins :
-      ends (prints (Name (codes "str") ∷ Name (codes "repr") ∷ Name (codes "range") ∷ []) ∷ []) ≡ codes "<built-in str> <built-in repr> <built-in range>\n"
+      ends (prints (tree.Name (codes "str") ∷ tree.Name (codes "repr") ∷ tree.Name (codes "range") ∷ []) ∷ []) ≡ codes "<built-in str> <built-in repr> <built-in range>\n"
   --     f = str
   --     print(f(7) + 'a', f == str, f == repr)
   pub called_by_another_name :
       ends
-      (Assign (Named f) (Name (codes "str"))
+      (tree.Assign (tree.Named f) (tree.Name (codes "str"))
       ∷ prints
-      (Binary Add (called f (int 7 ∷ [])) (str (codes "a"))
-      ∷ compared Equal (Name f) (Name (codes "str"))
-      ∷ compared Equal (Name f) (Name (codes "repr"))
+      (tree.Binary tree.Add (called f (int 7 ∷ [])) (str (codes "a"))
+      ∷ compared tree.Equal (tree.Name f) (tree.Name (codes "str"))
+      ∷ compared tree.Equal (tree.Name f) (tree.Name (codes "repr"))
       ∷ [])
       ∷ [])
       ≡ codes "7a True False\n"
@@ -373,7 +374,7 @@ pub record ItemCases : Type 0 where
   --         pass
   --     else:
   --         pass
-  pub visits_of_a_for : end_of (run_within 2 (each_else c (str (codes "a")) (Pass ∷ []) (Pass ∷ []) ∷ [])) ≡ Some (Some (End Returned), 9)
+  pub visits_of_a_for : end_of (run_within 2 (each_else c (str (codes "a")) (tree.Pass ∷ []) (tree.Pass ∷ []) ∷ [])) ≡ Some (Some (End Returned), 9)
   -- with two turns it is cut behind the second
   --     for i in range(3):
   --         print(i)

@@ -1,7 +1,8 @@
 -- Worked cases of scopes: which texts are well scoped, and which names are local, computed from the definitions.
 use Rattle.std.specs.Prelude.{◌≡◌, codes, List, [], ◌∷◌, Bool, true, false, Option, Some, None}
 use Rattle.si_semantics.specs.Value.{Text}
-use Rattle.si_semantics.specs.Tree.{Add, Name, Stmt, Named, Assign, Augment, Pass, If, While, For, Break, Continue, Return, Global, Raise, Try, Finally, Stmts, NoStmts, Clauses, NoClauses, MoreClauses}
+use Rattle.si_semantics.specs.Tree as tree
+use Rattle.si_semantics.specs.Tree.{Stmt, Stmts, Clauses}
 use Rattle.si_semantics.specs.Scope.{is_scoped, locals_of}
 use Rattle.si_semantics.specs.Worked.Straight.{int, i_name, suite, left_by_break}
 use Rattle.si_semantics.specs.Worked.Functions.{f, g, n, x, define, prints}
@@ -18,40 +19,40 @@ scoped_in_f body = scoped (define f (n ∷ []) body ∷ [])
 
 -- `global x`
 abbrev pub global_x : Stmt
-global_x = Global (x ∷ [])
+global_x = tree.Global (x ∷ [])
 
 -- `x = 1`
 abbrev pub set_x : Stmt
-set_x = Assign (Named x) (int 1)
+set_x = tree.Assign (tree.Named x) (int 1)
 
 -- `pass` for a suite
 abbrev pub nothing : Stmts
-nothing = suite (Pass ∷ [])
+nothing = suite (tree.Pass ∷ [])
 
 -- `while n:` with these statements for its body
 abbrev pub looped : List Stmt → Stmt
-looped body = While (Name n) (suite body) NoStmts
+looped body = tree.While (tree.Name n) (suite body) tree.NoStmts
 
 -- `for x in n:` with these statements for its body, and these for its else suite
 abbrev pub each_x : (body last : List Stmt) → Stmt
-each_x body last = For (Named x) (Name n) (suite body) (suite last)
+each_x body last = tree.For (tree.Named x) (tree.Name n) (suite body) (suite last)
 
 -- `except NAME:`, or `except:`, with these statements for its suite, and the clauses behind it
 abbrev pub except : Option Text → List Stmt → Clauses → Clauses
-except None body more = MoreClauses None None (suite body) more
-except (Some y) body more = MoreClauses (Some (Name y)) None (suite body) more
+except None body more = tree.MoreClauses None None (suite body) more
+except (Some y) body more = tree.MoreClauses (Some (tree.Name y)) None (suite body) more
 
 -- `except n as x:` with these statements for its suite, alone
 abbrev pub as_x : List Stmt → Clauses
-as_x body = MoreClauses (Some (Name n)) (Some x) (suite body) NoClauses
+as_x body = tree.MoreClauses (Some (tree.Name n)) (Some x) (suite body) tree.NoClauses
 
 -- `try: pass`, `finally:` with these statements for its suite
 abbrev pub finishes : List Stmt → Stmt
-finishes body = Finally nothing NoClauses NoStmts (suite body)
+finishes body = tree.Finally nothing tree.NoClauses tree.NoStmts (suite body)
 
 -- `try:` with these statements for its suite, `except: pass`
 abbrev pub tries : List Stmt → Stmt
-tries body = Try (suite body) (except None (Pass ∷ []) NoClauses) NoStmts
+tries body = tree.Try (suite body) (except None (tree.Pass ∷ []) tree.NoClauses) tree.NoStmts
 
 -- the names that are local to `f(n)` with these statements for its suite
 abbrev pub locals_in_f : List Stmt → List Text
@@ -62,98 +63,98 @@ locals_in_f body = locals_of (record { name = f; parameters = n ∷ []; body = s
 pub record ScopeCases : Type 0 where
   -- `break` and `continue` within an `if` in a loop stand in the loop; alone they don't, nor in a loop's else suite
   pub break_in_a_loop : scoped left_by_break ≡ true
-  pub break_alone : scoped (If i_name (suite (Break ∷ [])) NoStmts ∷ []) ≡ false
-  pub continue_in_an_else_suite : scoped (While i_name (suite (Pass ∷ [])) (suite (Continue ∷ [])) ∷ []) ≡ false
+  pub break_alone : scoped (tree.If i_name (suite (tree.Break ∷ [])) tree.NoStmts ∷ []) ≡ false
+  pub continue_in_an_else_suite : scoped (tree.While i_name (suite (tree.Pass ∷ [])) (suite (tree.Continue ∷ [])) ∷ []) ≡ false
   -- `while n: break` in a function; `while i:` `def f(n): break`: that loop is none of the function
-  pub break_in_a_loop_of_a_function : scoped_in_f (While (Name n) (suite (Break ∷ [])) NoStmts ∷ []) ≡ true
-  pub break_in_a_function_in_a_loop : scoped (While i_name (suite (define f [] (Break ∷ []) ∷ [])) NoStmts ∷ []) ≡ false
+  pub break_in_a_loop_of_a_function : scoped_in_f (tree.While (tree.Name n) (suite (tree.Break ∷ [])) tree.NoStmts ∷ []) ≡ true
+  pub break_in_a_function_in_a_loop : scoped (tree.While i_name (suite (define f [] (tree.Break ∷ []) ∷ [])) tree.NoStmts ∷ []) ≡ false
   -- `return` in a loop of a function, and in a text
-  pub return_in_a_function : scoped_in_f (While (Name n) (suite (Return (Some (Name n)) ∷ [])) NoStmts ∷ []) ≡ true
-  pub return_in_a_text : scoped (Return None ∷ []) ≡ false
+  pub return_in_a_function : scoped_in_f (tree.While (tree.Name n) (suite (tree.Return (Some (tree.Name n)) ∷ [])) tree.NoStmts ∷ []) ≡ true
+  pub return_in_a_text : scoped (tree.Return None ∷ []) ≡ false
   -- `def` in an `if` of a text, and in one of a function
-  pub function_in_an_if : scoped (If i_name (suite (define f [] (Pass ∷ []) ∷ [])) NoStmts ∷ []) ≡ true
-  pub function_in_a_function : scoped_in_f (If (Name n) (suite (define g [] (Pass ∷ []) ∷ [])) NoStmts ∷ []) ≡ false
+  pub function_in_an_if : scoped (tree.If i_name (suite (define f [] (tree.Pass ∷ []) ∷ [])) tree.NoStmts ∷ []) ≡ true
+  pub function_in_a_function : scoped_in_f (tree.If (tree.Name n) (suite (define g [] (tree.Pass ∷ []) ∷ [])) tree.NoStmts ∷ []) ≡ false
   -- `global x`, `x = 1` in a function, and in a text
   pub global_in_a_function : scoped_in_f (global_x ∷ set_x ∷ []) ≡ true
   pub global_in_a_text : scoped (global_x ∷ set_x ∷ []) ≡ false
   -- `global x, x` and `global x` once more
-  pub global_twice : scoped_in_f (Global (x ∷ x ∷ []) ∷ global_x ∷ []) ≡ true
+  pub global_twice : scoped_in_f (tree.Global (x ∷ x ∷ []) ∷ global_x ∷ []) ≡ true
   -- `global n` in `f(n)`
-  pub global_of_a_parameter : scoped_in_f (Global (n ∷ []) ∷ []) ≡ false
+  pub global_of_a_parameter : scoped_in_f (tree.Global (n ∷ []) ∷ []) ≡ false
   -- `x = 1`, then `global x`; `print(x)`, then `global x`
   pub global_behind_a_binding : scoped_in_f (set_x ∷ global_x ∷ []) ≡ false
-  pub global_behind_a_use : scoped_in_f (prints (Name x ∷ []) ∷ global_x ∷ []) ≡ false
+  pub global_behind_a_use : scoped_in_f (prints (tree.Name x ∷ []) ∷ global_x ∷ []) ≡ false
   -- `if n:` `global x`, then `x = 1`; `if x:` `global x`; `while x:` `global x`
-  pub global_in_a_branch : scoped_in_f (If (Name n) (suite (global_x ∷ [])) NoStmts ∷ set_x ∷ []) ≡ true
-  pub global_behind_its_test : scoped_in_f (If (Name x) (suite (global_x ∷ [])) NoStmts ∷ []) ≡ false
-  pub global_behind_the_test_of_a_loop : scoped_in_f (While (Name x) (suite (global_x ∷ [])) NoStmts ∷ []) ≡ false
+  pub global_in_a_branch : scoped_in_f (tree.If (tree.Name n) (suite (global_x ∷ [])) tree.NoStmts ∷ set_x ∷ []) ≡ true
+  pub global_behind_its_test : scoped_in_f (tree.If (tree.Name x) (suite (global_x ∷ [])) tree.NoStmts ∷ []) ≡ false
+  pub global_behind_the_test_of_a_loop : scoped_in_f (tree.While (tree.Name x) (suite (global_x ∷ [])) tree.NoStmts ∷ []) ≡ false
   -- `if n:` `global x`, `else:` `x = 1`; `if n:` `x = 1`, `else:` `global x`
-  pub global_before_an_else_suite : scoped_in_f (If (Name n) (suite (global_x ∷ [])) (suite (set_x ∷ [])) ∷ []) ≡ true
-  pub global_in_an_else_suite : scoped_in_f (If (Name n) (suite (set_x ∷ [])) (suite (global_x ∷ [])) ∷ []) ≡ false
+  pub global_before_an_else_suite : scoped_in_f (tree.If (tree.Name n) (suite (global_x ∷ [])) (suite (set_x ∷ [])) ∷ []) ≡ true
+  pub global_in_an_else_suite : scoped_in_f (tree.If (tree.Name n) (suite (set_x ∷ [])) (suite (global_x ∷ [])) ∷ []) ≡ false
   -- `def f(n, x): pass`, and `def f(n, n): pass`
-  pub two_parameters : scoped (define f (n ∷ x ∷ []) (Pass ∷ []) ∷ []) ≡ true
-  pub doubled_parameter : scoped (define f (n ∷ n ∷ []) (Pass ∷ []) ∷ []) ≡ false
+  pub two_parameters : scoped (define f (n ∷ x ∷ []) (tree.Pass ∷ []) ∷ []) ≡ true
+  pub doubled_parameter : scoped (define f (n ∷ n ∷ []) (tree.Pass ∷ []) ∷ []) ≡ false
   -- `def f(n):` `global x`, `x = 1`, `i = x`, `if i:` `n = 1`, `i += 1`: the parameter first, then what is bound and
   -- not global, once
   pub locals :
-      locals_in_f (global_x ∷ set_x ∷ Assign (Named (codes "i")) (Name x) ∷ If i_name (suite (Assign (Named n) (int 1) ∷ Augment (Named (codes "i")) Add (int 1) ∷ [])) NoStmts ∷ [])
+      locals_in_f (global_x ∷ set_x ∷ tree.Assign (tree.Named (codes "i")) (tree.Name x) ∷ tree.If i_name (suite (tree.Assign (tree.Named n) (int 1) ∷ tree.Augment (tree.Named (codes "i")) tree.Add (int 1) ∷ [])) tree.NoStmts ∷ [])
       ≡ n ∷ codes "i" ∷ []
   -- `while n: pass`, `else: x = 1`; `while n: global x`, `else: x = 1`; `while n: x = 1`, `else: global x`
-  pub binding_in_an_else_suite : locals_in_f (While (Name n) nothing (suite (set_x ∷ [])) ∷ []) ≡ n ∷ x ∷ []
-  pub global_in_front_of_a_loops_else_suite : scoped_in_f (While (Name n) (suite (global_x ∷ [])) (suite (set_x ∷ [])) ∷ []) ≡ true
-  pub global_in_a_loops_else_suite : scoped_in_f (While (Name n) (suite (set_x ∷ [])) (suite (global_x ∷ [])) ∷ []) ≡ false
+  pub binding_in_an_else_suite : locals_in_f (tree.While (tree.Name n) nothing (suite (set_x ∷ [])) ∷ []) ≡ n ∷ x ∷ []
+  pub global_in_front_of_a_loops_else_suite : scoped_in_f (tree.While (tree.Name n) (suite (global_x ∷ [])) (suite (set_x ∷ [])) ∷ []) ≡ true
+  pub global_in_a_loops_else_suite : scoped_in_f (tree.While (tree.Name n) (suite (set_x ∷ [])) (suite (global_x ∷ [])) ∷ []) ≡ false
   -- `while n:` with `while x: pass`, `else: break` in it: the else suite stands in the outer loop
-  pub break_in_an_inner_else_suite : scoped_in_f (looped (While (Name x) nothing (suite (Break ∷ [])) ∷ []) ∷ []) ≡ true
+  pub break_in_an_inner_else_suite : scoped_in_f (looped (tree.While (tree.Name x) nothing (suite (tree.Break ∷ [])) ∷ []) ∷ []) ≡ true
   -- `for x in n: break`, in a function and in a text; `for x in n: pass`, `else: break`
-  pub break_in_a_for : scoped_in_f (each_x (Break ∷ []) [] ∷ []) ≡ true
-  pub continue_in_a_for_of_a_text : scoped (each_x (Continue ∷ []) [] ∷ []) ≡ true
-  pub break_in_the_else_suite_of_a_for : scoped_in_f (each_x (Pass ∷ []) (Break ∷ []) ∷ []) ≡ false
+  pub break_in_a_for : scoped_in_f (each_x (tree.Break ∷ []) [] ∷ []) ≡ true
+  pub continue_in_a_for_of_a_text : scoped (each_x (tree.Continue ∷ []) [] ∷ []) ≡ true
+  pub break_in_the_else_suite_of_a_for : scoped_in_f (each_x (tree.Pass ∷ []) (tree.Break ∷ []) ∷ []) ≡ false
   -- `for x in n: i = 1`, `else: x += 1`: the target is local, and what the suites bind
-  pub target_is_local : locals_in_f (each_x (Assign (Named (codes "i")) (int 1) ∷ []) (Augment (Named x) Add (int 1) ∷ []) ∷ []) ≡ n ∷ x ∷ codes "i" ∷ []
+  pub target_is_local : locals_in_f (each_x (tree.Assign (tree.Named (codes "i")) (int 1) ∷ []) (tree.Augment (tree.Named x) tree.Add (int 1) ∷ []) ∷ []) ≡ n ∷ x ∷ codes "i" ∷ []
   -- `global x`, then `for x in n: pass`; `for x in n: global x`
-  pub global_target : locals_in_f (global_x ∷ each_x (Pass ∷ []) [] ∷ []) ≡ n ∷ []
+  pub global_target : locals_in_f (global_x ∷ each_x (tree.Pass ∷ []) [] ∷ []) ≡ n ∷ []
   pub global_of_a_target : scoped_in_f (each_x (global_x ∷ []) [] ∷ []) ≡ false
   -- `for i in x: global x`
-  pub global_of_what_is_gone_over : scoped_in_f (For (Named (codes "i")) (Name x) (suite (global_x ∷ [])) NoStmts ∷ []) ≡ false
+  pub global_of_what_is_gone_over : scoped_in_f (tree.For (tree.Named (codes "i")) (tree.Name x) (suite (global_x ∷ [])) tree.NoStmts ∷ []) ≡ false
   -- `try: pass`, `except n as x: i = 1`, `else: g = 1`; the same with `finally: g = 1` behind an empty else suite: `as`
   -- binds, and so do the suites
   pub name_behind_as_is_local :
-      locals_in_f (Try nothing (as_x (Assign (Named (codes "i")) (int 1) ∷ [])) (suite (Assign (Named g) (int 1) ∷ [])) ∷ []) ≡ n ∷ x ∷ codes "i" ∷ g ∷ []
+      locals_in_f (tree.Try nothing (as_x (tree.Assign (tree.Named (codes "i")) (int 1) ∷ [])) (suite (tree.Assign (tree.Named g) (int 1) ∷ [])) ∷ []) ≡ n ∷ x ∷ codes "i" ∷ g ∷ []
   pub name_bound_in_a_finally_suite :
-      locals_in_f (Finally nothing (as_x (Assign (Named (codes "i")) (int 1) ∷ [])) NoStmts (suite (Assign (Named g) (int 1) ∷ [])) ∷ []) ≡ n ∷ x ∷ codes "i" ∷ g ∷ []
+      locals_in_f (tree.Finally nothing (as_x (tree.Assign (tree.Named (codes "i")) (int 1) ∷ [])) tree.NoStmts (suite (tree.Assign (tree.Named g) (int 1) ∷ [])) ∷ []) ≡ n ∷ x ∷ codes "i" ∷ g ∷ []
   -- `global x`, then `try: pass`, `except n as x: pass`; `try: pass`, `except n as x: global x`
-  pub global_name_behind_as : locals_in_f (global_x ∷ Try nothing (as_x (Pass ∷ [])) NoStmts ∷ []) ≡ n ∷ []
-  pub global_of_a_name_behind_as : scoped_in_f (Try nothing (as_x (global_x ∷ [])) NoStmts ∷ []) ≡ false
+  pub global_name_behind_as : locals_in_f (global_x ∷ tree.Try nothing (as_x (tree.Pass ∷ [])) tree.NoStmts ∷ []) ≡ n ∷ []
+  pub global_of_a_name_behind_as : scoped_in_f (tree.Try nothing (as_x (global_x ∷ [])) tree.NoStmts ∷ []) ≡ false
   -- `try: x = 1`, `except: global x`
-  pub global_in_a_clause : scoped_in_f (Try (suite (set_x ∷ [])) (except None (global_x ∷ []) NoClauses) NoStmts ∷ []) ≡ false
+  pub global_in_a_clause : scoped_in_f (tree.Try (suite (set_x ∷ [])) (except None (global_x ∷ []) tree.NoClauses) tree.NoStmts ∷ []) ≡ false
   -- `try: pass`, `except x: pass`, `except: global x`; `try: pass`, `except n: x = 1`, `except: global x`
   pub global_behind_the_expression_of_a_clause :
-      scoped_in_f (Try nothing (except (Some x) (Pass ∷ []) (except None (global_x ∷ []) NoClauses)) NoStmts ∷ []) ≡ false
-  pub global_behind_a_clause : scoped_in_f (Try nothing (except (Some n) (set_x ∷ []) (except None (global_x ∷ []) NoClauses)) NoStmts ∷ []) ≡ false
+      scoped_in_f (tree.Try nothing (except (Some x) (tree.Pass ∷ []) (except None (global_x ∷ []) tree.NoClauses)) tree.NoStmts ∷ []) ≡ false
+  pub global_behind_a_clause : scoped_in_f (tree.Try nothing (except (Some n) (set_x ∷ []) (except None (global_x ∷ []) tree.NoClauses)) tree.NoStmts ∷ []) ≡ false
   -- `try: global x`, `except: x = 1`, `else: x = 1`
-  pub global_in_front_of_a_clause : scoped_in_f (Try (suite (global_x ∷ [])) (except None (set_x ∷ []) NoClauses) (suite (set_x ∷ [])) ∷ []) ≡ true
+  pub global_in_front_of_a_clause : scoped_in_f (tree.Try (suite (global_x ∷ [])) (except None (set_x ∷ []) tree.NoClauses) (suite (set_x ∷ [])) ∷ []) ≡ true
   -- `try: pass`, `except: x = 1`, `else: global x`; `try: x = 1`, `finally: global x`
-  pub global_in_the_else_suite_of_a_try : scoped_in_f (Try nothing (except None (set_x ∷ []) NoClauses) (suite (global_x ∷ [])) ∷ []) ≡ false
-  pub global_in_a_finally_suite : scoped_in_f (Finally (suite (set_x ∷ [])) NoClauses NoStmts (suite (global_x ∷ [])) ∷ []) ≡ false
+  pub global_in_the_else_suite_of_a_try : scoped_in_f (tree.Try nothing (except None (set_x ∷ []) tree.NoClauses) (suite (global_x ∷ [])) ∷ []) ≡ false
+  pub global_in_a_finally_suite : scoped_in_f (tree.Finally (suite (set_x ∷ [])) tree.NoClauses tree.NoStmts (suite (global_x ∷ [])) ∷ []) ≡ false
   -- `raise x`, then `global x`
-  pub global_behind_a_raise : scoped_in_f (Raise (Some (Name x)) ∷ global_x ∷ []) ≡ false
+  pub global_behind_a_raise : scoped_in_f (tree.Raise (Some (tree.Name x)) ∷ global_x ∷ []) ≡ false
   -- `try: return`, `except: return`, `else: return`, and then `finally: pass`
   pub return_in_a_try :
-      scoped_in_f (Finally (suite (Return None ∷ [])) (except None (Return None ∷ []) NoClauses) (suite (Return None ∷ [])) nothing ∷ []) ≡ true
+      scoped_in_f (tree.Finally (suite (tree.Return None ∷ [])) (except None (tree.Return None ∷ []) tree.NoClauses) (suite (tree.Return None ∷ [])) nothing ∷ []) ≡ true
   -- `while n:` with `try: break`, `except: continue`, `else: break` in it, in a text
-  pub break_in_a_try_in_a_loop : scoped (looped (Try (suite (Break ∷ [])) (except None (Continue ∷ []) NoClauses) (suite (Break ∷ [])) ∷ []) ∷ []) ≡ true
-  pub break_in_a_clause_alone : scoped (Try nothing (except None (Break ∷ []) NoClauses) NoStmts ∷ []) ≡ false
+  pub break_in_a_try_in_a_loop : scoped (looped (tree.Try (suite (tree.Break ∷ [])) (except None (tree.Continue ∷ []) tree.NoClauses) (suite (tree.Break ∷ [])) ∷ []) ∷ []) ≡ true
+  pub break_in_a_clause_alone : scoped (tree.Try nothing (except None (tree.Break ∷ []) tree.NoClauses) tree.NoStmts ∷ []) ≡ false
   -- `try: pass`, `finally: return`; `while n:` with `try: pass`, `finally: break` in it, or `continue`, in a function
   -- and in a text
-  pub return_in_a_finally_suite : scoped_in_f (finishes (Return None ∷ []) ∷ []) ≡ false
-  pub break_in_a_finally_suite : scoped_in_f (looped (finishes (Break ∷ []) ∷ []) ∷ []) ≡ false
-  pub continue_in_a_finally_suite : scoped (looped (finishes (Continue ∷ []) ∷ []) ∷ []) ≡ false
+  pub return_in_a_finally_suite : scoped_in_f (finishes (tree.Return None ∷ []) ∷ []) ≡ false
+  pub break_in_a_finally_suite : scoped_in_f (looped (finishes (tree.Break ∷ []) ∷ []) ∷ []) ≡ false
+  pub continue_in_a_finally_suite : scoped (looped (finishes (tree.Continue ∷ []) ∷ []) ∷ []) ≡ false
   -- the same within `try: ..`, `except: pass` in the finally suite
-  pub return_in_a_try_in_a_finally_suite : scoped_in_f (finishes (tries (Return None ∷ []) ∷ []) ∷ []) ≡ false
-  pub break_in_a_try_in_a_finally_suite : scoped_in_f (looped (finishes (tries (Break ∷ []) ∷ []) ∷ []) ∷ []) ≡ false
-  pub continue_in_a_try_in_a_finally_suite : scoped (looped (finishes (tries (Continue ∷ []) ∷ []) ∷ []) ∷ []) ≡ false
+  pub return_in_a_try_in_a_finally_suite : scoped_in_f (finishes (tries (tree.Return None ∷ []) ∷ []) ∷ []) ≡ false
+  pub break_in_a_try_in_a_finally_suite : scoped_in_f (looped (finishes (tries (tree.Break ∷ []) ∷ []) ∷ []) ∷ []) ≡ false
+  pub continue_in_a_try_in_a_finally_suite : scoped (looped (finishes (tries (tree.Continue ∷ []) ∷ []) ∷ []) ∷ []) ≡ false
   -- a loop within the finally suite has its own `break`, and no `return`
-  pub break_in_a_loop_in_a_finally_suite : scoped_in_f (finishes (looped (Break ∷ []) ∷ each_x (Continue ∷ []) [] ∷ []) ∷ []) ≡ true
-  pub return_in_a_loop_in_a_finally_suite : scoped_in_f (finishes (looped (Return None ∷ []) ∷ []) ∷ []) ≡ false
+  pub break_in_a_loop_in_a_finally_suite : scoped_in_f (finishes (looped (tree.Break ∷ []) ∷ each_x (tree.Continue ∷ []) [] ∷ []) ∷ []) ≡ true
+  pub return_in_a_loop_in_a_finally_suite : scoped_in_f (finishes (looped (tree.Return None ∷ []) ∷ []) ∷ []) ≡ false
   -- `def f(n): return` in the finally suite of a text
-  pub function_in_a_finally_suite : scoped (finishes (define f (n ∷ []) (Return None ∷ []) ∷ []) ∷ []) ≡ true
+  pub function_in_a_finally_suite : scoped (finishes (define f (n ∷ []) (tree.Return None ∷ []) ∷ []) ∷ []) ≡ true

@@ -1,7 +1,8 @@
 -- Short forms of scripts, for worked cases.
 use Rattle.std.specs.Prelude.{codes, ℕ, List, [], ◌∷◌, ◌++◌, Some, None}
 use Rattle.si_semantics.specs.Value.{Text}
-use Rattle.si_semantics.specs.Tree.{FloorDivide, Expr, Name, Binary, Call, Stmt, Named, Evaluate, For, Raise, Try, Finally, NoStmts, Clauses, NoClauses, MoreClauses}
+use Rattle.si_semantics.specs.Tree as tree
+use Rattle.si_semantics.specs.Tree.{Expr, Stmt, Clauses}
 use Rattle.si_semantics.specs.Life.{Told}
 use Rattle.si_semantics.specs.Shows.{joined, texts_of}
 use Rattle.si_semantics.specs.Report.{outcome_line}
@@ -37,40 +38,40 @@ t = codes "t"
 
 -- names of kinds
 abbrev pub base_exception : Expr
-base_exception = Name (codes "BaseException")
+base_exception = tree.Name (codes "BaseException")
 
 abbrev pub arithmetic_error : Expr
-arithmetic_error = Name (codes "ArithmeticError")
+arithmetic_error = tree.Name (codes "ArithmeticError")
 
 abbrev pub zero_division_error : Expr
-zero_division_error = Name (codes "ZeroDivisionError")
+zero_division_error = tree.Name (codes "ZeroDivisionError")
 
 abbrev pub lookup_error : Expr
-lookup_error = Name (codes "LookupError")
+lookup_error = tree.Name (codes "LookupError")
 
 abbrev pub index_error : Expr
-index_error = Name (codes "IndexError")
+index_error = tree.Name (codes "IndexError")
 
 abbrev pub key_error : Expr
-key_error = Name (codes "KeyError")
+key_error = tree.Name (codes "KeyError")
 
 abbrev pub name_error : Expr
-name_error = Name (codes "NameError")
+name_error = tree.Name (codes "NameError")
 
 abbrev pub unbound_local_error : Expr
-unbound_local_error = Name (codes "UnboundLocalError")
+unbound_local_error = tree.Name (codes "UnboundLocalError")
 
 abbrev pub runtime_error : Expr
-runtime_error = Name (codes "RuntimeError")
+runtime_error = tree.Name (codes "RuntimeError")
 
 abbrev pub recursion_error : Expr
-recursion_error = Name (codes "RecursionError")
+recursion_error = tree.Name (codes "RecursionError")
 
 abbrev pub type_error : Expr
-type_error = Name (codes "TypeError")
+type_error = tree.Name (codes "TypeError")
 
 abbrev pub value_error : Expr
-value_error = Name (codes "ValueError")
+value_error = tree.Name (codes "ValueError")
 
 -- ---- expressions and statements
 
@@ -80,11 +81,11 @@ says s = prints (str s ∷ [])
 
 -- `1 // 0`
 abbrev pub divides_by_zero : Stmt
-divides_by_zero = Evaluate (Binary FloorDivide (int 1) (int 0))
+divides_by_zero = tree.Evaluate (tree.Binary tree.FloorDivide (int 1) (int 0))
 
 -- `KIND(arguments)`
 abbrev pub new : Expr → List Expr → Expr
-new k args = Call k (arguments args) []
+new k args = tree.Call k (arguments args) []
 
 -- calls of `range`, `str` and `repr`
 abbrev pub a_range : List Expr → Expr
@@ -98,41 +99,41 @@ a_repr v = called (codes "repr") (v ∷ [])
 
 -- `raise EXPRESSION`
 abbrev pub raises : Expr → Stmt
-raises v = Raise (Some v)
+raises v = tree.Raise (Some v)
 
 -- `raise`
 abbrev pub raises_again : Stmt
-raises_again = Raise None
+raises_again = tree.Raise None
 
 -- `except:`, `except KIND:` and `except KIND as NAME:`, each with its suite, and the clauses behind it
 abbrev pub except_any : List Stmt → Clauses → Clauses
-except_any body cs = MoreClauses None None (suite body) cs
+except_any body cs = tree.MoreClauses None None (suite body) cs
 
 abbrev pub except_of : Expr → List Stmt → Clauses → Clauses
-except_of k body cs = MoreClauses (Some k) None (suite body) cs
+except_of k body cs = tree.MoreClauses (Some k) None (suite body) cs
 
 abbrev pub except_as : Expr → Text → List Stmt → Clauses → Clauses
-except_as k y body cs = MoreClauses (Some k) (Some y) (suite body) cs
+except_as k y body cs = tree.MoreClauses (Some k) (Some y) (suite body) cs
 
 -- `try:` with clauses, with an else suite behind them, with a finally suite behind that, and with a finally suite alone
 abbrev pub try_except : List Stmt → Clauses → Stmt
-try_except body cs = Try (suite body) cs NoStmts
+try_except body cs = tree.Try (suite body) cs tree.NoStmts
 
 abbrev pub try_else : List Stmt → Clauses → List Stmt → Stmt
-try_else body cs other = Try (suite body) cs (suite other)
+try_else body cs other = tree.Try (suite body) cs (suite other)
 
 abbrev pub try_finally : List Stmt → Clauses → (other last : List Stmt) → Stmt
-try_finally body cs other last = Finally (suite body) cs (suite other) (suite last)
+try_finally body cs other last = tree.Finally (suite body) cs (suite other) (suite last)
 
 abbrev pub ensured : (body last : List Stmt) → Stmt
-ensured body last = Finally (suite body) NoClauses NoStmts (suite last)
+ensured body last = tree.Finally (suite body) tree.NoClauses tree.NoStmts (suite last)
 
 -- `for NAME in EXPRESSION:`, and the same with an else suite
 abbrev pub each : Text → Expr → List Stmt → Stmt
-each y over body = For (Named y) over (suite body) NoStmts
+each y over body = tree.For (tree.Named y) over (suite body) tree.NoStmts
 
 abbrev pub each_else : Text → Expr → (body other : List Stmt) → Stmt
-each_else y over body other = For (Named y) over (suite body) (suite other)
+each_else y over body other = tree.For (tree.Named y) over (suite body) (suite other)
 
 -- ---- what becomes of them
 

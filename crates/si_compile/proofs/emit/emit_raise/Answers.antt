@@ -12,5 +12,5 @@ pub returns-in_ok-emit_expr-in-Some-clause-ok : goal.returns-in_ok-emit_expr-in-
 returns-in_ok-emit_expr-in-Some-clause-ok c =
     let same = ap (λ v. raise_code c.args.locals.now (option_map expr_of v)) c.in-Some.is in
     on_ok_weaker c.put.result
-    (λ h. subst (Gains c.args.table.now c.put.new.self) (sym same) (Gains-append _ _ _ (expr_code c.args.locals.now (expr_of c.in-Some.expr)) (machine.DoRaise ∷ []) c.in_ok-emit_expr-in-Some.ensures.ok h))
+    (λ h. subst (Gains c.args.table.now c.put.new.self) (sym same) (Gains-append _ _ _ (expr_code c.args.locals.now (expr_of c.in-Some.expr)) (machine.Raise ∷ []) c.in_ok-emit_expr-in-Some.ensures.ok h))
     c.put.ensures.ok
