@@ -9,17 +9,19 @@
 // row), `fault`. specs/Runs.antt says what a run shows, specs/Service.antt what it is to carry out a command.
 #![tactic(auto)]
 
-pub mod alone;
-pub mod asked;
-pub mod fault;
-pub mod input;
-pub mod interpreter;
-pub mod report;
-pub mod serving;
-pub mod words;
+mod alone;
+mod asked;
+mod fault;
+mod input;
+mod interpreter;
+mod report;
+mod serving;
+mod words;
 
 pub use alone::solo;
+pub use asked::Request;
 pub use fault::CliFault;
 pub use input::read_input;
+pub use interpreter::{Outcome, Standing};
 pub use serving::serve;
 pub use words::{WordsFault, request};

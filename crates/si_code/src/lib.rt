@@ -8,9 +8,9 @@
 // has and what it stands for; specs/inner/Jumps.antt is for the proofs alone.
 #![tactic(auto)]
 
-pub mod instr;
-pub mod routine;
-pub mod table;
+mod instr;
+mod routine;
+mod table;
 
 pub use instr::Instr;
 pub use routine::Routine;

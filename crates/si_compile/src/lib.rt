@@ -9,11 +9,11 @@
 // specs/Interpreter.antt state. specs/inner/Jumps.antt and specs/inner/Functions.antt are for the proofs alone.
 #![tactic(auto)]
 
-pub mod emit;
-pub mod expression;
-pub mod handlers;
+mod emit;
+mod expression;
+mod handlers;
 pub mod laws;
-pub mod loops;
-pub mod script;
+mod loops;
+mod script;
 
 pub use script::compile;

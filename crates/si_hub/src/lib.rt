@@ -8,7 +8,7 @@
 // `queue_rows` and `interpreter_rows` (what each action changes), `hub` (the state with its journal).
 #![tactic(auto)]
 
-pub mod hub;
+mod hub;
 mod interpreter_rows;
 mod queue_rows;
 mod shared;

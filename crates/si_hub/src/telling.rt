@@ -11,7 +11,7 @@ ghost use Rattle.si_hub.specs.Hubs.{takes_none};
 use crate::shared::Shared;
 use si_parcel::{Action, Answer};
 use si_plain::NoMemory;
-use si_queues::MAX_QUEUES;
+use si_plain::limits::MAX_QUEUES;
 use si_registry::Standing;
 
 impl Shared {

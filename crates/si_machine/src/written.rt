@@ -11,12 +11,9 @@ use crate::cause::{Cause, Fault, ascii, push_ascii};
 use crate::texts::Texts;
 use crate::value::{Object, Value, object_at};
 use si_code::CodeTable;
-use si_plain::limits::MAX_STR_LENGTH;
+use si_plain::limits::{MAX_EXCEPTIONS_WRITTEN, MAX_STR_LENGTH};
 use si_plain::{Kind, NoMemory, Text};
 use std::alloc::{AllocError, Global};
-
-// The most objects within each other that are written.
-const MAX_NESTED: usize = 200;
 
 /// The `str` of a value (Python Standard Library 3.14, "Built-in Functions").
 pub fn str_text(
@@ -29,7 +26,7 @@ pub fn str_text(
     ensures { Writes (semantics.str_in (map (object_of texts.now table.now.names) store.now) (value_of texts.now value)) result }
 {
     let mut out = Text::new(alloc);
-    write_str(&mut out, texts, store, table, value, MAX_NESTED)?;
+    write_str(&mut out, texts, store, table, value, MAX_EXCEPTIONS_WRITTEN)?;
     limited(out)
 }
 
@@ -44,7 +41,7 @@ pub fn repr_text(
     ensures { Writes (semantics.repr_in (map (object_of texts.now table.now.names) store.now) (value_of texts.now value)) result }
 {
     let mut out = Text::new(alloc);
-    write_repr(&mut out, texts, store, table, value, MAX_NESTED)?;
+    write_repr(&mut out, texts, store, table, value, MAX_EXCEPTIONS_WRITTEN)?;
     limited(out)
 }
 

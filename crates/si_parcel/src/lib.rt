@@ -7,17 +7,17 @@
 // `top` (one level of it), `binds` and `ids` (lists in actions and answers), `outcome`, `job`, `action`, `answer`.
 #![tactic(auto)]
 
-pub mod action;
-pub mod answer;
-pub mod atom;
-pub mod binds;
-pub mod ids;
-pub mod job;
-pub mod octets;
-pub mod outcome;
-pub mod parcel;
-pub mod refused;
-pub mod top;
+mod action;
+mod answer;
+mod atom;
+mod binds;
+mod ids;
+mod job;
+mod octets;
+mod outcome;
+mod parcel;
+mod refused;
+mod top;
 
 pub use action::Action;
 pub use answer::Answer;

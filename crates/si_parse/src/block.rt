@@ -12,16 +12,13 @@ use crate::lookahead::{
     Header, after, after_dedent, after_indent, after_newline, after_word, header_at, line_at,
 };
 use crate::name::{name, parameters};
-use crate::precedence::ANY;
+use crate::precedence::EXPRESSION;
 use crate::statement::line;
 use crate::target::target;
 use si_plain::limits::MAX_EXPRESSION_DEPTH;
 use si_syntax::{Expr, Stmt};
 use si_token::{Keyword, Symbol, Token};
 use std::alloc::Global;
-
-// The most compound statements that are nested.
-pub(crate) const MAX_NESTING: u32 = 20;
 
 // Statements, and the place behind them.
 type Suite = Result<(Vec<Stmt>, usize), ParseFault>;
@@ -157,7 +154,7 @@ fn branch(
     requires { parts < 999 }
     ensures { Gives (λ x. (branch_of x.0.0 x.0.1.items, from tokens.now x.1)) result (branch_by (block_at parts) (from tokens.now start)) }
 {
-    let (test, _, at) = expression(alloc, MAX_EXPRESSION_DEPTH, ANY, tokens, start)?;
+    let (test, _, at) = expression(alloc, MAX_EXPRESSION_DEPTH, EXPRESSION, tokens, start)?;
     let (body, end) = suite(alloc, parts, tokens, at)?;
     Ok(((test, body), end))
 }

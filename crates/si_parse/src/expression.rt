@@ -11,7 +11,7 @@ use crate::fault::ParseFault;
 use crate::literal::str_value;
 use crate::lookahead::{after, after_arguments, after_boolean, after_word, line_at, token_at};
 use crate::precedence::{
-    ANY, COMPARED, Continuation, DISJUNCTION, comparison_at, item_level, prefix_at, prefix_level,
+    EXPRESSION, BIT_OR, Continuation, DISJUNCTION, comparison_at, item_level, prefix_at, prefix_level,
     right_level, strength, what_follows,
 };
 use si_plain::{BinaryOperator, BooleanOperator, ComparisonOperator, Text, UnaryOperator};
@@ -158,7 +158,7 @@ fn bracketed(alloc: Global, parts: u32, tokens: &[Token], at: usize) -> Read
     ensures reads { Gives (λ x. (expr_of x.0, x.1, from tokens.now x.2)) result (bracketed_by (expression_at parts) (from tokens.now at)) }
     ensures shallow { IfOk result (λ x. x.1 ≤ parts + 1) }
 {
-    let (inner, depth, at) = expression(alloc, parts, ANY, tokens, at)?;
+    let (inner, depth, at) = expression(alloc, parts, EXPRESSION, tokens, at)?;
     match after(tokens, at, Symbol::RightParenthesis) {
         Some(behind) => Ok((inner, depth + 1, behind)),
         None => Err(ParseFault::Syntax(line_at(tokens, at))),
@@ -319,7 +319,7 @@ fn conditional(
     let Some(behind) = after_word(tokens, at, Keyword::Else) else {
         return Err(ParseFault::Syntax(line_at(tokens, at)));
     };
-    let (other, other_depth, at) = expression(alloc, parts, ANY, tokens, behind)?;
+    let (other, other_depth, at) = expression(alloc, parts, EXPRESSION, tokens, behind)?;
     let tree = Expr::Conditional(
         Box::new(alloc, test)?,
         Box::new(alloc, left)?,
@@ -348,7 +348,7 @@ fn argument(
 {
     match named_at(tokens, at) {
         Some((name, behind)) => {
-            let (value, depth, end) = expression(alloc, parts, ANY, tokens, behind)?;
+            let (value, depth, end) = expression(alloc, parts, EXPRESSION, tokens, behind)?;
             Ok((
                 Argument::ByName(String::from_str(alloc, name)?, value),
                 depth,
@@ -356,7 +356,7 @@ fn argument(
             ))
         }
         None => {
-            let (value, depth, end) = expression(alloc, parts, ANY, tokens, at)?;
+            let (value, depth, end) = expression(alloc, parts, EXPRESSION, tokens, at)?;
             Ok((Argument::Positional(value), depth, end))
         }
     }
@@ -454,7 +454,7 @@ fn compared(
     ensures reads { Gives (λ x. (expr_of x.0, x.1, from tokens.now x.2)) result (compared_by (expression_at parts) operator (from tokens.now at)) }
     ensures shallow { IfOk result (λ x. x.1 ≤ parts) }
 {
-    let (tree, depth, end) = expression(alloc, parts, COMPARED, tokens, at)?;
+    let (tree, depth, end) = expression(alloc, parts, BIT_OR, tokens, at)?;
     let names_one = matches!(operator, ComparisonOperator::Is | ComparisonOperator::IsNot);
     if names_one && !is_singleton(&tree, depth) {
         return Err(ParseFault::Syntax(line_at(tokens, at)));

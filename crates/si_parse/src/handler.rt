@@ -11,7 +11,7 @@ use crate::expression::expression;
 use crate::fault::ParseFault;
 use crate::lookahead::{after_catch, after_word, line_at};
 use crate::name::name;
-use crate::precedence::ANY;
+use crate::precedence::EXPRESSION;
 use si_plain::limits::MAX_EXPRESSION_DEPTH;
 use si_syntax::{Clause, Expr, Stmt};
 use si_token::{Keyword, Token};
@@ -124,7 +124,7 @@ fn caught(
 ) -> Result<(Expr, Option<String>, usize), ParseFault>
     ensures { Gives (λ x. ((expr_of x.0, option_map string_bytes x.1), from tokens.now x.2)) result (caught_by (from tokens.now start)) }
 {
-    let (value, _, at) = expression(alloc, MAX_EXPRESSION_DEPTH, ANY, tokens, start)?;
+    let (value, _, at) = expression(alloc, MAX_EXPRESSION_DEPTH, EXPRESSION, tokens, start)?;
     let Some(behind) = after_word(tokens, at, Keyword::As) else {
         return Ok((value, None, at));
     };

@@ -9,18 +9,18 @@
 // lines, `block` compound statements and their suites, `handler` those of `try`, and `parser` a whole text.
 #![tactic(auto)]
 
-pub mod argument;
-pub mod block;
-pub mod expression;
-pub mod fault;
-pub mod handler;
-pub mod literal;
-pub mod lookahead;
-pub mod name;
-pub mod parser;
-pub mod precedence;
-pub mod statement;
-pub mod target;
+mod argument;
+mod block;
+mod expression;
+mod fault;
+mod handler;
+mod literal;
+mod lookahead;
+mod name;
+mod parser;
+mod precedence;
+mod statement;
+mod target;
 
 pub use fault::ParseFault;
 pub use parser::parse;

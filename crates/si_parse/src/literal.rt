@@ -7,7 +7,7 @@ ghost use Rattle.si_parse.specs.inner.Gives.{Gives};
 
 use crate::fault::ParseFault;
 use si_plain::Text;
-use si_token::literal::{begins_raw, between_quotes, escape, next_character, unprefixed};
+use si_token::{begins_raw, between_quotes, escape, next_character, unprefixed};
 use std::alloc::{AllocError, Global};
 
 // Puts the character behind the others, where there is one.

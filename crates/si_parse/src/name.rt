@@ -6,11 +6,9 @@ ghost use Rattle.si_parse.specs.inner.Gives.{Gives, from};
 
 use crate::fault::ParseFault;
 use crate::lookahead::{after, after_arguments, line_at, token_at};
+use si_plain::limits::MAX_PARAMETERS;
 use si_token::{Symbol, Token, TokenKind};
 use std::alloc::Global;
-
-// The most parameters of a function.
-const MAX_PARAMETERS: usize = 255;
 
 // Names, and the place behind them.
 type Names = Result<(Vec<String>, usize), ParseFault>;

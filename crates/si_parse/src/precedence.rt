@@ -10,9 +10,8 @@ use crate::lookahead::{after_word, token_at};
 use si_plain::{BinaryOperator, BooleanOperator, ComparisonOperator, UnaryOperator};
 use si_token::{Keyword, Symbol, Token, TokenKind};
 
-// The level of any expression, and of operands: of a conditional expression's value and test, of `or`, of `and`, of a
-// comparison, of a sign, and of a call (the callee).
-pub(crate) const ANY: u32 = 1;
+// The levels of expressions, each named for its production, the loosest first.
+pub(crate) const EXPRESSION: u32 = 1;
 
 pub(crate) const DISJUNCTION: u32 = 3;
 
@@ -20,7 +19,17 @@ const CONJUNCTION: u32 = 5;
 
 const INVERSION: u32 = 7;
 
-pub(crate) const COMPARED: u32 = 10;
+pub(crate) const BIT_OR: u32 = 10;
+
+const BIT_XOR: u32 = 11;
+
+const BIT_AND: u32 = 12;
+
+const SHIFT: u32 = 13;
+
+const SUM: u32 = 14;
+
+const TERM: u32 = 15;
 
 pub(crate) const FACTOR: u32 = 16;
 
@@ -43,12 +52,12 @@ fn left_level(operator: BinaryOperator) -> u32
     ensures { result ≡ left_level operator }
 {
     match operator {
-        BinaryOperator::BitOr => 10,
-        BinaryOperator::BitXor => 11,
-        BinaryOperator::BitAnd => 12,
-        BinaryOperator::ShiftLeft | BinaryOperator::ShiftRight => 13,
-        BinaryOperator::Add | BinaryOperator::Subtract => 14,
-        BinaryOperator::Multiply | BinaryOperator::FloorDivide | BinaryOperator::Modulo => 15,
+        BinaryOperator::BitOr => BIT_OR,
+        BinaryOperator::BitXor => BIT_XOR,
+        BinaryOperator::BitAnd => BIT_AND,
+        BinaryOperator::ShiftLeft | BinaryOperator::ShiftRight => SHIFT,
+        BinaryOperator::Add | BinaryOperator::Subtract => SUM,
+        BinaryOperator::Multiply | BinaryOperator::FloorDivide | BinaryOperator::Modulo => TERM,
         BinaryOperator::Power => PRIMARY,
     }
 }
@@ -58,12 +67,12 @@ pub(crate) fn right_level(operator: BinaryOperator) -> u32
     ensures { result ≡ right_level operator }
 {
     match operator {
-        BinaryOperator::BitOr => 11,
-        BinaryOperator::BitXor => 12,
-        BinaryOperator::BitAnd => 13,
-        BinaryOperator::ShiftLeft | BinaryOperator::ShiftRight => 14,
-        BinaryOperator::Add | BinaryOperator::Subtract => 15,
-        BinaryOperator::Multiply | BinaryOperator::FloorDivide | BinaryOperator::Modulo => 16,
+        BinaryOperator::BitOr => BIT_XOR,
+        BinaryOperator::BitXor => BIT_AND,
+        BinaryOperator::BitAnd => SHIFT,
+        BinaryOperator::ShiftLeft | BinaryOperator::ShiftRight => SUM,
+        BinaryOperator::Add | BinaryOperator::Subtract => TERM,
+        BinaryOperator::Multiply | BinaryOperator::FloorDivide | BinaryOperator::Modulo => FACTOR,
         BinaryOperator::Power => FACTOR,
     }
 }

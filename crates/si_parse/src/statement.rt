@@ -7,14 +7,14 @@ ghost use Rattle.si_syntax.specs.Trees.{expr_of, stmt_of};
 ghost use Rattle.si_parse.specs.inner.Reading.{assignment_symbol, assignment_at, word_statement, rest_of, expression_at, spelled_by, value_by, returned_by, raised_by, global_by, statement_by, line_by, is_end, module_by};
 ghost use Rattle.si_parse.specs.inner.Gives.{Gives, from};
 
-use crate::block::{MAX_NESTING, block};
+use crate::block::block;
 use crate::expression::expression;
 use crate::fault::ParseFault;
 use crate::lookahead::{after, after_line, after_word, ends_small, line_at, token_at};
 use crate::name::names;
-use crate::precedence::ANY;
+use crate::precedence::EXPRESSION;
 use crate::target::as_target;
-use si_plain::limits::MAX_EXPRESSION_DEPTH;
+use si_plain::limits::{MAX_EXPRESSION_DEPTH, MAX_NESTING};
 use si_plain::BinaryOperator;
 use si_syntax::{Expr, Stmt};
 use si_token::{Keyword, Symbol, Token, TokenKind};
@@ -73,14 +73,14 @@ fn word_statement(tokens: &[Token], at: usize) -> Option<(Stmt, usize)>
 fn spelled(alloc: Global, tokens: &[Token], start: usize) -> Result<(Stmt, usize), ParseFault>
     ensures { Gives (λ x. (stmt_of x.0, from tokens.now x.1)) result (spelled_by (expression_at max_depth) (from tokens.now start)) }
 {
-    let (first, _, at) = expression(alloc, MAX_EXPRESSION_DEPTH, ANY, tokens, start)?;
+    let (first, _, at) = expression(alloc, MAX_EXPRESSION_DEPTH, EXPRESSION, tokens, start)?;
     let Some((operator, behind)) = assignment_at(tokens, at) else {
         return Ok((Stmt::Evaluate(first), at));
     };
     let Some(target) = as_target(first) else {
         return Err(ParseFault::Syntax(line_at(tokens, at)));
     };
-    let (value, _, end) = expression(alloc, MAX_EXPRESSION_DEPTH, ANY, tokens, behind)?;
+    let (value, _, end) = expression(alloc, MAX_EXPRESSION_DEPTH, EXPRESSION, tokens, behind)?;
     match operator {
         None => Ok((Stmt::Assign(target, value), end)),
         Some(operator) => Ok((Stmt::Augment(target, operator, value), end)),
@@ -94,7 +94,7 @@ fn value(alloc: Global, tokens: &[Token], at: usize) -> Result<(Option<Expr>, us
     if ends_small(tokens, at) {
         return Ok((None, at));
     }
-    let (value, _, end) = expression(alloc, MAX_EXPRESSION_DEPTH, ANY, tokens, at)?;
+    let (value, _, end) = expression(alloc, MAX_EXPRESSION_DEPTH, EXPRESSION, tokens, at)?;
     Ok((Some(value), end))
 }
 

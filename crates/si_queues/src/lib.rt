@@ -6,12 +6,12 @@
 // In reading order: `queue` (one queue), `refused` (why a parcel comes back), `queues` (all of them).
 #![tactic(auto)]
 
-pub mod queue;
-pub mod queues;
-pub mod refused;
+mod queue;
+mod queues;
+mod refused;
 
 pub use queue::Queue;
-pub use queues::{MAX_QUEUES, Queues};
+pub use queues::Queues;
 pub use refused::{NotPut, Refusal};
 
 #[cfg(test)]

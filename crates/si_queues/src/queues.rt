@@ -10,11 +10,9 @@ use crate::queue::Queue;
 use crate::refused::NotPut;
 use si_parcel::Parcel;
 use si_plain::NoMemory;
+use si_plain::limits::MAX_QUEUES;
 use std::alloc::Global;
 use std::marker::Model;
-
-/// The most queues that there may be.
-pub const MAX_QUEUES: usize = 1_024;
 
 /// The queues that interpreters share, at most 1,024. A queue's number is how many there were when it was made: numbers
 /// count up from 0, and none is given twice.

@@ -6,9 +6,9 @@
 // In reading order: `interpreter` (one of them), `run` (one run), `registry` (all of them).
 #![tactic(auto)]
 
-pub mod interpreter;
-pub mod registry;
-pub mod run;
+mod interpreter;
+mod registry;
+mod run;
 
 pub use interpreter::{Interpreter, Standing};
 pub use registry::Registry;

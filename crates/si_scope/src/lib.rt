@@ -10,12 +10,12 @@
 // has the steps of the walk, for the proofs alone.
 #![tactic(auto)]
 
-pub mod expression;
-pub mod fault;
-pub mod scoped;
-pub mod seen;
-pub mod suite;
-pub mod text;
+mod expression;
+mod fault;
+mod scoped;
+mod seen;
+mod suite;
+mod text;
 
 pub use fault::ScopeFault;
 pub use scoped::Scoped;

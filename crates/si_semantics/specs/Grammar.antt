@@ -40,47 +40,78 @@ terminal_of t = terminal t.kind t.text
 
 -- ---- precedence (6.17)
 
+-- The levels of expressions, each named for its production, the loosest first: where one level is asked for, an expression
+-- of that level or of a tighter one may stand. The numbers matter by their order alone.
+abbrev pub expression_level : ℕ
+expression_level = 1
+abbrev pub disjunction_level : ℕ
+disjunction_level = 3
+abbrev pub conjunction_level : ℕ
+conjunction_level = 5
+abbrev pub inversion_level : ℕ
+inversion_level = 7
+abbrev pub comparison_level : ℕ
+comparison_level = 8
+abbrev pub bit_or_level : ℕ
+bit_or_level = 10
+abbrev pub bit_xor_level : ℕ
+bit_xor_level = 11
+abbrev pub bit_and_level : ℕ
+bit_and_level = 12
+abbrev pub shift_level : ℕ
+shift_level = 13
+abbrev pub sum_level : ℕ
+sum_level = 14
+abbrev pub term_level : ℕ
+term_level = 15
+abbrev pub factor_level : ℕ
+factor_level = 16
+abbrev pub power_level : ℕ
+power_level = 17
+abbrev pub primary_level : ℕ
+primary_level = 18
+
 -- the level of an operator between two operands: a tighter one has a higher level
 abbrev pub level_of : BinaryOperator → ℕ
-level_of tree.BitOr = 10
-level_of tree.BitXor = 11
-level_of tree.BitAnd = 12
-level_of tree.ShiftLeft = 13
-level_of tree.ShiftRight = 13
-level_of tree.Add = 14
-level_of tree.Subtract = 14
-level_of tree.Multiply = 15
-level_of tree.FloorDivide = 15
-level_of tree.Modulo = 15
-level_of tree.Power = 17
+level_of tree.BitOr = bit_or_level
+level_of tree.BitXor = bit_xor_level
+level_of tree.BitAnd = bit_and_level
+level_of tree.ShiftLeft = shift_level
+level_of tree.ShiftRight = shift_level
+level_of tree.Add = sum_level
+level_of tree.Subtract = sum_level
+level_of tree.Multiply = term_level
+level_of tree.FloorDivide = term_level
+level_of tree.Modulo = term_level
+level_of tree.Power = power_level
 
 -- the level that its left operand has at least
 abbrev pub left_level : BinaryOperator → ℕ
-left_level tree.BitOr = 10
-left_level tree.BitXor = 11
-left_level tree.BitAnd = 12
-left_level tree.ShiftLeft = 13
-left_level tree.ShiftRight = 13
-left_level tree.Add = 14
-left_level tree.Subtract = 14
-left_level tree.Multiply = 15
-left_level tree.FloorDivide = 15
-left_level tree.Modulo = 15
-left_level tree.Power = 18
+left_level tree.BitOr = bit_or_level
+left_level tree.BitXor = bit_xor_level
+left_level tree.BitAnd = bit_and_level
+left_level tree.ShiftLeft = shift_level
+left_level tree.ShiftRight = shift_level
+left_level tree.Add = sum_level
+left_level tree.Subtract = sum_level
+left_level tree.Multiply = term_level
+left_level tree.FloorDivide = term_level
+left_level tree.Modulo = term_level
+left_level tree.Power = primary_level
 
 -- the level that its right operand has at least
 abbrev pub right_level : BinaryOperator → ℕ
-right_level tree.BitOr = 11
-right_level tree.BitXor = 12
-right_level tree.BitAnd = 13
-right_level tree.ShiftLeft = 14
-right_level tree.ShiftRight = 14
-right_level tree.Add = 15
-right_level tree.Subtract = 15
-right_level tree.Multiply = 16
-right_level tree.FloorDivide = 16
-right_level tree.Modulo = 16
-right_level tree.Power = 16
+right_level tree.BitOr = bit_xor_level
+right_level tree.BitXor = bit_and_level
+right_level tree.BitAnd = shift_level
+right_level tree.ShiftLeft = sum_level
+right_level tree.ShiftRight = sum_level
+right_level tree.Add = term_level
+right_level tree.Subtract = term_level
+right_level tree.Multiply = factor_level
+right_level tree.FloorDivide = factor_level
+right_level tree.Modulo = factor_level
+right_level tree.Power = factor_level
 
 abbrev pub symbol_of : BinaryOperator → Symbol
 symbol_of tree.BitOr = token.Bar
@@ -97,10 +128,10 @@ symbol_of tree.Power = token.DoubleStar
 
 -- the level of an operator before its operand, which has the same level at least
 abbrev pub prefix_level : UnaryOperator → ℕ
-prefix_level tree.Plus = 16
-prefix_level tree.Minus = 16
-prefix_level tree.Invert = 16
-prefix_level tree.Not = 7
+prefix_level tree.Plus = factor_level
+prefix_level tree.Minus = factor_level
+prefix_level tree.Invert = factor_level
+prefix_level tree.Not = inversion_level
 
 abbrev pub prefix_of : UnaryOperator → Terminal
 prefix_of tree.Plus = Sign token.Plus
@@ -110,13 +141,13 @@ prefix_of tree.Not = Word token.NotWord
 
 -- the level of operands with `and`, or with `or`, between them
 abbrev pub boolean_level : BooleanOperator → ℕ
-boolean_level tree.Or = 3
-boolean_level tree.And = 5
+boolean_level tree.Or = disjunction_level
+boolean_level tree.And = conjunction_level
 
 -- the level that each of the operands has at least
 abbrev pub item_level : BooleanOperator → ℕ
-item_level tree.Or = 5
-item_level tree.And = 7
+item_level tree.Or = conjunction_level
+item_level tree.And = inversion_level
 
 abbrev pub word_of : BooleanOperator → Keyword
 word_of tree.Or = token.OrWord
@@ -192,7 +223,7 @@ chain_of (link ∷ links) = tree.MoreComparisons link.0 link.1 (chain_of links)
 -- What stands behind `is` is one word, which is a choice of this project.
 abbrev pub Compares : Language → Link → List Terminal → Type 0
 Compares E link ts =
-    (f : List Terminal) × (ts ≡ comparison_of link.0 ++ f) × E 10 link.1 f × (is_identity link.0 ≡ true → (w : Keyword) × (f ≡ Word w ∷ []))
+    (f : List Terminal) × (ts ≡ comparison_of link.0 ++ f) × E bit_or_level link.1 f × (is_identity link.0 ≡ true → (w : Keyword) × (f ≡ Word w ∷ []))
 
 -- the text of str literals beside each other (6.2.3.2, "String literal concatenation")
 abbrev pub Strings : Text → List Terminal → Type 0
@@ -207,8 +238,8 @@ pub data Argument : Type 0 where
 
 -- argument: expression | NAME '=' expression
 abbrev pub Passes : Language → Argument → List Terminal → Type 0
-Passes E (Positional e) ts = E 1 e ts
-Passes E (ByName x e) ts = (f : List Terminal) × (ts ≡ NAME x ∷ (Sign token.Equal ∷ f)) × E 1 e f
+Passes E (Positional e) ts = E expression_level e ts
+Passes E (ByName x e) ts = (f : List Terminal) × (ts ≡ NAME x ∷ (Sign token.Equal ∷ f)) × E expression_level e f
 
 -- the arguments of a call: those that are passed by name stand behind the others, and no name comes twice
 pub record IsPassed (arguments : List Argument) (values : List Expr) (names : List Text) : Type 0 where
@@ -242,11 +273,11 @@ Produces E l (tree.Binary op a b) ts =
 -- primary: primary '(' [ argument { ',' argument } [','] ] ')'
 Produces E l (tree.Call a args names) ts =
     (f : List Terminal) × (g : List Terminal) × (arguments : List Argument)
-    × (ts ≡ f ++ Sign token.LeftParenthesis ∷ (g ++ Sign token.RightParenthesis ∷ [])) × (l ≤ 18) × E 18 a f
+    × (ts ≡ f ++ Sign token.LeftParenthesis ∷ (g ++ Sign token.RightParenthesis ∷ [])) × (l ≤ primary_level) × E primary_level a f
     × IsPassed arguments (items_of args) names × Separated (Passes E) token.Comma arguments g
 -- comparison: bitor comparator { comparator }
 Produces E l (tree.Compare a cs) ts =
-    (f : List Terminal) × (g : List Terminal) × (ts ≡ f ++ g) × (l ≤ 8) × E 10 a f × (0 < length (links_of cs)) × Many (Compares E) (links_of cs) g
+    (f : List Terminal) × (g : List Terminal) × (ts ≡ f ++ g) × (l ≤ comparison_level) × E bit_or_level a f × (0 < length (links_of cs)) × Many (Compares E) (links_of cs) g
 -- conjunction: inversion 'and' inversion { 'and' inversion };
 -- disjunction: conjunction 'or' conjunction { 'or' conjunction }
 Produces E l (tree.Boolean op a others) ts =
@@ -254,22 +285,22 @@ Produces E l (tree.Boolean op a others) ts =
     × (0 < length (items_of others)) × Many (Behind (Word (word_of op)) (E (item_level op))) (items_of others) g
 -- expression: disjunction 'if' disjunction 'else' expression
 Produces E l (tree.Conditional test value other) ts =
-    (f : List Terminal) × (g : List Terminal) × (h : List Terminal) × (ts ≡ f ++ Word token.IfWord ∷ (g ++ Word token.ElseWord ∷ h)) × (l ≤ 1)
-    × E 3 value f × E 3 test g × E 1 other h
+    (f : List Terminal) × (g : List Terminal) × (h : List Terminal) × (ts ≡ f ++ Word token.IfWord ∷ (g ++ Word token.ElseWord ∷ h)) × (l ≤ expression_level)
+    × E disjunction_level value f × E disjunction_level test g × E expression_level other h
 
 -- The tokens of a tree of at most this depth, where an expression of level l may stand.
 -- group: '(' expression ')'. It makes no node, and adds 1 to the depth.
 abbrev pub Spells : ℕ → Language
 Spells zero l e ts = ⊥
 Spells (suc n) l e ts =
-    Produces (Spells n) l e ts ⊎ ((f : List Terminal) × (ts ≡ Sign token.LeftParenthesis ∷ (f ++ Sign token.RightParenthesis ∷ [])) × Spells n 1 e f)
+    Produces (Spells n) l e ts ⊎ ((f : List Terminal) × (ts ≡ Sign token.LeftParenthesis ∷ (f ++ Sign token.RightParenthesis ∷ [])) × Spells n expression_level e f)
 
 -- the greatest depth of an expression (this project's own)
 abbrev pub max_depth : ℕ
 max_depth = 100
 
 abbrev pub IsExpression : Expr → List Terminal → Type 0
-IsExpression = Spells max_depth 1
+IsExpression = Spells max_depth expression_level
 
 -- ---- statements
 

@@ -7,10 +7,10 @@
 // scripts).
 #![tactic(auto)]
 
-pub mod expr;
-pub mod modules;
-pub mod stmt;
-pub mod target;
+mod expr;
+mod modules;
+mod stmt;
+mod target;
 
 pub use expr::Expr;
 pub use modules::Module;

@@ -15,13 +15,14 @@
 
 mod keywords;
 mod layout;
-pub mod literal;
-pub mod numbers;
+mod literal;
+mod numbers;
 mod scan;
 mod symbols;
-pub mod token;
+mod token;
 mod words;
 
+pub use literal::{begins_raw, between_quotes, escape, next_character, unprefixed};
 pub use numbers::int_value;
 pub use scan::{TokenFault, tokens};
 pub use token::{Keyword, Span, Symbol, Token, TokenKind};

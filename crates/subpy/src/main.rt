@@ -8,16 +8,13 @@
 #[cfg(test)]
 mod tests;
 
-use si_cli::asked::Request;
-use si_cli::{CliFault, WordsFault, read_input, request, serve};
+use si_cli::{CliFault, Request, WordsFault, read_input, request, serve};
+use si_plain::limits::MAX_FILE_BYTES;
 use std::alloc::AllocError;
 use std::fs::File;
 use std::io::BufWriter;
 use std::process::ExitCode;
 use std::{fmt, io};
-
-/// The most bytes of a script's file: those of the longest script, and a byte order mark.
-const MOST_BYTES: u64 = 1_048_579;
 
 /// How many bytes of a report are gathered before they are written.
 const WRITE_SIZE: usize = 65_536;
@@ -46,9 +43,9 @@ fn tell<D: fmt::Display + Drop>(rt: &HostRuntime, message: D, status: u8) -> u8 
 /// The script's bytes, or the status after telling why there are none.
 fn script_bytes(rt: &HostRuntime, source: &Source) -> Result<Vec<u8>, u8> {
     let read = match source.0 {
-        None => read_input(rt.alloc(), &mut rt.stdin(), MOST_BYTES),
+        None => read_input(rt.alloc(), &mut rt.stdin(), MAX_FILE_BYTES),
         Some(path) => match File::open(rt, path) {
-            Ok(mut file) => read_input(rt.alloc(), &mut file, MOST_BYTES),
+            Ok(mut file) => read_input(rt.alloc(), &mut file, MAX_FILE_BYTES),
             Err(_) => return Err(tell(rt, format_args!("can't open {source}"), 2)),
         },
     };

@@ -1,8 +1,8 @@
 // Texts and their tokens, as Python's own `tokenize` gives them, but for blank lines, comments, CR, tabs before a line's
 // first token, and the text of an INDENT.
 
-use si_token::token::TokenKind::{Dedent, End, Indent, Int, Name, Newline, Str};
-use si_token::token::{Keyword, Symbol, TokenKind};
+use si_token::TokenKind::{Dedent, End, Indent, Int, Name, Newline, Str};
+use si_token::{Keyword, Symbol, TokenKind};
 use si_token::{TokenFault, int_value, tokens};
 use std::process::Abort;
 
