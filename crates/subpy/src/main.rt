@@ -1,8 +1,7 @@
 // `subpy`: runs Python scripts in isolated interpreters. `subpy --help` says how it is used.
 //
 // All of the work is that of `si_cli`. This file gets the words, the script and standard output from the system, and
-// tells faults in one line on standard error. In `tests` stand the tests of all crates that are dear to prove, which call
-// what is public in them.
+// tells faults in one line on standard error. In `tests` stand the tests of commands.
 #![tactic(auto)]
 
 #[cfg(test)]

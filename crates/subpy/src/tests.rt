@@ -1,9 +1,4 @@
 // What no clause says: worked cases by way of public calls, texts of help and refusals, readers and writers that fail.
 
-mod code;
 mod commands;
-mod instructions;
 mod machine;
-mod scope;
-mod tokens;
-mod trees;

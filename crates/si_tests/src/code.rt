@@ -3,8 +3,8 @@
 use si_code::{CodeTable, Entry, Instr, Routine};
 use si_compile::compile;
 use si_parse::parse;
-use si_scope::{Scoped, resolve};
 use si_plain::{BinaryOperator, UnaryOperator};
+use si_scope::{Scoped, resolve};
 use std::alloc::Global;
 use std::test::Fail;
 

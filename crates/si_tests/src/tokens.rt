@@ -2,8 +2,7 @@
 // first token, and the text of an INDENT.
 
 use si_token::TokenKind::{Dedent, End, Indent, Int, Name, Newline, Str};
-use si_token::{Keyword, Symbol, TokenKind};
-use si_token::{TokenFault, int_value, tokens};
+use si_token::{Keyword, Symbol, TokenFault, TokenKind, int_value, tokens};
 use std::process::Abort;
 
 fn expect(rt: &(impl Abort + AllocGlobal), text: &str, wanted: &[(TokenKind, &str)]) {

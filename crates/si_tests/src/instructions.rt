@@ -3,8 +3,8 @@
 use si_code::{CodeTable, Instr};
 use si_compile::compile;
 use si_parse::parse;
-use si_scope::resolve;
 use si_plain::{BinaryOperator, BooleanOperator, ComparisonOperator};
+use si_scope::resolve;
 use std::alloc::Global;
 use std::test::Fail;
 
