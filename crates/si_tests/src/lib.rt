@@ -7,8 +7,6 @@
 #[cfg(test)]
 mod code;
 #[cfg(test)]
-mod instructions;
-#[cfg(test)]
 mod scope;
 #[cfg(test)]
 mod tokens;
