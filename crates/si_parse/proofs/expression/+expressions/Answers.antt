@@ -101,24 +101,24 @@ operands-loop-turn-preserved t c =
 
 pub links-returns-in_default-clause-reads : goal.links-returns-in_default-clause-reads
 links-returns-in_default-clause-reads t c =
-    let next = sym c.comparison_at.ensures ∙ ap (option_map (λ x. (comparison_of x.0, from c.args.tokens.now x.1))) c.in_default.is in
+    let next = sym c.comparison_at.ensures ∙ ap (option_map (λ x. (x.0, from c.args.tokens.now x.1))) c.in_default.is in
     sym c.loop-turn.invariant.reads ∙ chain_ends _ _ _ _ _ _ (omega arith) next
 
 pub links-returns-in_err-operand-clause-reads : goal.links-returns-in_err-operand-clause-reads
 links-returns-in_err-operand-clause-reads t c =
-    let next = sym c.comparison_at.ensures ∙ ap (option_map (λ x. (comparison_of x.0, from c.args.tokens.now x.1))) c.in-Some.is in
+    let next = sym c.comparison_at.ensures ∙ ap (option_map (λ x. (x.0, from c.args.tokens.now x.1))) c.in-Some.is in
     let fails = chain_fails (λ o e. (o, e)) comparison_at (compared_by (expression_at c.args.parts)) (length c.args.tokens.now - c.loop-turn._turn) (map link_of c.loop-turn.links.items, c.loop-turn.depth) (from c.args.tokens.now c.loop-turn.at)
-    (length c.args.tokens.now - (c.loop-turn._turn + 1)) (omega arith) (comparison_of c.in-Some.operator) (from c.args.tokens.now c.in-Some.behind) next _ c.in_err-operand.ensures.reads in
+    (length c.args.tokens.now - (c.loop-turn._turn + 1)) (omega arith) c.in-Some.operator (from c.args.tokens.now c.in-Some.behind) next _ c.in_err-operand.ensures.reads in
     let p = err_from_is_err_and c.from_residual.result c.from_residual.ensures.1 in
     rw (p.1, p.2) (subst (Fails _) c.loop-turn.invariant.reads fails)
 
 pub links-loop-turn-preserved : goal.links-loop-turn-preserved
 links-loop-turn-preserved t c =
-    let next = sym c.comparison_at.ensures ∙ ap (option_map (λ x. (comparison_of x.0, from c.args.tokens.now x.1))) c.in-Some.is in
+    let next = sym c.comparison_at.ensures ∙ ap (option_map (λ x. (x.0, from c.args.tokens.now x.1))) c.in-Some.is in
     let pushed = ap (map link_of) c.in_ok-push.ensures.items ∙ map-append link_of c.loop-turn.links.items ((c.in-Some.operator, c.in_ok-operand.operand) ∷ []) in
     record {
       shallow = omega (arith, c.in_ok-operand.ensures.shallow);
       reads = chain_next (λ o e. (o, e)) comparison_at (compared_by (expression_at c.args.parts)) (length c.args.tokens.now - c.loop-turn._turn) (map link_of c.loop-turn.links.items, c.loop-turn.depth) (from c.args.tokens.now c.loop-turn.at)
-          (length c.args.tokens.now - (c.loop-turn._turn + 1)) (omega arith) (comparison_of c.in-Some.operator) (from c.args.tokens.now c.in-Some.behind) next _ _ _ c.in_ok-operand.ensures.reads _ _ pushed c.max-depth.ensures
+          (length c.args.tokens.now - (c.loop-turn._turn + 1)) (omega arith) c.in-Some.operator (from c.args.tokens.now c.in-Some.behind) next _ _ _ c.in_ok-operand.ensures.reads _ _ pushed c.max-depth.ensures
           ∙ c.loop-turn.invariant.reads;
     }
