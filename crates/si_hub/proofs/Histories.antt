@@ -1,10 +1,11 @@
 -- One call more in a history.
-use Rattle.std.proofs.Common.{◌≡◌, ℕ, List, [], ◌∷◌, ◌++◌, refl, ap, sym, ◌∙◌, Some}
+use Rattle.std.proofs.Common.{◌≡◌, ℕ, Bool, true, false, List, [], ◌∷◌, ◌++◌, refl, ap, sym, ◌∙◌, Some, if◌then◌else◌}
+use Rattle.std.proofs.lemmas.Bool.{false≢true}
 use Rattle.si_semantics.specs.Actions.{Action, Answer}
-use Rattle.si_semantics.specs.Shared.{State, Reply, Replied, reply, first_state}
+use Rattle.si_semantics.specs.Shared.{State, Reply, NotNow, Replied, reply, row, may_act, is_enabled, first_state}
 use Rattle.si_semantics.specs.History.{Call, next_state, answer_in, state_then, state_after, Told}
 use Rattle.si_hub.specs.HubCode.{Past}
-use Rattle.si_hub.specs.Hubs.{state_of, IsTold, IsReplay, reply_at, call, with_call, Acts}
+use Rattle.si_hub.specs.Hubs.{state_of, IsReplay, reply_at, can_act, call, with_call, Acts}
 
 pub state_after-more : (w : ℕ) (s : State) (cs : List Call) (c : Call) → state_after w s (cs ++ c ∷ []) ≡ state_then w (state_after w s cs) c.by c.action
 unfolding state_after
@@ -79,3 +80,36 @@ pub acts_so : (s t : State) (old p : Past) (journal : List Call) (i most : ℕ) 
 acts_so s t old p journal i most a stock told kept d h =
     let e = told_kept s t old p journal i most a stock told kept d h in
     rw (d.push, ← e, ← d.same) (acts s t p i a told h (said_told s t old p journal i most a stock told kept d))
+
+-- ---- an action whose row is known
+
+enabled_then : (b : Bool) (x : Reply) → is_enabled (if b then x else NotNow) ≡ true → (if b then x else NotNow) ≡ x
+enabled_then true x h = refl
+enabled_then false x h = absurd (false≢true h)
+
+-- what is said to an action that is enabled is its row
+reply_row : (w : ℕ) (s : State) (i : ℕ) (a : Action) → is_enabled (reply w s i a) ≡ true → reply w s i a ≡ row w s i a
+unfolding reply
+reply_row w s i a h = enabled_then (may_act s i a) (row w s i a) h
+
+-- so it is in the state that the past left
+pub row_now : (s : State) (old p : Past) (i : ℕ) (a : Action) → p ≡ old → IsReplay s p → can_act old i a ≡ true → reply p.limits.interpreters s i a ≡ row p.limits.interpreters s i a
+row_now s old p i a e h c = reply_row _ _ _ _ (rw (h.now, e) c)
+
+pub row_enabled : (s : State) (old p : Past) (i : ℕ) (a : Action) → p ≡ old → IsReplay s p → can_act old i a ≡ true → is_enabled (row p.limits.interpreters s i a) ≡ true
+row_enabled s old p i a e h c = ap is_enabled (sym (row_now s old p i a e h c)) ∙ rw (h.now, e) c
+
+-- an action was done by its row
+pub done_so : (s t : State) (old p : Past) (journal : List Call) (i : ℕ) (a : Action) (told kept : Answer)
+    → p ≡ old → IsReplay s p → can_act old i a ≡ true → row p.limits.interpreters s i a ≡ Replied told t → answer_in (row p.limits.interpreters s i a) ≡ Some kept
+    → journal ≡ p.journal ++ call i a kept ∷ [] → Done s t old p journal i p.limits.interpreters a a told kept
+done_so s t old p journal i a told kept e h c r k push =
+    let now = row_now s old p i a e h c in
+    record {
+      same = e;
+      most_is = refl;
+      stock_is = refl;
+      kept_is = rw (← e, ← h.now) (ap answer_in now ∙ k);
+      replied = now ∙ r;
+      push = push;
+    }

@@ -1,5 +1,5 @@
 -- What contracts say of a hub.
-use Rattle.std.specs.Prelude.{◌≡◌, ℕ, List, [], ◌∷◌, ◌++◌, Bool, true, false}
+use Rattle.std.specs.Prelude.{◌≡◌, ℕ, [], ◌∷◌, ◌++◌, Bool, true, false}
 use Rattle.si_semantics.specs.Actions.{Action, Size, IsRunning, Answer}
 use Rattle.si_semantics.specs.Shared.{State, Reply, Replied, reply, is_enabled, first_state}
 use Rattle.si_semantics.specs.History.{Call, state_after, Told}

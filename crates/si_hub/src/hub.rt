@@ -3,7 +3,9 @@
 ghost use Rattle.std.specs.Prelude.{◌≡◌, ◌<◌, ◌≤◌, ◌+◌, ◌↔◌, [], length, IfOk, IfErr, IsOk, IsErrAnd, OnOk, OnErr, MatchOption, None, Some, true, false, slice_get};
 ghost use Rattle.si_plain.specs.Characters.{characters_of};
 ghost use Rattle.si_semantics.specs.History.{answer_in};
+ghost use Rattle.si_semantics.specs.Actions as shared;
 ghost use Rattle.si_parcel.specs.Shared.{action_of, answer_of};
+ghost use Rattle.si_parcel.specs.declared.action.Action.TheVariants.{Get};
 ghost use Rattle.si_hub.specs.Hubs.{IsTold, state_of, reply_at, can_act, Acts, takes_none};
 
 use crate::shared::Shared;
@@ -164,6 +166,19 @@ impl Hub {
         self.journal.reserve(n)
     }
 
+    // Makes room in the journal for one call more, if it has none.
+    fn make_room(&mut self) -> Result<(), NoMemory>
+        ensures past { self.new.past ≡ self.old.past }
+        ensures room { OnOk result (0 < self.new.spare) }
+        ensures more { self.old.spare ≤ self.new.spare }
+        ensures no_memory { 0 < self.old.spare → IsOk result }
+    {
+        if self.spare() > 0 {
+            return Ok(());
+        }
+        self.reserve(1)
+    }
+
     /// Whether an action of interpreter `by` is enabled: exactly where `act` would not answer `NotNow`. Takes no memory.
     pub fn enabled(&self, by: u32, action: &Action) -> bool
         ensures { result ≡ can_act self.now.past by (action_of action.now) }
@@ -171,20 +186,102 @@ impl Hub {
         self.shared.enabled(by, action, self.limits.interpreters())
     }
 
-    // Makes what an action that is enabled takes, and room in the journal.
-    fn prepare(&mut self, by: u32, action: &Action) -> Result<Stock, NoMemory>
-        requires { can_act self.old.past by (action_of action.now) ≡ true }
-        ensures past { self.new.past ≡ self.old.past }
-        ensures more { self.old.spare ≤ self.new.spare }
-        ensures room { OnOk result (0 < self.new.spare) }
+    // Makes what an action that is enabled takes.
+    fn prepare(&self, by: u32, action: &Action) -> Result<Stock, NoMemory>
+        requires { can_act self.now.past by (action_of action.now) ≡ true }
         ensures action { IfOk result (λ s. s.action ≡ action.now) }
-        ensures answer { IfOk result (λ s. answer_in (reply_at self.old.past by (action_of action.now)) ≡ Some (answer_of s.answer)) }
-        ensures no_memory { takes_none (action_of action.now) ≡ true → 0 < self.old.spare → IsOk result }
+        ensures answer { IfOk result (λ s. answer_in (reply_at self.now.past by (action_of action.now)) ≡ Some (answer_of s.answer)) }
+        ensures no_memory { takes_none (action_of action.now) ≡ true → IsOk result }
     {
         let answer = self.shared.answer(by, action, self.limits.interpreters())?;
         let action = action.clone_action(self.alloc)?;
-        self.journal.reserve(1)?;
         Ok(Stock { answer, action })
+    }
+
+    // Does an action that is enabled, with room in the journal: a copy of it in the state, and itself in the journal.
+    #[inline(never)]
+    fn act_on(&mut self, by: u32, action: Action) -> Result<Answer, NotActed>
+        requires enabled { can_act self.old.past by (action_of action) ≡ true }
+        requires room { 0 < self.old.spare }
+        ensures ok { IfOk result (λ r. Acts self.old.past by (action_of action) (answer_of r) self.new.past) }
+        ensures err { IfErr result (λ e. (e.action ≡ action) × (self.new.past ≡ self.old.past)) }
+        ensures memory { IfErr result (λ e. e.why ≡ Why.NoMemory) }
+        ensures spare { self.old.spare ≤ self.new.spare + 1 }
+        ensures kept { OnErr result (self.old.spare ≤ self.new.spare) }
+        ensures no_memory { takes_none (action_of action) ≡ true → IsOk result }
+    {
+        match self.prepare(by, &action) {
+            Err(_) => Err(no_memory(action)),
+            Ok(stock) => match self
+                .shared
+                .act(by, stock.action, self.limits.interpreters())
+            {
+                Err(_) => Err(no_memory(action)),
+                Ok(told) => {
+                    let answer = stock.answer;
+                    self.journal.push_reserved(Call { by, action, answer });
+                    Ok(told)
+                }
+            },
+        }
+    }
+
+    // The same for a put, in fewer steps: a copy of the parcel goes into the queue.
+    fn put(&mut self, by: u32, action: Action) -> Result<Answer, NotActed>
+        requires enabled { can_act self.old.past by (action_of action) ≡ true }
+        requires room { 0 < self.old.spare }
+        ensures ok { IfOk result (λ r. Acts self.old.past by (action_of action) (answer_of r) self.new.past) }
+        ensures err { IfErr result (λ e. (e.action ≡ action) × (self.new.past ≡ self.old.past)) }
+        ensures memory { IfErr result (λ e. e.why ≡ Why.NoMemory) }
+        ensures spare { self.old.spare ≤ self.new.spare + 1 }
+        ensures kept { OnErr result (self.old.spare ≤ self.new.spare) }
+        ensures no_memory { takes_none (action_of action) ≡ true → IsOk result }
+    {
+        let Action::Put(queue, parcel) = &action else {
+            return self.act_on(by, action);
+        };
+        match self.shared.put_copy(*queue, parcel) {
+            Err(_) => Err(no_memory(action)),
+            Ok(()) => {
+                let answer = Answer::Done;
+                self.journal.push_reserved(Call { by, action, answer });
+                Ok(Answer::Done)
+            }
+        }
+    }
+
+    // Takes the oldest item of a queue: itself for who asked, and a copy of it into the journal.
+    fn get(&mut self, by: u32, queue: u32) -> Result<Answer, NotActed>
+        requires enabled { can_act self.old.past by (shared.Get queue) ≡ true }
+        requires room { 0 < self.old.spare }
+        ensures ok { IfOk result (λ r. Acts self.old.past by (shared.Get queue) (answer_of r) self.new.past) }
+        ensures err { IfErr result (λ e. (e.action ≡ Get queue) × (self.new.past ≡ self.old.past)) }
+        ensures memory { IfErr result (λ e. e.why ≡ Why.NoMemory) }
+        ensures spare { self.old.spare ≤ self.new.spare + 1 }
+        ensures kept { OnErr result (self.old.spare ≤ self.new.spare) }
+    {
+        let Ok(copy) = self.shared.first(queue) else {
+            return Err(no_memory(Action::Get(queue)));
+        };
+        let item = self.shared.get(queue);
+        let action = Action::Get(queue);
+        let answer = Answer::Item(copy);
+        self.journal.push_reserved(Call { by, action, answer });
+        Ok(Answer::Item(item))
+    }
+
+    // Counts the items of a queue.
+    fn size(&mut self, by: u32, queue: u32) -> Answer
+        requires enabled { can_act self.old.past by (shared.Size queue) ≡ true }
+        requires room { 0 < self.old.spare }
+        ensures ok { Acts self.old.past by (shared.Size queue) (answer_of result) self.new.past }
+        ensures spare { self.old.spare ≤ self.new.spare + 1 }
+    {
+        let count = self.shared.size(queue);
+        let action = Action::Size(queue);
+        let answer = Answer::Count(count);
+        self.journal.push_reserved(Call { by, action, answer });
+        Answer::Count(count)
     }
 
     /// Does an action of interpreter `by` that is enabled, and answers it. The call is then the last of the journal.
@@ -206,25 +303,25 @@ impl Hub {
             let why = Why::NotNow;
             return Err(NotActed { why, action });
         }
-        match self.prepare(by, &action) {
-            Err(_) => Err(NotActed {
-                why: Why::NoMemory,
-                action,
-            }),
-            Ok(stock) => match self
-                .shared
-                .act(by, stock.action, self.limits.interpreters())
-            {
-                Err(_) => Err(NotActed {
-                    why: Why::NoMemory,
-                    action,
-                }),
-                Ok(told) => {
-                    let answer = stock.answer;
-                    self.journal.push_reserved(Call { by, action, answer });
-                    Ok(told)
-                }
-            },
+        if self.make_room().is_err() {
+            return Err(no_memory(action));
         }
+        match &action {
+            Action::Get(queue) => self.get(by, *queue),
+            Action::Size(queue) => Ok(self.size(by, *queue)),
+            Action::Put(_, _) => self.put(by, action),
+            _ => self.act_on(by, action),
+        }
+    }
+}
+
+// An action for which memory was refused.
+fn no_memory(action: Action) -> NotActed
+    ensures action { result.action ≡ action }
+    ensures why { result.why ≡ Why.NoMemory }
+{
+    NotActed {
+        why: Why::NoMemory,
+        action,
     }
 }

@@ -1,8 +1,10 @@
 // What the actions on queues change, and what they are answered.
 
-ghost use Rattle.std.specs.Prelude.{◌≡◌, IfOk, OnErr, true};
+ghost use Rattle.std.specs.Prelude.{◌≡◌, IfOk, OnOk, OnErr, Some, true};
 ghost use Rattle.si_semantics.specs.Shared as shared;
 ghost use Rattle.si_semantics.specs.Shared.{Replied, is_enabled};
+ghost use Rattle.si_semantics.specs.Actions as answer;
+ghost use Rattle.si_semantics.specs.History.{answer_in};
 ghost use Rattle.si_parcel.specs.Shared.{answer_of};
 
 use crate::shared::Shared;
@@ -21,18 +23,28 @@ impl Shared {
         }
     }
 
-    pub(crate) fn put(&mut self, queue: u32, parcel: Parcel) -> Result<Answer, NoMemory>
+    pub(crate) fn put(&mut self, queue: u32, parcel: Parcel) -> Result<(), NoMemory>
         requires { is_enabled (shared.put queue parcel self.old) ≡ true }
-        ensures ok { IfOk result (λ r. shared.put queue parcel self.old ≡ Replied (answer_of r) self.new) }
+        ensures ok { OnOk result (shared.put queue parcel self.old ≡ Replied answer.Done self.new) }
         ensures err { OnErr result (self.new ≡ self.old) }
     {
         match self.queues.queue(queue) {
             None => unreachable!(),
             Some(_) => match self.queues.put(queue, parcel) {
                 Err(_) => Err(AllocError),
-                Ok(()) => Ok(Answer::Done),
+                Ok(()) => Ok(()),
             },
         }
+    }
+
+    // The same of a copy.
+    pub(crate) fn put_copy(&mut self, queue: u32, parcel: &Parcel) -> Result<(), NoMemory>
+        requires { is_enabled (shared.put queue parcel.now self.old) ≡ true }
+        ensures ok { OnOk result (shared.put queue parcel.now self.old ≡ Replied answer.Done self.new) }
+        ensures err { OnErr result (self.new ≡ self.old) }
+    {
+        let copy = parcel.clone_parcel(self.alloc)?;
+        self.put(queue, copy)
     }
 
     pub(crate) fn put_now(&mut self, queue: u32, parcel: Parcel) -> Result<Answer, NoMemory>
@@ -54,16 +66,29 @@ impl Shared {
         }
     }
 
-    pub(crate) fn get(&mut self, queue: u32) -> Result<Answer, NoMemory>
+    // A copy of the oldest item.
+    pub(crate) fn first(&self, queue: u32) -> Result<Parcel, NoMemory>
+        requires { is_enabled (shared.get queue self.now) ≡ true }
+        ensures { IfOk result (λ p. answer_in (shared.get queue self.now) ≡ Some (answer.Item p)) }
+    {
+        match self.queues.queue(queue) {
+            None => unreachable!(),
+            Some(queue) => match queue.first() {
+                None => unreachable!(),
+                Some(item) => item.clone_parcel(self.alloc),
+            },
+        }
+    }
+
+    pub(crate) fn get(&mut self, queue: u32) -> Parcel
         requires { is_enabled (shared.get queue self.old) ≡ true }
-        ensures ok { IfOk result (λ r. shared.get queue self.old ≡ Replied (answer_of r) self.new) }
-        ensures err { OnErr result (self.new ≡ self.old) }
+        ensures { shared.get queue self.old ≡ Replied (answer.Item result) self.new }
     {
         match self.queues.queue(queue) {
             None => unreachable!(),
             Some(_) => match self.queues.get(queue) {
                 None => unreachable!(),
-                Some(item) => Ok(Answer::Item(item)),
+                Some(item) => item,
             },
         }
     }
@@ -82,13 +107,13 @@ impl Shared {
         }
     }
 
-    pub(crate) fn size(&self, queue: u32) -> Answer
+    pub(crate) fn size(&self, queue: u32) -> u64
         requires { is_enabled (shared.size queue self.now) ≡ true }
-        ensures { shared.size queue self.now ≡ Replied (answer_of result) self.now }
+        ensures { shared.size queue self.now ≡ Replied (answer.Count result) self.now }
     {
         match self.queues.queue(queue) {
             None => unreachable!(),
-            Some(queue) => Answer::Count(queue.len() as u64),
+            Some(queue) => queue.len() as u64,
         }
     }
 }

@@ -104,11 +104,14 @@ impl Shared {
         match action {
             Action::Create => self.create(most),
             Action::CreateQueue(maxsize) => self.create_queue(maxsize),
-            Action::Put(q, parcel) => self.put(q, parcel),
+            Action::Put(q, parcel) => match self.put(q, parcel) {
+                Ok(()) => Ok(Answer::Done),
+                Err(refused) => Err(refused),
+            },
             Action::PutNow(q, parcel) => self.put_now(q, parcel),
-            Action::Get(q) => self.get(q),
+            Action::Get(q) => Ok(Answer::Item(self.get(q))),
             Action::GetNow(q) => self.get_now(q),
-            Action::Size(q) => Ok(self.size(q)),
+            Action::Size(q) => Ok(Answer::Count(self.size(q))),
             Action::Prepare(j, binds) => self.prepare(j, binds),
             Action::Start(j, text) => self.start(j, text),
             Action::Await(r) => self.outcome(r),

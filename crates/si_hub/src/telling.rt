@@ -29,7 +29,7 @@ impl Shared {
             Action::PutNow(q, _) => Ok(self.put_or_full(*q)),
             Action::Get(q) => self.first_item(*q),
             Action::GetNow(q) => self.first_item(*q),
-            Action::Size(q) => Ok(self.size(*q)),
+            Action::Size(q) => Ok(Answer::Count(self.size(*q))),
             Action::Prepare(j, _) => Ok(self.prepared(*j)),
             Action::Start(j, _) => Ok(self.started(*j)),
             Action::Await(r) => self.outcome(*r),

@@ -14,4 +14,4 @@ most_le-sizes (t ∷ ts) = omega (arith, most_le-sizes ts)
 
 pub depth_le-size : (n : Node) → max (deep-Node n) 0 ≤ size_of (tree_of_node n)
 depth_le-size (Leaf a) = omega arith
-depth_le-size (Tuple items) = omega (arith, most_le-sizes items.items)
+depth_le-size (Tuple size levels items) = omega (arith, most_le-sizes items.items)

@@ -10,10 +10,14 @@ use Rattle.si_parcel.specs.declared.parcel.Parcel.TheInside.{Inside}
 -- the items of a tuple are seen as trees
 abbrev pub tree_of_node : Node → Tree
 tree_of_node (node.Leaf a) = tree.Leaf (atom_of a)
-tree_of_node (node.Tuple items) = tuple_of items.items
+tree_of_node (node.Tuple size levels items) = tuple_of items.items
 
--- the tree is within the limits, and its size and levels are kept beside it
+-- the size and the levels of a tuple are kept beside its items
+abbrev pub IsMeasured : Node → Type 0
+IsMeasured (node.Leaf a) = Unit {0}
+IsMeasured (node.Tuple size levels items) = (size ≡ size_of (tuple_of items.items)) × (levels ≡ levels_of (tuple_of items.items))
+
+-- and the tree is within the limits
 pub record IsKept (a : Inside) : Type 0 where
-  pub size : a.size ≡ size_of (tree_of_node a.node)
-  pub levels : a.levels ≡ levels_of (tree_of_node a.node)
+  pub measured : IsMeasured a.node
   pub small : IsParcel (tree_of_node a.node)

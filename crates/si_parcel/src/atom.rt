@@ -40,6 +40,7 @@ impl Atom {
     }
 
     /// The same atom again. `AllocError` where memory is refused.
+    #[inline]
     pub fn clone_atom(&self) -> Result<Atom, AllocError>
         ensures { IfOk result (λ a. a ≡ self.now) }
     {

@@ -30,16 +30,18 @@ pub const MAX_LEVELS: u8 = 200;
 #[derive(Drop)]
 pub struct Parcel {
     node: Node,
-    size: u32,
-    levels: u8,
 }
 
 #[cycle(parcel)]
 #[derive(Drop)]
 enum Node {
     Leaf(Atom),
-    Tuple(Vec<Parcel>),
+    // how many values and levels it has, and its items
+    Tuple(u32, u8, Vec<Parcel>),
 }
+
+// Each byte of a parcel is paid for twice in each call of the journal.
+const _: () = prove!(std::mem::size_of::<Parcel>() <= 56);
 
 impl Model for Parcel {
     ghost use Rattle.si_semantics.specs.Parcels.{Tree, size_of};
@@ -138,22 +140,18 @@ impl Parcel {
         if levels == MAX_LEVELS {
             return Err(TupleFault::TooDeep(items));
         }
-        Ok(Parcel {
-            node: Node::Tuple(items),
-            size,
-            levels: levels + 1,
-        })
+        let node = Node::Tuple(size, levels + 1, items);
+        Ok(Parcel { node })
     }
 
     // One atom, which is not too long.
+    #[inline]
     fn short_atom(atom: Atom) -> Parcel
         requires { length_of (atom_of atom) ≤ 1048576 }
         ensures { result ≡ Leaf (atom_of atom) }
     {
         Parcel {
             node: Node::Leaf(atom),
-            size: 1,
-            levels: 0,
         }
     }
 
@@ -161,14 +159,20 @@ impl Parcel {
     pub fn size(&self) -> u32
         ensures { result ≡ size_of self.now }
     {
-        self.size
+        match &self.node {
+            Node::Leaf(_) => 1,
+            Node::Tuple(size, _, _) => *size,
+        }
     }
 
     /// How deep its tuples lie within each other: 0 for an atom, 1 for `()`.
     pub fn levels(&self) -> u8
         ensures { result ≡ levels_of self.now }
     {
-        self.levels
+        match &self.node {
+            Node::Leaf(_) => 0,
+            Node::Tuple(_, levels, _) => *levels,
+        }
     }
 
     /// Its atom or its items.
@@ -177,7 +181,7 @@ impl Parcel {
     {
         match &self.node {
             Node::Leaf(atom) => Top::Atom(atom),
-            Node::Tuple(items) => Top::Tuple(items.as_slice()),
+            Node::Tuple(_, _, items) => Top::Tuple(items.as_slice()),
         }
     }
 
@@ -189,24 +193,34 @@ impl Parcel {
     }
 
     /// The same tree again. `AllocError` where memory is refused.
+    #[inline]
     pub fn clone_parcel(&self, alloc: Global) -> Result<Parcel, AllocError>
         ensures { IfOk result (λ p. p ≡ self.now) }
     {
-        let size = self.size;
-        let levels = self.levels;
         match &self.node {
-            Node::Leaf(atom) => {
-                let node = Node::Leaf(atom.clone_atom()?);
-                Ok(Parcel { node, size, levels })
-            }
-            Node::Tuple(items) => {
+            Node::Leaf(atom) => Ok(Parcel::short_atom(atom.clone_atom()?)),
+            Node::Tuple(_, _, _) => self.clone_tree(alloc),
+        }
+    }
+
+    // The same tree again; out of line, since it calls itself.
+    #[inline(never)]
+    fn clone_tree(&self, alloc: Global) -> Result<Parcel, AllocError>
+        ensures { IfOk result (λ p. p ≡ self.now) }
+    {
+        match &self.node {
+            Node::Leaf(atom) => Ok(Parcel::short_atom(atom.clone_atom()?)),
+            Node::Tuple(size, levels, items) => {
                 let mut copies = Vec::with_capacity(alloc, items.len())?;
                 'copies: for item in items {
-                    let copy = item.clone_parcel(alloc)?;
+                    let copy = match &item.node {
+                        Node::Leaf(atom) => Parcel::short_atom(atom.clone_atom()?),
+                        Node::Tuple(_, _, _) => item.clone_tree(alloc)?,
+                    };
                     copies.push(copy)?;
                 }
-                let node = Node::Tuple(copies);
-                Ok(Parcel { node, size, levels })
+                let node = Node::Tuple(*size, *levels, copies);
+                Ok(Parcel { node })
             }
         }
     }
@@ -217,7 +231,7 @@ impl Parcel {
     {
         match (&self.node, &other.node) {
             (Node::Leaf(atom), Node::Leaf(other)) => atom.same(other),
-            (Node::Tuple(items), Node::Tuple(others)) => {
+            (Node::Tuple(_, _, items), Node::Tuple(_, _, others)) => {
                 let len = items.len();
                 if len != others.len() {
                     return false;
@@ -248,7 +262,7 @@ impl Parcel {
     {
         match &self.node {
             Node::Leaf(atom) => atom.show_into(alloc, out),
-            Node::Tuple(items) => {
+            Node::Tuple(_, _, items) => {
                 out.push_str("(")?;
                 'items: for (at, item) in items.iter().enumerate() {
                     separate(out, at)?;
