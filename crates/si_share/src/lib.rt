@@ -18,3 +18,6 @@ mod text;
 pub use fault::{ReceiveFault, ShareFault};
 pub use inward::copy_in;
 pub use outward::{copy_out, is_shareable};
+
+#[cfg(test)]
+mod tests;
