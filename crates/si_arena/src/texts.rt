@@ -374,7 +374,16 @@ fn narrowed(narrow: &mut Vec<u8>, text: &str) -> Result<bool, NoMemory>
     ensures ok { IfOk result (λ all. narrow.new.items ≡ (if all then narrow.old.items ++ characters_of text.now else narrow.old.items)) }
     ensures err { OnErr result (narrow.new.items ≡ narrow.old.items) }
 {
+    if text.is_ascii() {
+        narrow.extend_from_slice(text.as_bytes())?;
+        return Ok(true);
+    }
+    // no room is made for what goes into the other row
+    if text.chars().any(|c| c > '\u{ff}') {
+        return Ok(false);
+    }
     let end = narrow.len();
+    narrow.reserve(count_of(text))?;
     for c in text.chars() {
         if c > '\u{ff}' {
             narrow.truncate(end);
@@ -394,6 +403,7 @@ fn widened(wide: &mut Vec<char>, text: &str) -> Result<(), NoMemory>
     ensures err { OnErr result (wide.new.items ≡ wide.old.items) }
 {
     let end = wide.len();
+    wide.reserve(count_of(text))?;
     for c in text.chars() {
         if wide.push(c).is_err() {
             wide.truncate(end);

@@ -13,6 +13,7 @@ pub mod Shows
 pub mod Report
 pub mod Laws
 pub mod Parcels
+pub mod Shareable
 pub mod Actions
 pub mod Literals
 pub mod Grammar

@@ -7,8 +7,9 @@
 // runs compiled code, one line an instruction), `Running` (the run of one text, and what never comes to be closed),
 // `Shows` (what an interpreter shows of its life at any moment), `Report` (what the program prints, and its status), `Laws`
 // (what is proved of lives and of courses). How a text is read: `Tokens`, `Literals`, `Words`, `Layout`, `Grammar`,
-// `Limits`. What interpreters share: `Parcels`, `Actions`, `Shared`, `History`, `SharedLaws` (what is proved of every
-// journal). Worked cases of each stand in `Worked`, by subject (`Scripts` has short forms for them).
+// `Limits`. What interpreters share: `Parcels`, `Shareable` (which values are sent, and as which parcels), `Actions`,
+// `Shared`, `History`, `SharedLaws` (what is proved of every journal). Worked cases of each stand in `Worked`, by
+// subject (`Scripts` has short forms for them).
 //
 // The one contract is that they hold together: the cases compute, and a life and a course only ever grow (`laws`); queues
 // keep their order, numbers are given once, and each action has one answer (`sharing`).

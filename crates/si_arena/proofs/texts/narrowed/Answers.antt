@@ -1,9 +1,15 @@
 use Rattle.std.proofs.Common.{◌++◌, ◌∙◌, ap, sym, map-id}
 use Rattle.std.proofs.lemmas.Iterator.{YieldsList-from_chars}
 use Rattle.std.proofs.lemmas.Iterator.Consumers.{YieldsList-end}
+use Rattle.std.proofs.lemmas.Str.{chars-IsAscii}
 use Rattle.si_arena.proofs.texts.narrowed.Goals as goal
+
+-- an ASCII text is its bytes
+pub returns-then-is_ascii-clause-ok : goal.returns-then-is_ascii-clause-ok
+returns-then-is_ascii-clause-ok c =
+    c.in_ok-extend_from_slice.ensures.items ∙ ap (λ xs. c.args.narrow.now.items ++ xs) (c.as_bytes.ensures.value ∙ sym (chars-IsAscii c.args.text.now c.if-is_ascii.ensures.cases))
 
 pub returns-clause-ok : goal.returns-clause-ok
 returns-clause-ok c =
     let t = YieldsList-end (YieldsList-from_chars c.args.text.now c.utf8.text cc) c.loop-c.yielded _ c.loop-c.yielded_by _ _ c.in-None.is c.next.ensures.steps in
-    c.loop-c.invariant ∙ ap (λ xs. c.args.narrow.now.items ++ xs) (sym (map-id c.loop-c.yielded) ∙ t.0)
+    c.loop-c.invariant ∙ ap (λ xs. xs ++ c.loop-c.yielded) c.reserve.ensures.items ∙ ap (λ xs. c.args.narrow.now.items ++ xs) (sym (map-id c.loop-c.yielded) ∙ t.0)

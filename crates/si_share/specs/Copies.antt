@@ -1,0 +1,38 @@
+-- What it is to copy a value out of an arena, and a parcel into one.
+use Rattle.std.specs.Prelude.{◌≡◌, Some, None, Result, Ok, Err}
+use Rattle.si_semantics.specs.Value.{Value}
+use Rattle.si_semantics.specs.Parcels as tree
+use Rattle.si_semantics.specs.Parcels.{Tree, Leaf, Group, IsParcel}
+use Rattle.si_semantics.specs.Shareable.{parcel_of, value_of_parcel}
+use Rattle.si_arena.specs.declared.value.Ref.{Ref}
+use Rattle.si_arena.specs.Memory.{Memory, Placed}
+use Rattle.si_arena.specs.Short.{FitsShort}
+use Rattle.si_share.specs.declared.fault.ShareFault.{ShareFault}
+use Rattle.si_share.specs.declared.fault.ShareFault.TheVariants as share
+use Rattle.si_share.specs.declared.fault.ReceiveFault.{ReceiveFault}
+use Rattle.si_share.specs.declared.fault.ReceiveFault.TheVariants as receive
+
+-- a parcel takes memory of its own: a str
+abbrev pub TakesMemory : Tree → Type 0
+TakesMemory (Leaf (tree.Str s)) = Unit {0}
+TakesMemory _ = ⊥
+
+-- the parcel of a value, within the limits of parcels. It is refused where the value has none, else where its parcel is
+-- past the limits, else only where it takes memory
+abbrev pub CopiesOut : Value → Result Tree ShareFault → Type 0
+CopiesOut v (Ok p) = (parcel_of v ≡ Some p) × IsParcel p
+CopiesOut v (Err share.NotShareable) = parcel_of v ≡ None
+CopiesOut v (Err share.TooLarge) = (p : Tree) × (parcel_of v ≡ Some p) × ¬ IsParcel p
+CopiesOut v (Err share.NoMemory) = (p : Tree) × (parcel_of v ≡ Some p) × IsParcel p × TakesMemory p
+
+-- the value of a parcel takes memory of its arena: a str that is not in the value itself
+abbrev pub NeedsRoom : Tree → Type 0
+NeedsRoom (Leaf (tree.Str s)) = ¬ FitsShort s
+NeedsRoom _ = ⊥
+
+-- the value of a parcel is placed in an arena. It is refused where the parcel has none, else only where it takes memory
+-- of the arena, which is then as it was
+abbrev pub CopiesIn : Tree → Memory → Memory → Result Ref ReceiveFault → Type 0
+CopiesIn p old new (Ok r) = (v : Value) × (value_of_parcel p ≡ Some v) × Placed old v r new
+CopiesIn p old new (Err receive.NoSuchValue) = (value_of_parcel p ≡ None) × (new ≡ old)
+CopiesIn p old new (Err receive.NoMemory) = NeedsRoom p × (new ≡ old)
