@@ -24,9 +24,16 @@ pub enum Leaving {
 #[derive(Clone, Copy, Debug)]
 pub enum Block<I, T> {
     /// The body of a loop, with the place of its test and of what follows the loop.
-    Loop { start: usize, after: usize },
+    Loop {
+        start: usize,
+        after: usize,
+    },
     /// The body of a `for`, with the place where it asks for an item, of what follows it, and what it still has to give.
-    Each { start: usize, after: usize, items: I },
+    Each {
+        start: usize,
+        after: usize,
+        items: I,
+    },
     /// The suite of a `try`, with the place of its except clauses.
     Catch(usize),
     /// What stands in front of a finally suite, with the place of that suite.
@@ -36,7 +43,10 @@ pub enum Block<I, T> {
     /// Except clauses, with the address of the exception that has come to them.
     Handling(usize),
     /// A call, with the place behind it and where its value goes.
-    Frame { after: usize, target: T },
+    Frame {
+        after: usize,
+        target: T,
+    },
 }
 
 impl Leaving {
