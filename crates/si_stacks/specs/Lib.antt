@@ -1,0 +1,4 @@
+pub mod Frames
+pub mod Extents
+pub mod Blocks
+pub mod Places
