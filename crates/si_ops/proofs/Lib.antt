@@ -1,0 +1,4 @@
+pub mod SameItems
+pub mod Running
+pub mod Compared
+pub mod Given

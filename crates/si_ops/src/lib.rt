@@ -1,0 +1,27 @@
+// The operations of values over an arena.
+//
+// Each goes as its definition in `si_semantics` says, which `specs/Runs.antt` puts beside the arena: it gives the value
+// of the definition, or the cause of an exception whose kind and message are those of the definition, or memory was
+// asked for and refused; what raises or is refused changes nothing. No operation makes the exception that it raises: the
+// caller does, by `Arena::make`.
+//
+// In reading order: `ranges` (the integers of a range), `characters` (texts compared where they lie), `truth` (whether a
+// value counts as true), `operand` (what a value is to an operator), `arithmetic` (operators before a value and between
+// two), `comparison`, `items` (what a `for` goes over) and `exceptions` (which clause catches what).
+#![tactic(auto)]
+
+mod arithmetic;
+mod characters;
+mod comparison;
+mod exceptions;
+mod items;
+mod operand;
+mod ranges;
+mod truth;
+
+pub use arithmetic::{binary, on_integers, unary};
+pub use comparison::{compare, compare_integers};
+pub use exceptions::catches;
+pub use items::Items;
+pub use operand::integer_in;
+pub use truth::{decides, int_of_truth, is_true};

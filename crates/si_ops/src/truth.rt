@@ -1,0 +1,75 @@
+// Whether a value counts as true.
+
+ghost use Rattle.std.specs.Prelude.{◌≡◌};
+ghost use Rattle.si_semantics.specs.World.{World};
+ghost use Rattle.si_semantics.specs.Meaning as meaning;
+ghost use Rattle.si_semantics.specs.Operations as operations;
+ghost use Rattle.si_arena.specs.Memory.{value_of, Lies};
+ghost use Rattle.si_arena.specs.Views.{value_in};
+ghost use Rattle.si_arena.specs.Texts.{characters_in};
+ghost use Rattle.si_semantics.specs.Value.{Str};
+
+use crate::ranges::is_item;
+use si_arena::{Arena, Characters, Ref, View};
+use si_plain::BooleanOperator;
+
+/// True counts as 1 and False as 0 (Python Language Reference 3.14, 3.2).
+#[inline(always)]
+pub fn int_of_truth(truth: bool) -> i64
+    ensures { result ≡ operations.int_of_truth truth }
+{
+    if truth { 1 } else { 0 }
+}
+
+/// Whether a value counts as true (Python Standard Library 3.14, "Built-in Types": truth value testing).
+#[inline(always)]
+pub fn is_true(arena: &Arena, value: Ref) -> bool
+    requires { Lies arena.now value }
+    ensures { (w : World) → result ≡ operations.is_true (value_of arena.now value) w }
+{
+    match value {
+        Ref::Truth(truth) => truth,
+        Ref::Int(n) => n != 0,
+        _ => is_shown_true(arena.view(&value)),
+    }
+}
+
+/// Whether an operand decides the `and` or the `or` (Python Language Reference 3.14, 6.11).
+#[inline(always)]
+pub fn decides(arena: &Arena, operator: BooleanOperator, value: Ref) -> bool
+    requires { Lies arena.now value }
+    ensures { (w : World) → result ≡ meaning.decides operator (value_of arena.now value) w }
+{
+    match operator {
+        BooleanOperator::And => !is_true(arena, value),
+        BooleanOperator::Or => is_true(arena, value),
+    }
+}
+
+// Whether what is shown counts as true.
+#[inline(never)]
+fn is_shown_true(view: View) -> bool
+    ensures { (w : World) → result ≡ operations.is_true (value_in view.entry) w }
+{
+    match view {
+        View::None => false,
+        View::Truth(truth) => truth,
+        View::Int(n) => n != 0,
+        View::Str(text) => has_characters(text),
+        View::BuiltIn(_) => true,
+        View::Function(_, _) => true,
+        View::Range(steps) => is_item(steps.start, steps.stop, steps.step),
+        View::Kind(_) => true,
+        View::Object(_) => true,
+    }
+}
+
+// Whether a text has characters.
+fn has_characters(text: Characters) -> bool
+    ensures { (w : World) → result ≡ operations.is_true (Str (characters_in text.entry)) w }
+{
+    match text {
+        Characters::Narrow(characters) => !characters.is_empty(),
+        Characters::Wide(characters) => !characters.is_empty(),
+    }
+}
