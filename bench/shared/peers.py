@@ -32,6 +32,10 @@ def times_of(name, value, other):
     least(f"show {name}: repr", lambda: repr(value))
 
 
+def copy_of(name, value):
+    least(f"out and in {name}: pickle", lambda: pickle.loads(pickle.dumps(value)))
+
+
 def put_and_get():
     try:
         from concurrent import interpreters
@@ -52,4 +56,6 @@ times_of("ints", tuple(range(100)), tuple(range(100)))
 times_of("str", "x" * 1000, "".join(["x"] * 1000))
 times_of("pairs", tuple((i, i + 1) for i in range(50)), tuple((i, i + 1) for i in range(50)))
 times_of("deep", deep(200), deep(200))
+copy_of("int", 1000)
+copy_of("str", "x" * 1000)
 put_and_get()
