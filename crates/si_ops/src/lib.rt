@@ -8,7 +8,15 @@
 // In reading order: `ranges` (the integers of a range) and `truth` (whether a value counts as true).
 #![tactic(auto)]
 
+mod atoms;
+mod first;
+mod messages;
+mod pieces;
+mod quoted;
 mod ranges;
+mod shown;
 mod truth;
 
+pub use first::{built_in, first_global};
+pub use shown::{push_repr, push_str};
 pub use truth::{decides, int_of_truth, is_true};
