@@ -2,7 +2,8 @@
 use Rattle.si_semantics.specs.Value as pure
 use Rattle.si_arena.specs.declared.view.View.{View}
 use Rattle.si_arena.specs.declared.view.View.TheVariants as view
-use Rattle.si_arena.specs.Texts.{characters_in}
+use Rattle.si_arena.specs.declared.value.Ref.{Ref}
+use Rattle.si_arena.specs.Texts.{characters_in, IsText}
 use Rattle.si_arena.specs.Memory.{built_in_of, range_of}
 
 -- the value that is shown
@@ -16,3 +17,8 @@ value_in (view.Function number name) = pure.Function name.now number
 value_in (view.Range steps) = range_of steps.now
 value_in (view.Kind k) = pure.Class k
 value_in (view.Object x) = pure.Address x
+
+-- what shows as a text is one
+abbrev pub ShowsText : View → Ref → Type 0
+ShowsText (view.Str part) r = IsText r
+ShowsText _ r = Unit {0}

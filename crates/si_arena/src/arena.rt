@@ -76,10 +76,12 @@ impl Arena {
     }
 
     /// A str so many times (Python Standard Library 3.14, "Built-in Types": common sequence operations); a count below
-    /// 0 is as good as 0. `TooLong` where it is longer than a str may be; unchanged where it is refused.
+    /// 0 is as good as 0. At most 14 characters of a str that has no wide one take no memory. `TooLong` where it is
+    /// longer than a str may be; unchanged where it is refused.
     pub fn repeat(&mut self, text: Ref, count: i64) -> Result<Ref, Fault>
         requires { Lies self.old text }
-        ensures { PlacesText (repeated_text (text_of self.old.texts text) count) self.old self.new result }
+        ensures text { PlacesText (repeated_text (text_of self.old.texts text) count) self.old self.new result }
+        ensures short { IsNarrow text → length (repeated_text (text_of self.old.texts text) count) ≤ 14 → (self.new ≡ self.old) × IsOk result }
     {
         self.texts.repeat(text, count)
     }
@@ -130,12 +132,13 @@ impl Arena {
     ghost use Rattle.std.specs.Prelude.{◌≡◌, ◌<◌, length, get_or, slice_get, Some, IfOk};
     ghost use Rattle.si_arena.specs.Causes.{name_at, message_of, CauseLies};
     ghost use Rattle.si_arena.specs.Memory.{value_of, range_of, object_of, ObjectLies, Lies};
-    ghost use Rattle.si_arena.specs.Views.{value_in};
+    ghost use Rattle.si_arena.specs.Views.{value_in, ShowsText};
 
     /// What a value is.
     pub fn view<'a>(&'a self, value: &'a Ref) -> View<'a>
         requires { Lies self.now value.now }
-        ensures { value_in result ≡ value_of self.now value.now }
+        ensures value { value_in result ≡ value_of self.now value.now }
+        ensures text { ShowsText result value.now }
     {
         match value {
             Ref::Unbound => unreachable!(),

@@ -264,11 +264,12 @@ impl Texts {
         joined
     }
 
-    /// A text so many times, as a text; a count below 0 is as good as 0. `TooLong` where it is longer than a str may
-    /// be; unchanged where it is refused.
+    /// A text so many times, as a text; a count below 0 is as good as 0. At most 14 characters, all below 256, take no
+    /// memory. `TooLong` where it is longer than a str may be; unchanged where it is refused.
     pub fn repeat(&mut self, text: Ref, count: i64) -> Result<Ref, Fault>
         requires { TextLies self.old text }
-        ensures { Adds (repeated_text (text_of self.old text) count) self.old self.new result }
+        ensures text { Adds (repeated_text (text_of self.old text) count) self.old self.new result }
+        ensures short { IsNarrow text → length (repeated_text (text_of self.old text) count) ≤ 14 → (self.new ≡ self.old) × IsOk result }
     {
         let length = self.length(text);
         let copies = copies_that_count(length, count);

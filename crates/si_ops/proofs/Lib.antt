@@ -1,4 +1,7 @@
 pub mod SameItems
+pub mod Running
+pub mod Compared
+pub mod Given
 pub mod Adding
 pub mod Quoting
 pub mod Spelling

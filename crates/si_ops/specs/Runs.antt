@@ -1,6 +1,8 @@
 -- How an operation goes over an arena, by its definition, which says what it does in a world. The world's objects are
 -- those of the arena.
-use Rattle.std.specs.Prelude.{◌≡◌, Bool, Result, Ok, Err}
+use Rattle.std.specs.Prelude.{◌≡◌, Bool, Option, Some, None, Result, Ok, Err}
+use Rattle.si_plain.specs.declared.kind.Kind.{Kind}
+use Rattle.si_plain.specs.declared.kind.Kind.TheVariants.{TypeError}
 use Rattle.si_semantics.specs.Value as pure
 use Rattle.si_semantics.specs.World.{World, Ran}
 use Rattle.si_semantics.specs.Operations.{gave, refused}
@@ -18,6 +20,11 @@ Gives f m v = (w : World) → w.store ≡ m.store → f w ≡ gave v w
 -- the operation raises an exception of the cause's kind with its message, and changes nothing else
 abbrev pub Throws : (World → Ran) → Memory → Cause → Type 0
 Throws f m cause = ((w : World) → w.store ≡ m.store → f w ≡ refused (kind_of cause) (message_of m.names cause) w) × CauseLies m.names cause
+
+-- what a comparison gives; where it gives nothing its operands are of a wrong kind
+abbrev pub answer_of : Option Bool → Result Bool Kind
+answer_of (Some b) = Ok b
+answer_of None = Err TypeError
 
 -- an operation that takes no memory: a truth, or why it raises
 abbrev pub Decides : (World → Ran) → Memory → Result Bool Cause → Type 0

@@ -5,18 +5,31 @@
 // asked for and refused; what raises or is refused changes nothing. No operation makes the exception that it raises: the
 // caller does, by `Arena::make`.
 //
-// In reading order: `ranges` (the integers of a range) and `truth` (whether a value counts as true).
+// In reading order: `ranges` (the integers of a range), `characters` (texts compared where they lie), `truth` (whether a
+// value counts as true), `operand` (what a value is to an operator), `arithmetic` (operators before a value and between
+// two), `comparison`, `items` (what a `for` goes over) and `exceptions` (which clause catches what).
 #![tactic(auto)]
 
+mod arithmetic;
 mod atoms;
+mod characters;
+mod comparison;
+mod exceptions;
 mod first;
+mod items;
 mod messages;
+mod operand;
 mod pieces;
 mod quoted;
 mod ranges;
 mod shown;
 mod truth;
 
+pub use arithmetic::{binary, on_integers, unary};
+pub use comparison::{compare, compare_integers};
+pub use exceptions::catches;
 pub use first::{built_in, first_global};
+pub use items::Items;
+pub use operand::integer_in;
 pub use shown::{push_repr, push_str};
 pub use truth::{decides, int_of_truth, is_true};

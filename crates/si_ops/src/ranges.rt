@@ -1,7 +1,10 @@
-// Ranges.
+// The integers of a range.
+
 ghost use Rattle.std.specs.Prelude.{◌≡◌, ◌-◌, ◌+◌, ◌/◌, ◌-ℤ◌, ◌&&◌, ◌||◌, nat_eq, int_lt, unsigned_abs, if◌then◌else◌};
 ghost use Rattle.si_semantics.specs.Text.{same_int};
 ghost use Rattle.si_semantics.specs.Operations as operations;
+
+use si_arena::Steps;
 
 /// Whether an integer lies before the stop of a range, the way that the step goes (Python Standard Library 3.14,
 /// "Built-in Types": ranges).
@@ -11,8 +14,8 @@ pub fn is_item(at: i64, stop: i64, step: i64) -> bool
     if step >= 0 { at < stop } else { stop < at }
 }
 
-/// How many items a range has.
-pub fn range_length(start: i64, stop: i64, step: i64) -> u64
+// How many items a range has.
+fn range_length(start: i64, stop: i64, step: i64) -> u64
     ensures { result ≡ operations.range_length start stop step }
 {
     if step >= 0 {
@@ -36,12 +39,19 @@ fn steps_between(low: i64, high: i64, step: u64) -> u64
 }
 
 /// Whether two ranges have the same items.
-pub fn is_same_range(a: i64, b: i64, c: i64, d: i64, e: i64, f: i64) -> bool
-    ensures { result ≡ operations.same_range a b c d e f }
+pub fn is_same_range(left: &Steps, right: &Steps) -> bool
+    ensures { result ≡ operations.same_range left.now.start left.now.stop left.now.step right.now.start right.now.stop right.now.step }
 {
-    let starts = is_same_int(a, d);
-    let steps = is_same_int(c, f);
-    have_same_items(range_length(a, b, c), range_length(d, e, f), starts, steps)
+    let starts = is_same_int(left.start, right.start);
+    let steps = is_same_int(left.step, right.step);
+    have_same_items(items_in(left), items_in(right), starts, steps)
+}
+
+// How many items a range has.
+fn items_in(steps: &Steps) -> u64
+    ensures { result ≡ operations.range_length steps.now.start steps.now.stop steps.now.step }
+{
+    range_length(steps.start, steps.stop, steps.step)
 }
 
 // Whether two integers are equal.

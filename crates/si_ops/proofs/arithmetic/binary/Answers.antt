@@ -1,0 +1,20 @@
+use Rattle.std.proofs.Common.{◌≡◌, ap, sym, ◌∙◌, to_z, of_z, w64, rules, refl}
+use Rattle.si_semantics.specs.Value as pure
+use Rattle.si_semantics.specs.Operations.{int_of_truth}
+use Rattle.si_syntax.specs.Trees.{binary_of}
+use Rattle.si_arena.specs.Memory.{value_of}
+use Rattle.si_arena.specs.Texts.{text_of}
+use Rattle.si_ops.proofs.Running.{ints_go}
+use Rattle.si_ops.proofs.arithmetic.binary.Goals as goal
+
+pub returns-in-Int-Int : goal.returns-in-Int-Int
+returns-in-Int-Int c =
+    let m = c.args.arena.now in
+    let o = binary_of c.args.operator in
+    let k = c.in-Int-Int in
+    let a : k.x ≡ to_z w64 (of_z w64 k.x) = search rules in
+    let b : k.y ≡ to_z w64 (of_z w64 k.y) = search rules in
+    let p = ap (value_of m) k.is-0 ∙ ap pure.Int a in
+    let q = ap (value_of m) k.is-1 ∙ ap pure.Int b in
+    let g = ints_go o c.args.left c.args.right m c.integers.result _ _ _ _ c.integers.ensures.told (c.integers.ensures.runs m) p q in
+    record { runs = g.runs; memory = g.memory }

@@ -1,0 +1,133 @@
+use Rattle.std.proofs.Common.{◌≡◌, ap, sym, ◌∙◌, to_z, of_z, w64, rules, refl}
+use Rattle.si_semantics.specs.Value as pure
+use Rattle.si_semantics.specs.Operations.{int_of_truth}
+use Rattle.si_syntax.specs.Trees.{binary_of}
+use Rattle.si_arena.specs.Memory.{value_of}
+use Rattle.si_arena.specs.Texts.{text_of}
+use Rattle.si_ops.proofs.Running.{stood, goes_at, ints_go, int_truth_go, truth_int_go, truths_go, text_int_go, text_truth_go, int_text_go, truth_text_go, count_fits}
+use Rattle.si_ops.proofs.arithmetic.operands.Goals as goal
+
+pub returns-in-Integer-Integer : goal.returns-in-Integer-Integer
+returns-in-Integer-Integer c =
+    let m = c.args.arena.now in
+    let o = binary_of c.args.operator in
+    let k = c.in-Integer-Integer in
+    let u = value_of m c.args.left in
+    let v = value_of m c.args.right in
+    let p = stood m c.args.left _ _ c.of-first.ensures k.is-0 in
+    let q = stood m c.args.right _ _ c.of-second.ensures k.is-1 in
+    let a : k.x ≡ to_z w64 (of_z w64 k.x) = search rules in
+    let b : k.y ≡ to_z w64 (of_z w64 k.y) = search rules in
+    let g = ints_go o c.args.left c.args.right m c.integers.result u v _ _ c.integers.ensures.told (c.integers.ensures.runs m) (p ∙ ap pure.Int a) (q ∙ ap pure.Int b) in
+    record { runs = g.runs; memory = g.memory }
+
+pub returns-in-Integer-Truth : goal.returns-in-Integer-Truth
+returns-in-Integer-Truth c =
+    let m = c.args.arena.now in
+    let o = binary_of c.args.operator in
+    let k = c.in-Integer-Truth in
+    let u = value_of m c.args.left in
+    let v = value_of m c.args.right in
+    let p = stood m c.args.left _ _ c.of-first.ensures k.is-0 in
+    let q = stood m c.args.right _ _ c.of-second.ensures k.is-1 in
+    let a : k.x ≡ to_z w64 (of_z w64 k.x) = search rules in
+    let e = c.integers-in-Integer-Truth in
+    let n = c.int_of_truth in
+    let g = int_truth_go o c.args.left c.args.right m e.result u v _ _ e.ensures.told (e.ensures.runs m) k.y (p ∙ ap pure.Int a) q (count_fits k.y n.result n.ensures) in
+    record { runs = g.runs; memory = g.memory }
+
+pub returns-in-Truth-Integer : goal.returns-in-Truth-Integer
+returns-in-Truth-Integer c =
+    let m = c.args.arena.now in
+    let o = binary_of c.args.operator in
+    let k = c.in-Truth-Integer in
+    let u = value_of m c.args.left in
+    let v = value_of m c.args.right in
+    let p = stood m c.args.left _ _ c.of-first.ensures k.is-0 in
+    let q = stood m c.args.right _ _ c.of-second.ensures k.is-1 in
+    let b : k.y ≡ to_z w64 (of_z w64 k.y) = search rules in
+    let e = c.integers-in-Truth-Integer in
+    let n = c.int_of_truth-in-Truth-Integer in
+    let g = truth_int_go o c.args.left c.args.right m e.result u v _ _ e.ensures.told (e.ensures.runs m) k.x p (q ∙ ap pure.Int b) (count_fits k.x n.result n.ensures) in
+    record { runs = g.runs; memory = g.memory }
+
+pub returns-in-Truth-Truth : goal.returns-in-Truth-Truth
+returns-in-Truth-Truth c =
+    let m = c.args.arena.now in
+    let o = binary_of c.args.operator in
+    let k = c.in-Truth-Truth in
+    let u = value_of m c.args.left in
+    let v = value_of m c.args.right in
+    let p = stood m c.args.left _ _ c.of-first.ensures k.is-0 in
+    let q = stood m c.args.right _ _ c.of-second.ensures k.is-1 in
+    let g = truths_go o c.args.left c.args.right m c.truths.result u v k.x k.y c.truths.ensures.told (c.truths.ensures.runs m) p q in
+    record { runs = g.runs; memory = g.memory }
+
+pub returns-in-Text-Integer : goal.returns-in-Text-Integer
+returns-in-Text-Integer c =
+    let m = c.args.arena.now in
+    let o = binary_of c.args.operator in
+    let k = c.in-Text-Integer in
+    let u = value_of m c.args.left in
+    let v = value_of m c.args.right in
+    let p = stood m c.args.left _ _ c.of-first.ensures k.is-0 in
+    let q = stood m c.args.right _ _ c.of-second.ensures k.is-1 in
+    let b : k.n ≡ to_z w64 (of_z w64 k.n) = search rules in
+    let e = c.copies-in-Text-Integer in
+    let g = text_int_go o c.args.left c.args.right m e.new.arena e.result u v (text_of m.texts c.args.left) (to_z w64 (of_z w64 k.n)) (record { runs = e.ensures.runs; memory = e.ensures.memory }) p (q ∙ ap pure.Int b) in
+    record { runs = g.runs; memory = g.memory }
+
+pub returns-in-Text-Truth : goal.returns-in-Text-Truth
+returns-in-Text-Truth c =
+    let m = c.args.arena.now in
+    let o = binary_of c.args.operator in
+    let k = c.in-Text-Truth in
+    let u = value_of m c.args.left in
+    let v = value_of m c.args.right in
+    let p = stood m c.args.left _ _ c.of-first.ensures k.is-0 in
+    let q = stood m c.args.right _ _ c.of-second.ensures k.is-1 in
+    let e = c.copies-in-Text-Truth in
+    let n = c.int_of_truth-in-Text-Truth in
+    let g = text_truth_go o c.args.left c.args.right m e.new.arena e.result u v (text_of m.texts c.args.left) (to_z w64 (of_z w64 n.result)) k.b (record { runs = e.ensures.runs; memory = e.ensures.memory }) p q (count_fits k.b n.result n.ensures) in
+    record { runs = g.runs; memory = g.memory }
+
+pub returns-in-Integer-Text : goal.returns-in-Integer-Text
+returns-in-Integer-Text c =
+    let m = c.args.arena.now in
+    let o = binary_of c.args.operator in
+    let k = c.in-Integer-Text in
+    let u = value_of m c.args.left in
+    let v = value_of m c.args.right in
+    let p = stood m c.args.left _ _ c.of-first.ensures k.is-0 in
+    let q = stood m c.args.right _ _ c.of-second.ensures k.is-1 in
+    let a : k.n ≡ to_z w64 (of_z w64 k.n) = search rules in
+    let e = c.copies in
+    let g = int_text_go o c.args.left c.args.right m e.new.arena e.result u v (text_of m.texts c.args.right) (to_z w64 (of_z w64 k.n)) (record { runs = e.ensures.runs; memory = e.ensures.memory }) (p ∙ ap pure.Int a) q in
+    record { runs = g.runs; memory = g.memory }
+
+pub returns-in-Truth-Text : goal.returns-in-Truth-Text
+returns-in-Truth-Text c =
+    let m = c.args.arena.now in
+    let o = binary_of c.args.operator in
+    let k = c.in-Truth-Text in
+    let u = value_of m c.args.left in
+    let v = value_of m c.args.right in
+    let p = stood m c.args.left _ _ c.of-first.ensures k.is-0 in
+    let q = stood m c.args.right _ _ c.of-second.ensures k.is-1 in
+    let e = c.copies-in-Truth-Text in
+    let n = c.int_of_truth-in-Truth-Text in
+    let g = truth_text_go o c.args.left c.args.right m e.new.arena e.result u v (text_of m.texts c.args.right) (to_z w64 (of_z w64 n.result)) k.b (record { runs = e.ensures.runs; memory = e.ensures.memory }) p q (count_fits k.b n.result n.ensures) in
+    record { runs = g.runs; memory = g.memory }
+
+pub returns-in-Text-Text : goal.returns-in-Text-Text
+returns-in-Text-Text c =
+    let m = c.args.arena.now in
+    let o = binary_of c.args.operator in
+    let k = c.in-Text-Text in
+    let u = value_of m c.args.left in
+    let v = value_of m c.args.right in
+    let p = stood m c.args.left _ _ c.of-first.ensures k.is-0 in
+    let q = stood m c.args.right _ _ c.of-second.ensures k.is-1 in
+    let e = c.joined in
+    let g = goes_at o c.args.left c.args.right m e.new.arena e.result u v (pure.Str (text_of m.texts c.args.left)) (pure.Str (text_of m.texts c.args.right)) p q (record { runs = e.ensures.runs; memory = e.ensures.memory }) in
+    record { runs = g.runs; memory = g.memory }

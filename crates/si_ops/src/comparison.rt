@@ -1,0 +1,154 @@
+// Comparisons.
+
+ghost use Rattle.std.specs.Prelude.{◌≡◌};
+ghost use Rattle.si_semantics.specs.World.{World};
+ghost use Rattle.si_semantics.specs.Value.{Int, Truth};
+ghost use Rattle.si_semantics.specs.Operations as operations;
+ghost use Rattle.si_syntax.specs.Trees.{comparison_of};
+ghost use Rattle.si_arena.specs.Memory.{value_of, built_in_of, Lies};
+ghost use Rattle.si_arena.specs.Views.{value_in};
+ghost use Rattle.si_ops.specs.Runs.{Decides, answer_of};
+
+use crate::characters::{are_same, is_before};
+use crate::ranges::is_same_range;
+use crate::truth::int_of_truth;
+use si_arena::{Arena, BuiltIn, Cause, Ref, View};
+use si_syntax::ComparisonOperator;
+
+/// A comparison of two values (Python Language Reference 3.14, 6.10). It takes no memory.
+#[inline(always)]
+pub fn compare(
+    arena: &Arena,
+    operator: ComparisonOperator,
+    left: Ref,
+    right: Ref,
+) -> Result<bool, Cause>
+    requires left { Lies arena.now left }
+    requires right { Lies arena.now right }
+    ensures { Decides (λ w. operations.compare (comparison_of operator) (value_of arena.now left) (value_of arena.now right) w) arena.now result }
+{
+    match (left, right) {
+        (Ref::Int(x), Ref::Int(y)) => Ok(compare_integers(operator, x, y)),
+        _ => compare_others(arena, operator, left, right),
+    }
+}
+
+// The same as `compare`, for values of any kinds.
+#[inline(never)]
+fn compare_others(
+    arena: &Arena,
+    operator: ComparisonOperator,
+    left: Ref,
+    right: Ref,
+) -> Result<bool, Cause>
+    requires left { Lies arena.now left }
+    requires right { Lies arena.now right }
+    ensures { Decides (λ w. operations.compare (comparison_of operator) (value_of arena.now left) (value_of arena.now right) w) arena.now result }
+{
+    let (first, second) = (arena.view(&left), arena.view(&right));
+    match answer(operator, first, second) {
+        Some(truth) => Ok(truth),
+        None => Err(Cause::WrongType),
+    }
+}
+
+/// A comparison of two integers, which no exception leaves (Python Language Reference 3.14, 6.10.1).
+#[inline(always)]
+pub fn compare_integers(operator: ComparisonOperator, x: i64, y: i64) -> bool
+    ensures { (w : World) → operations.compare (comparison_of operator) (Int x) (Int y) w ≡ operations.gave (Truth result) w }
+{
+    match operator {
+        ComparisonOperator::Less => x < y,
+        ComparisonOperator::Greater => y < x,
+        ComparisonOperator::LessEqual => x <= y,
+        ComparisonOperator::GreaterEqual => y <= x,
+        ComparisonOperator::Equal => x == y,
+        ComparisonOperator::NotEqual => x != y,
+        ComparisonOperator::Is => false,
+        ComparisonOperator::IsNot => true,
+    }
+}
+
+// A comparison of what two values are, where it has an answer.
+fn answer(operator: ComparisonOperator, left: View, right: View) -> Option<bool>
+    ensures { (w : World) → operations.compare (comparison_of operator) (value_in left.entry) (value_in right.entry) w ≡ operations.truth (answer_of result) w }
+{
+    match operator {
+        ComparisonOperator::Less => is_less(left, right),
+        ComparisonOperator::Greater => is_less(right, left),
+        ComparisonOperator::LessEqual => opposite(is_less(right, left)),
+        ComparisonOperator::GreaterEqual => opposite(is_less(left, right)),
+        ComparisonOperator::Equal => are_equal(left, right),
+        ComparisonOperator::NotEqual => opposite(are_equal(left, right)),
+        ComparisonOperator::Is => Some(is_same(left, right)),
+        ComparisonOperator::IsNot => Some(!is_same(left, right)),
+    }
+}
+
+// The other answer of a comparison, where there is one.
+fn opposite(answer: Option<bool>) -> Option<bool>
+    ensures { answer_of result ≡ operations.opposite (answer_of answer) }
+{
+    match answer {
+        Some(truth) => Some(!truth),
+        None => None,
+    }
+}
+
+// `x < y`, where the two have an order.
+fn is_less(x: View, y: View) -> Option<bool>
+    ensures { (w : World) → operations.is_less (value_in x.entry) (value_in y.entry) w ≡ answer_of result }
+{
+    match (x, y) {
+        (View::Int(a), View::Int(b)) => Some(a < b),
+        (View::Int(a), View::Truth(b)) => Some(a < int_of_truth(b)),
+        (View::Truth(a), View::Int(b)) => Some(int_of_truth(a) < b),
+        (View::Truth(a), View::Truth(b)) => Some(int_of_truth(a) < int_of_truth(b)),
+        (View::Str(a), View::Str(b)) => Some(is_before(a, b)),
+        _ => None,
+    }
+}
+
+// `x == y`. Two functions have no answer.
+fn are_equal(x: View, y: View) -> Option<bool>
+    ensures { (w : World) → operations.are_equal (value_in x.entry) (value_in y.entry) w ≡ answer_of result }
+{
+    match (x, y) {
+        (View::Int(a), View::Int(b)) => Some(a == b),
+        (View::Int(a), View::Truth(b)) => Some(a == int_of_truth(b)),
+        (View::Truth(a), View::Int(b)) => Some(int_of_truth(a) == b),
+        (View::Truth(a), View::Truth(b)) => Some(a == b),
+        (View::Str(a), View::Str(b)) => Some(are_same(a, b)),
+        (View::None, View::None) => Some(true),
+        (View::BuiltIn(a), View::BuiltIn(b)) => Some(is_same_built_in(a, b)),
+        (View::Function(_, _), View::Function(_, _)) => None,
+        (View::Range(a), View::Range(b)) => Some(is_same_range(a, b)),
+        (View::Kind(a), View::Kind(b)) => Some(a.is_same(b)),
+        (View::Object(a), View::Object(b)) => Some(a == b),
+        _ => Some(false),
+    }
+}
+
+// Whether two built-ins have one name.
+fn is_same_built_in(x: BuiltIn, y: BuiltIn) -> bool
+    ensures { result ≡ operations.same_built_in (built_in_of x) (built_in_of y) }
+{
+    match (x, y) {
+        (BuiltIn::Print, BuiltIn::Print) => true,
+        (BuiltIn::Range, BuiltIn::Range) => true,
+        (BuiltIn::Str, BuiltIn::Str) => true,
+        (BuiltIn::Repr, BuiltIn::Repr) => true,
+        _ => false,
+    }
+}
+
+// `x is y`, for one of None, True and False.
+fn is_same(x: View, y: View) -> bool
+    ensures { result ≡ operations.is_same (value_in x.entry) (value_in y.entry) }
+{
+    match (x, y) {
+        (View::None, View::None) => true,
+        (View::Truth(a), View::Truth(b)) => a == b,
+        _ => false,
+    }
+}
