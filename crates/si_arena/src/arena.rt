@@ -129,9 +129,9 @@ impl Arena {
 }
 
 impl Arena {
-    ghost use Rattle.std.specs.Prelude.{◌≡◌, ◌<◌, length, slice_get, Some, IfOk};
+    ghost use Rattle.std.specs.Prelude.{◌≡◌, ◌<◌, length, get_or, slice_get, Some, IfOk};
     ghost use Rattle.si_arena.specs.Causes.{name_at, message_of, CauseLies};
-    ghost use Rattle.si_arena.specs.Memory.{value_of, object_of, ObjectLies, Lies};
+    ghost use Rattle.si_arena.specs.Memory.{value_of, range_of, object_of, ObjectLies, Lies};
     ghost use Rattle.si_arena.specs.Views.{value_in, ShowsText};
 
     /// What a value is.
@@ -154,6 +154,14 @@ impl Arena {
             Ref::Kind(kind) => View::Kind(*kind),
             Ref::Object(address) => View::Object(*address),
         }
+    }
+
+    /// The integers of the range at a place.
+    pub fn steps(&self, place: usize) -> &Steps
+        requires { place < length self.now.ranges }
+        ensures { range_of result.now ≡ get_or self.now.ranges place pure.Nothing }
+    {
+        &self.ranges[place]
     }
 
     /// The object at an address.

@@ -2,3 +2,9 @@ pub mod SameItems
 pub mod Running
 pub mod Compared
 pub mod Given
+pub mod Adding
+pub mod Quoting
+pub mod Spelling
+pub mod Showing
+pub mod Ends
+pub mod Named

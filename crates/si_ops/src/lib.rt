@@ -11,17 +11,25 @@
 #![tactic(auto)]
 
 mod arithmetic;
+mod atoms;
 mod characters;
 mod comparison;
 mod exceptions;
+mod first;
 mod items;
+mod messages;
 mod operand;
+mod pieces;
+mod quoted;
 mod ranges;
+mod shown;
 mod truth;
 
 pub use arithmetic::{binary, on_integers, unary};
 pub use comparison::{compare, compare_integers};
 pub use exceptions::catches;
+pub use first::{built_in, first_global};
 pub use items::Items;
 pub use operand::integer_in;
+pub use shown::{push_repr, push_str};
 pub use truth::{decides, int_of_truth, is_true};

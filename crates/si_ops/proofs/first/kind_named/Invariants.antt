@@ -1,0 +1,8 @@
+-- the name is none of the kinds so far
+use Rattle.std.proofs.Common.{◌≡◌, drop}
+use Rattle.si_plain.specs.Characters.{characters_of}
+use Rattle.si_semantics.specs.Operations as operations
+use Rattle.si_ops.proofs.first.kind_named.Given as goal
+
+abbrev pub invariant-loop-kind : goal.invariant-loop-kind
+invariant-loop-kind l = operations.kind_named (characters_of l.name) l.kinds ≡ operations.kind_named (characters_of l.name) (drop l.kind-index l.kinds)

@@ -1,0 +1,13 @@
+use Rattle.std.proofs.Common.{ap, encode_utf8_all, ◌∙◌}
+use Rattle.si_ops.specs.Writing.{spelled, plain_str}
+use Rattle.si_ops.proofs.Adding.{ok_as, err_as}
+use Rattle.si_ops.proofs.Showing.{str_plain}
+use Rattle.si_ops.proofs.shown.put_plain_str.Goals as goal
+
+pub returns-clause-ok : goal.returns-clause-ok
+returns-clause-ok c =
+    λ n. ok_as c.put_view_str.result c.args.out.now c.put_view_str.new.out (ap (λ v. encode_utf8_all (plain_str v)) c.view.ensures.value ∙ ap spelled (str_plain n c.args.arena.now c.args.value c.requires.plain)) c.put_view_str.ensures.ok
+
+pub returns-clause-err : goal.returns-clause-err
+returns-clause-err c =
+    λ n. err_as c.put_view_str.result c.args.out.now c.put_view_str.new.out (ap (λ v. encode_utf8_all (plain_str v)) c.view.ensures.value ∙ ap spelled (str_plain n c.args.arena.now c.args.value c.requires.plain)) c.put_view_str.ensures.err

@@ -1,0 +1,83 @@
+-- What is written at the end of a String, in UTF-8.
+use Rattle.std.specs.Prelude.{codes, ◌≡◌, ℕ, ◌+◌, ◌<◌, ◌≤◌, List, [], ◌++◌, length, ℤ, pos, Option, Some, None, Result, Ok, Err, encode_utf8_all, if◌then◌else◌}
+use Rattle.si_semantics.specs.Value.{Text, Value, Str}
+use Rattle.si_plain.specs.declared.kind.Kind.{Kind}
+use Rattle.si_plain.specs.declared.kind.Kind.TheVariants.{KeyError, RecursionError, OverflowError}
+use Rattle.si_semantics.specs.Text.{same_int, decimal, repr_text, repr_atom}
+use Rattle.si_arena.specs.declared.value.Ref.{Ref}
+use Rattle.si_arena.specs.declared.value.Ref.TheVariants as ref
+use Rattle.si_arena.specs.declared.cause.Cause.{Cause}
+use Rattle.si_arena.specs.declared.cause.Cause.TheVariants.{TooDeep, TooLong}
+use Rattle.si_arena.specs.declared.cause.Fault.{Fault}
+use Rattle.si_arena.specs.declared.cause.Fault.TheVariants.{Raises, NoMemory}
+use Rattle.std.specs.String.{string_bytes, string_len, string_capacity}
+use Rattle.std.specs.declared.string.String.{String}
+
+-- bytes were added
+pub record Adds {Z : Type 0} (bs : List ℕ) (old new : String Z) : Type 0 where
+  pub bytes : string_bytes new ≡ string_bytes old ++ bs
+  pub len : string_len new ≡ string_len old + length bs
+  pub room : string_capacity old ≤ string_capacity new
+
+-- what stood there stands in front
+abbrev pub Begins : {Z : Type 0} → String Z → String Z → Type 0
+Begins old new = (more : List ℕ) × (string_bytes new ≡ string_bytes old ++ more)
+
+-- there is no room for bytes
+abbrev pub HasNoRoom : {Z : Type 0} → List ℕ → String Z → Type 0
+HasNoRoom bs s = string_capacity s < string_len s + length bs
+
+-- memory was refused for bytes that there was no room for; a part of them may have been added
+pub record Lacks {Z : Type 0} (bs : List ℕ) (old new : String Z) : Type 0 where
+  pub part : Begins old new
+  pub room : HasNoRoom bs old
+
+-- the end of the repr of a range
+abbrev pub range_end : ℤ → Text
+range_end step = if same_int step (pos 1) then codes ")" else codes ", " ++ decimal step ++ codes ")"
+
+-- the same in UTF-8
+abbrev pub step_bytes : ℤ → List ℕ
+step_bytes step = if same_int step (pos 1) then codes ")" else codes ", " ++ (encode_utf8_all (decimal step) ++ codes ")")
+
+-- a text in UTF-8, where there is one
+abbrev pub spelled : Option Text → List ℕ
+spelled None = []
+spelled (Some t) = encode_utf8_all t
+
+-- the str of an exception of a kind that says this (Standard Library, "Built-in Exceptions")
+abbrev pub caused_str : Kind → Text → Text
+caused_str KeyError t = repr_text t
+caused_str k t = t
+
+-- the str of a value that is no object
+abbrev pub plain_str : Value → Text
+plain_str (Str t) = t
+plain_str v = repr_atom v
+
+-- a value that is no object and no range
+abbrev pub IsPlain : Ref → Type 0
+IsPlain (ref.Object x) = ⊥
+IsPlain (ref.Range place) = ⊥
+IsPlain _ = Unit {0}
+
+-- ---- what is promised
+
+-- a text can't be written, for this cause
+abbrev pub IsUnwritten : Result Text Kind → Cause → Type 0
+IsUnwritten r TooDeep = r ≡ Err RecursionError
+IsUnwritten r TooLong = r ≡ Err OverflowError
+IsUnwritten r _ = ⊥
+
+-- a text was added, or why it can't be written, or memory was refused where there was no room for these bytes; then a
+-- part of it may have been added
+abbrev pub Writes : {Z U : Type 0} → Result Text Kind → List ℕ → String Z → String Z → Result U Fault → Type 0
+Writes p longest old new (Ok _) = (t : Text) × (p ≡ Ok t) × Adds (encode_utf8_all t) old new
+Writes p longest old new (Err (Raises cause)) = IsUnwritten p cause × Begins old new
+Writes p longest old new (Err NoMemory) = Lacks longest old new
+
+-- the same; what is not added leaves the text of the String as it was
+abbrev pub Appends : {Z U : Type 0} → Result Text Kind → List ℕ → String Z → String Z → Result U Fault → Type 0
+Appends p longest old new (Ok _) = (t : Text) × (p ≡ Ok t) × (string_bytes new ≡ string_bytes old ++ encode_utf8_all t)
+Appends p longest old new (Err (Raises cause)) = IsUnwritten p cause × (string_bytes new ≡ string_bytes old)
+Appends p longest old new (Err NoMemory) = HasNoRoom longest old × (string_bytes new ≡ string_bytes old)
