@@ -21,3 +21,6 @@ pub mod Due
 pub mod Shown
 pub mod Interpreter
 pub mod WorkedCode
+pub mod Codes
+pub mod Growth
+pub mod Taken

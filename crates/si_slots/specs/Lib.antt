@@ -6,3 +6,5 @@ pub mod Shows
 pub mod Laws
 pub mod Interpreter
 pub mod CodeCases
+pub mod Contents
+pub mod Views

@@ -1,10 +1,27 @@
-// A machine with a frame of slots, and the code of trees for it: definitions, and laws of them. Nothing uses it yet.
+// A machine with a frame of slots, and the code of trees for it: definitions, laws of them, and the table of such code.
+// Nothing uses it yet.
 //
 // In reading order: specs/Machine.antt (the machine: one line an instruction, whose operands lie in slots),
 // specs/Code.antt (the code of a tree) with specs/CodeCases.antt (worked cases), specs/Running.antt (the run of one
 // text), specs/Correct.antt (what such code does, against what a tree means), specs/Shows.antt and
 // specs/Interpreter.antt (what an interpreter shows of its life at any moment), specs/Laws.antt (laws of courses);
-// `laws`, which state them.
+// `laws`, which state them. Then the code as it lies in memory: `instr`, the instructions, in 8 bytes each; `operand` and
+// `full`, instructions in full; `routine`, what is known of a function's code; `table`, their lines, literals and slots.
+// specs/Contents.antt and specs/Views.antt say what a table has and what it stands for.
 #![tactic(auto)]
 
+mod frame;
+pub mod full;
+pub mod instr;
 pub mod laws;
+pub mod operand;
+mod pack;
+pub mod routine;
+pub mod table;
+mod unpack;
+
+pub use full::FullInstr;
+pub use instr::Instr;
+pub use operand::{Aim, Constant, Source, Target};
+pub use routine::Routine;
+pub use table::{CodeTable, Mark};
