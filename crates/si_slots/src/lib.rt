@@ -11,13 +11,13 @@
 #![tactic(auto)]
 
 mod frame;
-pub mod full;
-pub mod instr;
+mod full;
+mod instr;
 pub mod laws;
-pub mod operand;
+mod operand;
 mod pack;
-pub mod routine;
-pub mod table;
+mod routine;
+mod table;
 mod unpack;
 
 pub use full::FullInstr;
