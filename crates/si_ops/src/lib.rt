@@ -7,7 +7,9 @@
 //
 // In reading order: `ranges` (the integers of a range), `characters` (texts compared where they lie), `truth` (whether a
 // value counts as true), `operand` (what a value is to an operator), `arithmetic` (operators before a value and between
-// two), `comparison`, `items` (what a `for` goes over) and `exceptions` (which clause catches what).
+// two), `comparison`, `items` (what a `for` goes over), `exceptions` (which clause catches what), `pieces`, `quoted`,
+// `atoms` and `messages` (the parts of what is written), `shown` (`str` and `repr`) and `first` (the names that are there
+// from the first).
 #![tactic(auto)]
 
 mod arithmetic;
