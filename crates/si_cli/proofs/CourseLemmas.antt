@@ -9,7 +9,7 @@ use Rattle.si_semantics.specs.Operations.{Iterator, call_by_name, call_provided,
 use Rattle.si_semantics.specs.Life as life
 use Rattle.si_semantics.specs.Life.{not_read}
 use Rattle.si_semantics.specs.Machine as machine
-use Rattle.si_semantics.specs.Machine.{At, Block, Calling, Closed, Course, Ending, Entry, Each, Catch, Final, Pending, Handling, Frame, Instr, ApplyUnary, ApplyBinary, ApplyComparison, CallTop, Line, Place, Stamped, Table, Taking, act, calls, depth, ends_finally, enters, fetched, gives_item, goes, next, on, on_callee, stamped, start, starts_for, stuck, yields}
+use Rattle.si_semantics.specs.Machine.{At, Block, Calling, Closed, Course, Ending, Entry, Each, Catch, Final, Pending, Handling, Frame, Instr, Line, Place, Stamped, Table, Taking, act, calls, depth, ends_finally, enters, fetched, gives_item, goes, next, on, on_callee, stamped, start, starts_for, stuck, yields}
 use Rattle.si_semantics.specs.Running.{run_at}
 use Rattle.si_semantics.specs.Shows.{joined, standing_of, texts}
 use Rattle.si_compile.specs.Code.{compiled}
@@ -145,13 +145,13 @@ pushed_quietly es next ops slots (_ ∷ bs) w = λ o e. refl
 acts_quietly : (es : List Entry) (i : Instr) (next : ℕ) (ops : List Value) (slots : List (Option Value)) (bs : List Block) (w : World) → IsQuiet (act es i next ops slots bs w)
 unfolding IsQuiet
 acts_quietly es (machine.LoadGlobal x) next ops slots bs w = λ o e. yields_quietly (load_global x w) next ops slots bs o e
-acts_quietly es (ApplyUnary op) next (v ∷ ops) slots bs w = λ o e. yields_quietly (operate_unary op v w) next ops slots bs o e
-acts_quietly es (ApplyBinary op) next (v ∷ u ∷ ops) slots bs w = λ o e. yields_quietly (operate op u v w) next ops slots bs o e
-acts_quietly es (ApplyComparison op) next (v ∷ u ∷ ops) slots bs w = λ o e. yields_quietly (compare op u v w) next ops slots bs o e
+acts_quietly es (machine.Unary op) next (v ∷ ops) slots bs w = λ o e. yields_quietly (operate_unary op v w) next ops slots bs o e
+acts_quietly es (machine.Binary op) next (v ∷ u ∷ ops) slots bs w = λ o e. yields_quietly (operate op u v w) next ops slots bs o e
+acts_quietly es (machine.Compare op) next (v ∷ u ∷ ops) slots bs w = λ o e. yields_quietly (compare op u v w) next ops slots bs o e
 acts_quietly es (machine.EndChain n) next (t ∷ v ∷ ops) slots bs w = goes_quietly (is_true t w) _ _ w
 acts_quietly es (machine.JumpOrDiscard op n) next (v ∷ ops) slots bs w = goes_quietly (decides op v w) _ _ w
 acts_quietly es (machine.JumpIfFalse n) next (v ∷ ops) slots bs w = goes_quietly (is_true v w) _ _ w
-acts_quietly es (CallTop n) next ops slots bs w = callee_quietly (drop n ops) _ w (λ f rest. calls_quietly es f (reverse (take n ops)) next rest slots bs w)
+acts_quietly es (machine.Call n) next ops slots bs w = callee_quietly (drop n ops) _ w (λ f rest. calls_quietly es f (reverse (take n ops)) next rest slots bs w)
 acts_quietly es (machine.CallByName n) next ops slots bs w = callee_quietly (drop n ops) _ w (λ f rest. yields_quietly (call_by_name f w) next rest slots bs)
 acts_quietly es (machine.LoadLocal x k) next ops slots bs w = λ o e. yields_quietly (load_local x (slot_at k slots) w) next ops slots bs o e
 acts_quietly es machine.StartFor next (v ∷ ops) slots bs w = starts_quietly (iterator_of v w) next ops slots bs w
