@@ -13,7 +13,10 @@ ghost use Rattle.si_ops.specs.Operands.{IsNoInteger, text_made, NeedsNone, IsTol
 use crate::operand::Operand;
 use crate::truth::{int_of_truth, is_true};
 use si_arena::{Arena, Cause, Fault, Ref};
-use si_plain::{BinaryOperator, Kind, UnaryOperator, add, bit_and, bit_or, bit_xor, floordiv, invert, modulo, mul, neg, power, shl, shr, sub};
+use si_plain::{
+    BinaryOperator, Kind, UnaryOperator, add, bit_and, bit_or, bit_xor, floordiv, invert, modulo,
+    mul, neg, power, shl, shr, sub,
+};
 
 /// An operator before a value (Python Language Reference 3.14, 6.6; `not`: 6.11). It takes no memory.
 pub fn unary(arena: &Arena, operator: UnaryOperator, value: Ref) -> Result<Ref, Cause>

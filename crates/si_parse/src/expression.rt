@@ -11,11 +11,11 @@ use crate::fault::ParseFault;
 use crate::literal::str_value;
 use crate::lookahead::{after, after_arguments, after_boolean, after_word, line_at, token_at};
 use crate::precedence::{
-    EXPRESSION, BIT_OR, Continuation, DISJUNCTION, comparison_at, item_level, prefix_at, prefix_level,
-    right_level, strength, what_follows,
+    BIT_OR, Continuation, DISJUNCTION, EXPRESSION, comparison_at, item_level, prefix_at,
+    prefix_level, right_level, strength, what_follows,
 };
-use si_plain::{BinaryOperator, BooleanOperator, ComparisonOperator, Text, UnaryOperator};
 use si_plain::limits::MAX_STR_LENGTH;
+use si_plain::{BinaryOperator, BooleanOperator, ComparisonOperator, Text, UnaryOperator};
 use si_syntax::Expr;
 use si_token::{Keyword, Symbol, Token, TokenKind, int_value};
 use std::alloc::Global;

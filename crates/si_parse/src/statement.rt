@@ -14,8 +14,8 @@ use crate::lookahead::{after, after_line, after_word, ends_small, line_at, token
 use crate::name::names;
 use crate::precedence::EXPRESSION;
 use crate::target::as_target;
-use si_plain::limits::{MAX_EXPRESSION_DEPTH, MAX_NESTING};
 use si_plain::BinaryOperator;
+use si_plain::limits::{MAX_EXPRESSION_DEPTH, MAX_NESTING};
 use si_syntax::{Expr, Stmt};
 use si_token::{Keyword, Symbol, Token, TokenKind};
 use std::alloc::Global;

@@ -44,30 +44,43 @@ terminal_of t = terminal t.kind t.text
 -- of that level or of a tighter one may stand. The numbers matter by their order alone.
 abbrev pub expression_level : ℕ
 expression_level = 1
+
 abbrev pub disjunction_level : ℕ
 disjunction_level = 3
+
 abbrev pub conjunction_level : ℕ
 conjunction_level = 5
+
 abbrev pub inversion_level : ℕ
 inversion_level = 7
+
 abbrev pub comparison_level : ℕ
 comparison_level = 8
+
 abbrev pub bit_or_level : ℕ
 bit_or_level = 10
+
 abbrev pub bit_xor_level : ℕ
 bit_xor_level = 11
+
 abbrev pub bit_and_level : ℕ
 bit_and_level = 12
+
 abbrev pub shift_level : ℕ
 shift_level = 13
+
 abbrev pub sum_level : ℕ
 sum_level = 14
+
 abbrev pub term_level : ℕ
 term_level = 15
+
 abbrev pub factor_level : ℕ
 factor_level = 16
+
 abbrev pub power_level : ℕ
 power_level = 17
+
 abbrev pub primary_level : ℕ
 primary_level = 18
 

@@ -1,8 +1,8 @@
 // Statements.
 
 use crate::expr::Expr;
-use si_plain::BinaryOperator;
 use crate::target::Target;
+use si_plain::BinaryOperator;
 
 /// The line in which a statement begins, counted from 1. It is a hint for people: no tree depends on it.
 pub type Line = usize;

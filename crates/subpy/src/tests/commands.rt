@@ -1,8 +1,6 @@
 // What no clause says: worked cases, the text of help and refusals, and readers and writers that fail.
 
-use si_cli::{
-    CliFault, Outcome, Request, Standing, WordsFault, read_input, request, serve, solo,
-};
+use si_cli::{CliFault, Outcome, Request, Standing, WordsFault, read_input, request, serve, solo};
 use si_plain::Limits;
 use std::alloc::Global;
 use std::io;
