@@ -1,13 +1,12 @@
 // The code of `try`.
 ghost use Rattle.std.specs.Prelude.{◌≡◌, ◌+◌, ◌≤◌, List, [], ◌∷◌, ◌++◌, length, map, string_bytes, IfOk, OnOk};
 ghost use Rattle.std.specs.Option.{option_map};
-ghost use Rattle.si_semantics.specs.Grammar.{clauses_of};
 ghost use Rattle.si_semantics.specs.Machine as machine;
 ghost use Rattle.si_semantics.specs.Scope.{place_of};
 ghost use Rattle.si_semantics.specs.Tree.{functions_in, functions_in_clauses, functions_of};
-ghost use Rattle.si_syntax.specs.Trees.{body_of, clause_of, finally_of, try_of};
+ghost use Rattle.si_syntax.specs.Trees.{body_of, expr_of, stmt_of};
 ghost use Rattle.si_compile.specs.Code.{clauses_code, finally_code, named_code, stmt_code, stmts_code, store_code, unbind_code};
-ghost use Rattle.si_compile.specs.inner.Jumps.{clause_front};
+ghost use Rattle.si_compile.specs.inner.Jumps.{clause_front, clauses_in, only_finally, tried};
 ghost use Rattle.si_code.specs.Contents.{Contents, Extends};
 ghost use Rattle.si_code.specs.Views.{Gains};
 
@@ -15,54 +14,61 @@ use crate::emit::{emit_store, emit_suite, emit_unbind};
 use crate::expression::emit_expr;
 use si_code::{CodeTable, Instr};
 use si_plain::{Names, NoMemory};
-use si_syntax::{Clause, Finally, Stmt, Try};
+use si_syntax::{Expr, Stmt};
 
-/// A `try` with a finally suite.
+/// A `try` with a finally suite. Another statement has no code here.
 #[cycle(stmts)]
 pub(crate) fn emit_finally(
     table: &mut CodeTable,
     locals: &Names,
     next: &mut u32,
-    statement: &Finally,
+    stmt: &Stmt,
 ) -> Result<(), NoMemory>
-    ensures ok { OnOk result (Gains table.old table.new (stmt_code locals.now next.old (finally_of statement.now))) }
-    ensures next { OnOk result (next.new ≡ next.old + length (functions_of (finally_of statement.now))) }
+    ensures ok { OnOk result (Gains table.old table.new (stmt_code locals.now next.old (only_finally (stmt_of stmt.now)))) }
+    ensures next { OnOk result (next.new ≡ next.old + length (functions_of (only_finally (stmt_of stmt.now)))) }
     ensures extends { Extends table.old table.new }
 {
+    let Stmt::Finally(_, _, _, last) = stmt else {
+        return Ok(());
+    };
     let enter = table.len();
     table.put(Instr::EnterFinally(0))?;
-    emit_try(table, locals, next, &statement.tried)?;
+    emit_try(table, locals, next, stmt)?;
     table.put(Instr::StartFinally)?;
     table.aim(enter)?;
-    emit_suite(table, locals, next, &statement.end)?;
+    emit_suite(table, locals, next, last)?;
     table.put(Instr::EndFinally)
 }
 
-/// A `try` without its finally suite: the suite, the except clauses where there are any, and the else suite.
+/// A `try` without its finally suite: the suite, the except clauses where there are any, and the else suite. Another
+/// statement has none of these.
 #[cycle(stmts)]
 pub(crate) fn emit_try(
     table: &mut CodeTable,
     locals: &Names,
     next: &mut u32,
-    statement: &Try,
+    stmt: &Stmt,
 ) -> Result<(), NoMemory>
-    ensures ok { OnOk result (Gains table.old table.new (stmt_code locals.now next.old (try_of statement.now))) }
-    ensures next { OnOk result (next.new ≡ next.old + length (functions_of (try_of statement.now))) }
+    ensures ok { OnOk result (Gains table.old table.new (stmt_code locals.now next.old (tried (stmt_of stmt.now)))) }
+    ensures next { OnOk result (next.new ≡ next.old + length (functions_of (tried (stmt_of stmt.now)))) }
     ensures extends { Extends table.old table.new }
 {
-    if statement.clauses.is_empty() {
-        emit_suite(table, locals, next, &statement.body)?;
-        return emit_suite(table, locals, next, &statement.last);
+    let (Stmt::Try(body, clauses, last) | Stmt::Finally(body, clauses, last, _)) = stmt else {
+        return Ok(());
+    };
+    if clauses.is_empty() {
+        emit_suite(table, locals, next, body)?;
+        return emit_suite(table, locals, next, last);
     }
     let enter = table.len();
     table.put(Instr::EnterTry(0))?;
-    emit_suite(table, locals, next, &statement.body)?;
+    emit_suite(table, locals, next, body)?;
     let skip = leave_try(table, enter)?;
-    emit_clauses(table, locals, next, &statement.clauses)?;
+    emit_clauses(table, locals, next, stmt)?;
     let end = table.len();
     table.put(Instr::Jump(0))?;
     table.aim(skip)?;
-    emit_suite(table, locals, next, &statement.last)?;
+    emit_suite(table, locals, next, last)?;
     table.aim(end)
 }
 
@@ -87,15 +93,18 @@ fn emit_clauses(
     table: &mut CodeTable,
     locals: &Names,
     next: &mut u32,
-    clauses: &[Clause],
+    stmt: &Stmt,
 ) -> Result<(), NoMemory>
-    ensures ok { OnOk result (Gains table.old table.new (clauses_code locals.now next.old (clauses_of (map clause_of clauses.now)))) }
-    ensures next { OnOk result (next.new ≡ next.old + length (functions_in_clauses (clauses_of (map clause_of clauses.now)))) }
+    ensures ok { OnOk result (Gains table.old table.new (clauses_code locals.now next.old (clauses_in (stmt_of stmt.now)))) }
+    ensures next { OnOk result (next.new ≡ next.old + length (functions_in_clauses (clauses_in (stmt_of stmt.now)))) }
     ensures extends { Extends table.old table.new }
 {
+    let (Stmt::Try(_, clauses, _) | Stmt::Finally(_, clauses, _, _)) = stmt else {
+        return table.put(Instr::RaiseAgain);
+    };
     let mut ends = Vec::new(table.allocator());
-    for clause in clauses {
-        ends.push(emit_clause(table, locals, next, clause)?)?;
+    for (value, name, body) in clauses {
+        ends.push(emit_clause(table, locals, next, body, value, name)?)?;
     }
     table.put(Instr::RaiseAgain)?;
     table.aim_all(&ends)
@@ -108,22 +117,24 @@ fn emit_clause(
     table: &mut CodeTable,
     locals: &Names,
     next: &mut u32,
-    clause: &Clause,
+    body: &[Stmt],
+    value: &Option<Expr>,
+    name: &Option<String>,
 ) -> Result<usize, NoMemory>
-    ensures ok { let is = clause_of clause.now in let suite = named_code locals.now is.1 (stmts_code locals.now next.old is.2) in
-        OnOk result (Gains table.old table.new (clause_front locals.now is.0 suite ++ machine.Jump 0 ∷ [])) }
-    ensures next { OnOk result (next.new ≡ next.old + length (functions_in (clause_of clause.now).2)) }
+    ensures ok { let suite = named_code locals.now (option_map string_bytes name.now) (stmts_code locals.now next.old (body_of body.now)) in
+        OnOk result (Gains table.old table.new (clause_front locals.now (option_map expr_of value.now) suite ++ machine.Jump 0 ∷ [])) }
+    ensures next { OnOk result (next.new ≡ next.old + length (functions_in (body_of body.now))) }
     ensures at { IfOk result (λ at. at + 1 ≡ length table.new.lines) }
     ensures extends { Extends table.old table.new }
 {
-    let Some(value) = &clause.value else {
-        return emit_handler(table, locals, next, &clause.body, &clause.name);
+    let Some(value) = value else {
+        return emit_handler(table, locals, next, body, name);
     };
     emit_expr(table, locals, value)?;
     table.put(Instr::TestClause)?;
     let skip = table.len();
     table.put(Instr::JumpIfFalse(0))?;
-    let end = emit_handler(table, locals, next, &clause.body, &clause.name)?;
+    let end = emit_handler(table, locals, next, body, name)?;
     table.aim(skip)?;
     Ok(end)
 }

@@ -8,4 +8,3 @@ pub mod Spelling
 pub mod Showing
 pub mod Ends
 pub mod Named
-pub mod Lines
