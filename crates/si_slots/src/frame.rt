@@ -1,6 +1,5 @@
 // The names of the locals of a function.
-ghost use Rattle.std.specs.Prelude.{◌≡◌, length, slice_get, IfOk};
-ghost use Rattle.std.specs.Option.{option_map};
+ghost use Rattle.std.specs.Prelude.{◌≡◌, length, IfOk};
 
 use si_plain::{Names, NoMemory};
 use std::alloc::Global;
@@ -40,15 +39,5 @@ impl Frame {
         ensures { result ≡ length self.now }
     {
         self.names.len()
-    }
-
-    /// The name of the local at a place.
-    pub(crate) fn get(&self, place: u32) -> Option<&str>
-        ensures { option_map (λ name. name.now) result ≡ slice_get self.now place }
-    {
-        match self.names.get(place as usize) {
-            Some(name) => Some(name.as_str()),
-            None => None,
-        }
     }
 }
