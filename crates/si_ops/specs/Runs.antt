@@ -42,11 +42,3 @@ abbrev pub Runs : (World → Ran) → Memory → Memory → Result Ref Fault →
 Runs f old new (Ok r) = Gives f old (value_of new r) × Lies new r × Extends old new × (new.store ≡ old.store)
 Runs f old new (Err (Raises cause)) = Throws f old cause × (new ≡ old)
 Runs f old new (Err NoMemory) = new ≡ old
-
--- an operation that may make an object: its value, and the world with the objects that there are then; or why it
--- raises, or memory is refused, and then the arena is as it was
-abbrev pub Makes : (World → Ran) → Memory → Memory → Result Ref Fault → Type 0
-Makes f old new (Ok r) =
-    ((w : World) → w.store ≡ old.store → f w ≡ gave (value_of new r) (record w { store = new.store })) × Lies new r × Extends old new
-Makes f old new (Err (Raises cause)) = Throws f old cause × (new ≡ old)
-Makes f old new (Err NoMemory) = new ≡ old

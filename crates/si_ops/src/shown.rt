@@ -13,11 +13,8 @@ use crate::atoms::{put_view, put_view_str};
 use crate::messages::{put_caused_repr, put_caused_str};
 use crate::pieces::put;
 use si_arena::{Arena, Cause, Fault, Object, Ref, View};
-use si_plain::limits::MAX_STR_LENGTH;
+use si_plain::limits::{MAX_EXCEPTIONS_WRITTEN, MAX_STR_LENGTH};
 use si_plain::{Kind, NoMemory};
-
-// The most objects within each other that are written.
-const MAX_NESTED: usize = 200;
 
 /// Adds the `str` of a value at the end of a String (Python Standard Library 3.14, "Built-in Functions"). `TooDeep`
 /// where more than 200 objects are within each other, `TooLong` where it has more characters than a str may have;
@@ -61,7 +58,7 @@ fn add_str(out: &mut String, arena: &Arena, value: Ref) -> Result<(), Fault>
         return Err(Fault::Raises(Cause::TooDeep));
     }
     let start = out.len();
-    put_str(out, arena, value, MAX_NESTED)?;
+    put_str(out, arena, value, MAX_EXCEPTIONS_WRITTEN)?;
     if is_too_long(out, start) {
         return Err(Fault::Raises(Cause::TooLong));
     }
@@ -77,7 +74,7 @@ fn add_repr(out: &mut String, arena: &Arena, value: Ref) -> Result<(), Fault>
         return Err(Fault::Raises(Cause::TooDeep));
     }
     let start = out.len();
-    put_repr(out, arena, value, MAX_NESTED)?;
+    put_repr(out, arena, value, MAX_EXCEPTIONS_WRITTEN)?;
     if is_too_long(out, start) {
         return Err(Fault::Raises(Cause::TooLong));
     }
@@ -109,7 +106,7 @@ fn is_too_deep(arena: &Arena, value: Ref) -> bool
     ensures repr { result ≡ not (is_some (semantics.repr_of semantics.max_nested arena.now.store (value_of arena.now value))) }
     ensures str { result ≡ not (is_some (semantics.str_of semantics.max_nested arena.now.store (value_of arena.now value))) }
 {
-    !is_within(arena, value, MAX_NESTED)
+    !is_within(arena, value, MAX_EXCEPTIONS_WRITTEN)
 }
 
 // Whether at most so many objects are within each other in a value.
