@@ -1,6 +1,6 @@
 // What takes memory, and what stands where it is refused: the same call made again gives what it would have given.
 //
-// `tools/refuse si_parcel` refuses these tests each of their allocations in turn.
+// `cases/refuse_memory` refuses these tests each of their allocations in turn.
 
 use crate::tests::{action, answer, binds, nested, raised};
 use crate::{Ids, Job};

@@ -115,7 +115,7 @@ fn some_parcels_have_no_value_yet(rt: HostRuntime) -> Result<(), Fail> {
     Ok(())
 }
 
-// `tools/refuse si_share` refuses the tests below each of their allocations in turn: the same call made again gives what
+// `cases/refuse_memory` refuses the tests below each of their allocations in turn: the same call made again gives what
 // it would have given.
 
 const LONG: &str = "a caf\u{e9} for five \u{20ac}, or for 4 \u{20ac}";
