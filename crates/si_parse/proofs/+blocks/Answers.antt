@@ -19,10 +19,10 @@ block::block-returns t c =
 pub block::elifs-loop-turn-preserved : goal.block::elifs-loop-turn-preserved
 block::elifs-loop-turn-preserved t c =
     let next = sym c.after_word.ensures ∙ ap (option_map (from c.args.tokens.now)) c.in-Some.is in
-    let pushed = ap (map (λ b. branch_of b.0 b.1.items)) c.in_ok-push.ensures.items ∙ map-append (λ b. branch_of b.0 b.1.items) c.loop-turn.elifs.items (c.in_ok-next.next ∷ []) in
-    let read = elif_read (block_at c.args.parts) (map (λ b. branch_of b.0 b.1.items) c.loop-turn.elifs.items) (from c.args.tokens.now c.loop-turn.at) (from c.args.tokens.now c.in-Some.behind) _ _ next c.in_ok-next.ensures in
+    let pushed = ap (map branch_of) c.in_ok-push.ensures.items ∙ map-append branch_of c.loop-turn.elifs.items (c.in_ok-next.next ∷ []) in
+    let read = elif_read (block_at c.args.parts) (map branch_of c.loop-turn.elifs.items) (from c.args.tokens.now c.loop-turn.at) (from c.args.tokens.now c.in-Some.behind) _ _ next c.in_ok-next.ensures in
     ap (λ l. many_by (elif_by (block_at c.args.parts)) no_elif (length c.args.tokens.now - (c.loop-turn._turn + 1)) l (from c.args.tokens.now c.in_ok-next.end)) pushed
-    ∙ sym (many_on (elif_by (block_at c.args.parts)) no_elif (length c.args.tokens.now - c.loop-turn._turn) (length c.args.tokens.now - (c.loop-turn._turn + 1)) (map (λ b. branch_of b.0 b.1.items) c.loop-turn.elifs.items) (from c.args.tokens.now c.loop-turn.at)
+    ∙ sym (many_on (elif_by (block_at c.args.parts)) no_elif (length c.args.tokens.now - c.loop-turn._turn) (length c.args.tokens.now - (c.loop-turn._turn + 1)) (map branch_of c.loop-turn.elifs.items) (from c.args.tokens.now c.loop-turn.at)
     (omega arith) (ap is_none next) _ _ read)
     ∙ c.loop-turn.invariant
 
@@ -49,4 +49,4 @@ handler::try_statement-returns t c =
     let some : 0 < length (map clause_of c.in_ok-clauses.clauses.items) =
     omega (arith, length-map c.in_ok-clauses.clauses.items clause_of, c.in_ok-clauses.clauses.ok.0, not_empty c.in_ok-clauses.clauses.len _ c.is_empty.ensures c.if-is_empty.false) in
     try_read (block_at c.args.parts) (from c.args.tokens.now c.args.start) _ _ _ _ _ c.in_ok-body.ensures c.in_ok-clauses.ensures over some
-    ∙ ap (λ s. Some (s, from c.args.tokens.now c.in_ok-clauses.at)) (sym (try_is c.in_ok-body.body c.in_ok-clauses.clauses c.in_ok-clauses.last))
+    ∙ ap (λ s. Some (s, from c.args.tokens.now c.in_ok-clauses.at)) (sym (try_is _))
