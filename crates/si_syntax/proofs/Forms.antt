@@ -16,7 +16,7 @@ use Rattle.si_syntax.specs.declared.stmt.Finally.{Finally, out-Finally}
 use Rattle.si_syntax.specs.declared.stmt.While.{While}
 use Rattle.si_syntax.specs.declared.stmt.For.{For}
 use Rattle.si_syntax.specs.declared.stmt.Define.{Define}
-use Rattle.si_syntax.specs.declared.stmt.Stmt.TheFolds.{fold-Branch, fold-Clause, fold-Try, fold-If, fold-Finally, fold-roll-Stmt, fold_out-Branch, fold_out-Clause, fold_out-Define, fold_out-Finally, fold_out-For, fold_out-If, fold_out-Try, fold_out-While}
+use Rattle.si_syntax.specs.declared.stmt.Stmt.TheFolds.{fold-Branch, fold-Clause, fold-Try, fold-roll-Stmt, fold_out-Branch, fold_out-Clause, fold_out-Define, fold_out-Finally, fold_out-For, fold_out-If, fold_out-Try, fold_out-While}
 use Rattle.si_syntax.specs.declared.stmt.Stmt.TheOpen.{Stmt-F}
 use Rattle.si_syntax.specs.declared.stmt.Stmt.TheVariants as stmts
 use Rattle.si_syntax.specs.declared.stmt.Stmt.TheVariants.{rolls-Define, rolls-Finally, rolls-For, rolls-If, rolls-Try, rolls-While}

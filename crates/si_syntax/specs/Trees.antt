@@ -1,14 +1,10 @@
 -- The trees that values of this crate stand for.
-use Rattle.std.specs.Global.{Global}
-use Rattle.std.specs.Prelude.{Vec, List, Option, String, map, string_bytes}
+use Rattle.std.specs.Prelude.{List, map, string_bytes}
 use Rattle.std.specs.Option.{option_map}
 use Rattle.si_semantics.specs.Value.{Nothing, Truth, Int, Str}
 use Rattle.si_semantics.specs.Tree as tree
 use Rattle.si_semantics.specs.Grammar.{exprs_of, chain_of, stmts_of, Branch, elifs_of, Clause, clauses_of}
-use Rattle.si_plain.specs.declared.operators.BinaryOperator.{BinaryOperator}
-use Rattle.si_plain.specs.declared.operators.UnaryOperator.{UnaryOperator}
 use Rattle.si_plain.specs.declared.operators.ComparisonOperator.{ComparisonOperator}
-use Rattle.si_plain.specs.declared.operators.BooleanOperator.{BooleanOperator}
 use Rattle.si_syntax.specs.declared.expr.Expr.{Expr, fold-Expr}
 use Rattle.si_syntax.specs.declared.expr.Expr.TheOpen.{Expr-F}
 use Rattle.si_syntax.specs.declared.target.Target.{Target}
