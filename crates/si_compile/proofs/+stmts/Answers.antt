@@ -1,4 +1,4 @@
-use Rattle.std.proofs.Common.{[], ◌∷◌, ◌++◌, None, arith, ◌≡◌, ◌<◌, ◌≤◌, length, refl, sym, ap, subst, ◌∙◌, map, string_bytes}
+use Rattle.std.proofs.Common.{[], ◌∷◌, ◌++◌, None, arith, ◌≡◌, ◌<◌, ◌≤◌, length, refl, sym, ap, subst, string_bytes}
 use Rattle.std.specs.Option.{option_map}
 use Rattle.std.specs.List.{AllByRecursion}
 use Rattle.std.proofs.lemmas.Result.{on_ok_weaker}

@@ -1,5 +1,5 @@
 -- The functions of a script, one after the other. Devices of the proofs: specs/Code.antt says what their code is.
-use Rattle.std.specs.Prelude.{◌≡◌, ℕ, ◌+◌, List, [], ◌∷◌, ◌++◌, length, Some, slice_get}
+use Rattle.std.specs.Prelude.{◌≡◌, ℕ, ◌+◌, List, [], ◌∷◌, length, Some, slice_get}
 use Rattle.si_semantics.specs.Tree.{Function}
 use Rattle.si_code.specs.Contents.{Contents}
 use Rattle.si_code.specs.Views.{GainsRoutines}
