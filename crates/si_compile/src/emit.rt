@@ -93,11 +93,7 @@ fn emit_assign(
 }
 
 // The same, to what the operator gives for its own value and that of the expression.
-fn emit_augment(
-    table: &mut CodeTable,
-    locals: &Names,
-    statement: &Augment,
-) -> Result<(), NoMemory>
+fn emit_augment(table: &mut CodeTable, locals: &Names, statement: &Augment) -> Result<(), NoMemory>
     ensures ok { let target = target_of statement.now.target in
         OnOk result (Gains table.old table.new
         (target_code locals.now target ++ (expr_code locals.now (expr_of statement.now.value) ++ (machine.Binary statement.now.operator ∷ bind_code locals.now target)))) }

@@ -91,7 +91,6 @@ fn if_statement(
 
 // The statement from behind its `while`.
 #[cycle(blocks)]
-#[tactic(auto, using(si_syntax::proofs::Forms::while_is))]
 fn while_statement(
     alloc: Global,
     parts: u32,
@@ -101,14 +100,14 @@ fn while_statement(
     requires { parts < 999 }
     ensures { Gives (λ x. (stmt_of x.0, from tokens.now x.1)) result (while_by (block_at parts) (from tokens.now start)) }
 {
-    let (Branch { test, body }, at) = branch(alloc, parts, tokens, start)?;
+    let (first, at) = branch(alloc, parts, tokens, start)?;
+    let Branch { test, body } = first;
     let (last, end) = otherwise(alloc, parts, tokens, at)?;
     Ok((Stmt::While(While { test, body, last }), end))
 }
 
 // The statement from behind its `for`.
 #[cycle(blocks)]
-#[tactic(auto, using(si_syntax::proofs::Forms::for_is))]
 fn for_statement(
     alloc: Global,
     parts: u32,
@@ -119,7 +118,8 @@ fn for_statement(
     ensures { Gives (λ x. (stmt_of x.0, from tokens.now x.1)) result (for_by (block_at parts) (from tokens.now start)) }
 {
     let (target, behind) = target(alloc, tokens, start)?;
-    let (Branch { test: items, body }, at) = branch(alloc, parts, tokens, behind)?;
+    let (first, at) = branch(alloc, parts, tokens, behind)?;
+    let Branch { test: items, body } = first;
     let (last, end) = otherwise(alloc, parts, tokens, at)?;
     let statement = For {
         target,
@@ -132,7 +132,6 @@ fn for_statement(
 
 // The statement from behind its `def`, which stands in the line.
 #[cycle(blocks)]
-#[tactic(auto, using(si_syntax::proofs::Forms::define_is))]
 fn definition(
     alloc: Global,
     parts: u32,

@@ -22,7 +22,7 @@ type Clauses = Result<(Vec<Clause>, usize), ParseFault>;
 
 // The statement from behind its `try`.
 #[cycle(blocks)]
-#[tactic(auto, using(si_syntax::proofs::Forms::finally_is, crate::proofs::Turns::tried_none))]
+#[tactic(auto, using(crate::proofs::Turns::tried_none))]
 pub(crate) fn try_statement(
     alloc: Global,
     parts: u32,

@@ -65,11 +65,9 @@ fn resolve_stmt(
     ensures { Leaves locals.new.items result (resolved (stmt_of stmt.now) in_loop locals.old.items) }
 {
     match stmt {
-        Stmt::Evaluate(_)
-        | Stmt::Assign(_)
-        | Stmt::Augment(_)
-        | Stmt::Pass
-        | Stmt::Raise(_) => Ok(()),
+        Stmt::Evaluate(_) | Stmt::Assign(_) | Stmt::Augment(_) | Stmt::Pass | Stmt::Raise(_) => {
+            Ok(())
+        }
         Stmt::If(statement) => resolve_if(alloc, statement, in_loop, locals),
         Stmt::While(statement) => {
             resolve_suite(alloc, &statement.body, true, locals)?;

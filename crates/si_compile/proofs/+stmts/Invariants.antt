@@ -16,10 +16,10 @@ use Rattle.si_compile.proofs.+stmts.Given as goal
 abbrev pub invariant-emit::emit_others-loop-branch : goal.invariant-emit::emit_others-loop-branch
 invariant-emit::emit_others-loop-branch l = record {
   due : (end : Contents) (later : List ℕ) → Due l.table later (Elifs l.locals l.next (map branch_of (drop l.branch-index l.branch-items)) (body_of (out-If l.statement).last.items)) end
-        → Due l.initial.table (l.ends.items ++ later) (Elifs l.locals l.initial.next (map branch_of l.branch-items) (body_of (out-If l.statement).last.items)) end;
+      → Due l.initial.table (l.ends.items ++ later) (Elifs l.locals l.initial.next (map branch_of l.branch-items) (body_of (out-If l.statement).last.items)) end;
   behind : AllByRecursion (λ at. length l.initial.table.lines ≤ at) l.ends.items;
   number : l.next + length (functions_in (elifs_of (map branch_of (drop l.branch-index l.branch-items)) (body_of (out-If l.statement).last.items)))
-           ≡ l.initial.next + length (functions_in (elifs_of (map branch_of l.branch-items) (body_of (out-If l.statement).last.items)));
+      ≡ l.initial.next + length (functions_in (elifs_of (map branch_of l.branch-items) (body_of (out-If l.statement).last.items)));
   extends : Extends l.initial.table l.table;
 }
 

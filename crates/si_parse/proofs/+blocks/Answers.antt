@@ -1,12 +1,13 @@
 use Rattle.std.proofs.Common.{◌+◌, ◌-◌, ◌<◌, [], ◌∷◌, length, sym, ◌∙◌, ap, Some, map, arith}
 use Rattle.std.specs.Prelude.{option_map, not}
 use Rattle.std.proofs.lemmas.List.{map-append, length-map}
-use Rattle.si_syntax.proofs.Forms.{try_is}
+use Rattle.si_syntax.proofs.Forms.{while_is, for_is, define_is}
 use Rattle.si_syntax.specs.Trees.{stmt_of, branch_of, clause_of}
 use Rattle.si_parse.specs.inner.Reading.{many_by, elif_by, no_elif, catch_by, no_catch, is_none, is_dedent, block_at}
 use Rattle.si_parse.specs.inner.Gives.{from, header_view}
 use Rattle.si_plain.proofs.Lengths.{not_empty}
-use Rattle.si_parse.proofs.Turns.{many_on, block_compound, elif_read, catch_read, try_read}
+use Rattle.si_parse.proofs.Turns.{many_on, block_compound, elif_read, catch_read, while_read, for_read, define_read, try_read, finally_read}
+use Rattle.si_parse.proofs.Built.{try_built, finally_built}
 use Rattle.si_parse.proofs.+blocks.Goals as goal
 
 pub block::block-returns : goal.block::block-returns
@@ -49,4 +50,26 @@ handler::try_statement-returns t c =
     let some : 0 < length (map clause_of c.in_ok-clauses.clauses.items) =
     omega (arith, length-map c.in_ok-clauses.clauses.items clause_of, c.in_ok-clauses.clauses.ok.0, not_empty c.in_ok-clauses.clauses.len _ c.is_empty.ensures c.if-is_empty.false) in
     try_read (block_at c.args.parts) (from c.args.tokens.now c.args.start) _ _ _ _ _ c.in_ok-body.ensures c.in_ok-clauses.ensures over some
-    ∙ ap (λ s. Some (s, from c.args.tokens.now c.in_ok-clauses.at)) (sym (try_is _))
+    ∙ ap (λ s. Some (s, from c.args.tokens.now c.in_ok-clauses.at)) (sym (try_built (record { body = c.in_ok-body.body; clauses = c.in_ok-clauses.clauses; last = c.in_ok-clauses.last })))
+
+pub handler::try_statement-returns-in-Some : goal.handler::try_statement-returns-in-Some
+handler::try_statement-returns-in-Some t c =
+    let over = sym c.after_word.ensures ∙ ap (option_map (from c.args.tokens.now)) c.in-Some.is in
+    finally_read (block_at c.args.parts) (from c.args.tokens.now c.args.start) _ _ _ _ _ _ _ _ c.in_ok-body.ensures c.in_ok-clauses.ensures over c.in_ok-cleanup.ensures
+    ∙ ap (λ s. Some (s, from c.args.tokens.now c.in_ok-cleanup.end)) (sym (finally_built (record { body = c.in_ok-body.body; clauses = c.in_ok-clauses.clauses; last = c.in_ok-clauses.last }) c.in_ok-cleanup.cleanup))
+
+pub block::while_statement-returns : goal.block::while_statement-returns
+block::while_statement-returns t c =
+    while_read (block_at c.args.parts) (from c.args.tokens.now c.args.start) _ _ _ _ c.in_ok-first.ensures c.in_ok-last.ensures
+    ∙ ap (λ s. Some (s, from c.args.tokens.now c.in_ok-last.end)) (sym (while_is _))
+
+pub block::for_statement-returns : goal.block::for_statement-returns
+block::for_statement-returns t c =
+    for_read (block_at c.args.parts) (from c.args.tokens.now c.args.start) _ _ _ _ _ _ c.in_ok-target.ensures c.in_ok-first.ensures c.in_ok-last.ensures
+    ∙ ap (λ s. Some (s, from c.args.tokens.now c.in_ok-last.end)) (sym (for_is _))
+
+pub block::definition-returns : goal.block::definition-returns
+block::definition-returns t c =
+    let opened = sym c.after.ensures ∙ ap (option_map (from c.args.tokens.now)) c.in-Some.is in
+    define_read (block_at c.args.parts) (from c.args.tokens.now c.args.start) _ _ _ _ _ _ _ c.in_ok-name.ensures opened c.in_ok-parameters.ensures c.in_ok-body.ensures
+    ∙ ap (λ s. Some (s, from c.args.tokens.now c.in_ok-body.end)) (sym (define_is _))
