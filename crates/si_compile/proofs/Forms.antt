@@ -1,5 +1,5 @@
 -- The forms with jumps: what is emitted for a tree's parts is what the tree's code is.
-use Rattle.std.proofs.Common.{◌≡◌, ℕ, ◌+◌, ◌<◌, ◌≤◌, List, [], ◌∷◌, ◌++◌, map, length, drop, get_or, Box, Vec, Global, refl, sym, ap, subst, ◌∙◌, length-append, append-nil, arith}
+use Rattle.std.proofs.Common.{◌≡◌, ℕ, ◌+◌, ◌<◌, ◌≤◌, List, [], ◌∷◌, ◌++◌, map, length, drop, get_or, Box, Vec, Global, sym, ap, subst, ◌∙◌, length-append, append-nil, arith}
 use Rattle.std.specs.List.{AllByRecursion}
 use Rattle.std.proofs.lemmas.List.{drop_all}
 use Rattle.si_semantics.specs.Value.{Text}
@@ -14,8 +14,10 @@ use Rattle.si_syntax.specs.declared.expr.Expr.TheFolds.{fold-roll-Expr}
 use Rattle.si_syntax.specs.declared.expr.Expr.TheOpen.{Expr-F}
 use Rattle.si_syntax.specs.declared.expr.Expr.TheVariants.{rolls-Boolean, rolls-Compare, rolls-Conditional}
 use Rattle.si_syntax.specs.declared.expr.Expr.TheViews as views
+use Rattle.si_syntax.specs.declared.stmt.Branch.{Branch as BranchParts}
+use Rattle.si_syntax.specs.declared.stmt.If.{If, out-If}
 use Rattle.si_syntax.specs.declared.stmt.Stmt.{Stmt}
-use Rattle.si_syntax.specs.Trees.{body_of, expr_of, view_step, link_of, elif_of}
+use Rattle.si_syntax.specs.Trees.{body_of, expr_of, view_step, link_of, branch_of, others_of}
 use Rattle.si_compile.specs.Code.{expr_code, operands_code, chain_code, stmt_code, stmts_code, bind_code}
 use Rattle.si_code.specs.Contents.{Contents, Extends}
 use Rattle.si_code.specs.inner.Jumps.{Due, Aims}
@@ -74,14 +76,16 @@ elif_defines b more last = append-nil (functions_in b.1 ++ functions_in (elifs_o
 
 module _ (ls : List Text) where
   -- an `if`, once the jump behind its suite is aimed; the functions of what follows are numbered behind those of the suite
-  pub if_gains : {t0 t1 t2 t3 : Contents} (first then : ℕ) (test : Expr) (ss ends : List Stmt) (bs : List (Expr × Vec Stmt Global)) (t : tree.Stmt) (end : ℕ)
-      → t ≡ tree.If (expr_of test) (body_of ss) (elifs_of (map elif_of bs) (body_of ends)) → then ≡ first + length (functions_in (body_of ss)) → end + 1 ≡ length t1.lines
-      → Gains t0 t1 (branch_front (Code ls test) (stmts_code ls first (body_of ss)) ++ machine.Jump 0 ∷ []) → Gains t1 t2 (Elifs ls then (map elif_of bs) (body_of ends)) → Aims t2 end t3
-      → Gains t0 t3 (stmt_code ls first t)
-  if_gains {t0} {t1} {t2} {t3} first then test ss ends bs t end seen goes here front others aim =
-      let numbered = subst (λ n. Gains t1 t2 (Elifs ls n (map elif_of bs) (body_of ends))) goes others in
-      tree_gains ls first t (tree.If (expr_of test) (body_of ss) (elifs_of (map elif_of bs) (body_of ends))) seen
-      (branch_ends (Code ls test) (stmts_code ls first (body_of ss)) (Elifs ls (first + length (functions_in (body_of ss))) (map elif_of bs) (body_of ends)) end here front numbered aim)
+  pub if_gains : {t0 t1 t2 t3 : Contents} (first then : ℕ) (b : Branch) (others : tree.Stmts) (end : ℕ) → then ≡ first + length (functions_in b.1) → end + 1 ≡ length t1.lines
+      → Gains t0 t1 (branch_front (expr_code ls b.0) (stmts_code ls first b.1) ++ machine.Jump 0 ∷ []) → Gains t1 t2 (stmts_code ls then others) → Aims t2 end t3
+      → Gains t0 t3 (stmt_code ls first (tree.If b.0 b.1 others))
+  if_gains {t0} {t1} {t2} {t3} first then b others end goes here front behind aim =
+      let numbered = subst (λ n. Gains t1 t2 (stmts_code ls n others)) goes behind in
+      branch_ends (expr_code ls b.0) (stmts_code ls first b.1) (stmts_code ls (first + length (functions_in b.1)) others) end here front numbered aim
+
+  -- what stands behind its suite, by the list of its `elif`s
+  pub others_gains : {t0 t1 : Contents} (first : ℕ) (i : If) (bs : List BranchParts) → bs ≡ (out-If i).elifs.items → Gains t0 t1 (Elifs ls first (map branch_of bs) (body_of (out-If i).last.items)) → Gains t0 t1 (stmts_code ls first (others_of i))
+  others_gains {t0} {t1} first i bs all h = subst (λ l. Gains t0 t1 (Elifs ls first (map branch_of l) (body_of (out-If i).last.items))) all h
 
   -- a loop, of its parts; the functions of the else suite are numbered behind those of the suite
   pub while_gains : {t0 t1 t2 t3 : Contents} (first then : ℕ) (test : Expr) (ss ends : List Stmt) (t : tree.Stmt) (enter : ℕ) → t ≡ tree.While (expr_of test) (body_of ss) (body_of ends)
@@ -103,51 +107,52 @@ module _ (ls : List Text) where
       (for_gains (Code ls items) (bind_code ls target) (stmts_code ls first (body_of ss)) (stmts_code ls (first + length (functions_in (body_of ss))) (body_of ends)) enter here over front numbered end)
 
   -- one `elif` of several
-  pub next_elif : {t1 t2 : Contents} (bs : List (Expr × Vec Stmt Global)) (i : ℕ) (b : Expr × Vec Stmt Global) (last : tree.Stmts) (ss : List Stmt) (at now then : ℕ) → i < length bs → get_or bs i b ≡ b → ss ≡ b.1.items → then ≡ now + length (functions_in (body_of ss)) → at + 1 ≡ length t2.lines
-      → Gains t1 t2 (branch_front (Code ls b.0) (stmts_code ls now (body_of ss)) ++ machine.Jump 0 ∷ [])
-      → (end : Contents) (later : List ℕ) → Due t2 later (Elifs ls then (map elif_of (drop (i + 1) bs)) last) end → Due t1 (at ∷ later) (Elifs ls now (map elif_of (drop i bs)) last) end
-  next_elif {t1} {t2} bs i b last ss at now then lt is all goes here h end later d =
-      let number : then ≡ now + length (functions_in (body_of b.1.items)) = goes ∙ ap (λ x. now + length (functions_in (body_of x))) all in
-      let others = subst (λ n. Due t2 later (Elifs ls n (map elif_of (drop (i + 1) bs)) last) end) number d in
-      let front = subst (λ x. Gains t1 t2 (branch_front (Code ls b.0) (stmts_code ls now (body_of x)) ++ machine.Jump 0 ∷ [])) all h in
-      subst (λ x. Due t1 (at ∷ later) (Elifs ls now (map elif_of x) last) end) (sym (rest_is bs i b lt is)) (elif_due ls now (elif_of b) (map elif_of (drop (i + 1) bs)) last at here front end later others)
+  pub next_elif : {t1 t2 : Contents} (bs : List BranchParts) (i : ℕ) (b : BranchParts) (last : tree.Stmts) (at now then : ℕ) → i < length bs → get_or bs i b ≡ b → then ≡ now + length (functions_in (branch_of b).1) → at + 1 ≡ length t2.lines
+      → Gains t1 t2 (branch_front (expr_code ls (branch_of b).0) (stmts_code ls now (branch_of b).1) ++ machine.Jump 0 ∷ [])
+      → (end : Contents) (later : List ℕ) → Due t2 later (Elifs ls then (map branch_of (drop (i + 1) bs)) last) end → Due t1 (at ∷ later) (Elifs ls now (map branch_of (drop i bs)) last) end
+  next_elif {t1} {t2} bs i b last at now then lt is goes here h end later d =
+      let others = subst (λ n. Due t2 later (Elifs ls n (map branch_of (drop (i + 1) bs)) last) end) goes d in
+      subst (λ x. Due t1 (at ∷ later) (Elifs ls now (map branch_of x) last) end) (sym (rest_is bs i b lt is)) (elif_due ls now (branch_of b) (map branch_of (drop (i + 1) bs)) last at here h end later others)
 
   -- behind the last one
-  pub elifs_end : {t0 t1 t2 : Contents} (bs : List (Expr × Vec Stmt Global)) (i : ℕ) (ends ss : List Stmt) (jumps : List ℕ) (first now : ℕ) → length bs ≤ i → ss ≡ ends → MakesAll t0 jumps (Elifs ls first (map elif_of bs) (body_of ends)) t1 (Elifs ls now (map elif_of (drop i bs)) (body_of ends)) → Gains t1 t2 (stmts_code ls now (body_of ss))
-      → Due t0 jumps (Elifs ls first (map elif_of bs) (body_of ends)) t2
+  pub elifs_end : {t0 t1 t2 : Contents} (bs : List BranchParts) (i : ℕ) (ends ss : List Stmt) (jumps : List ℕ) (first now : ℕ) → length bs ≤ i → ss ≡ ends → MakesAll t0 jumps (Elifs ls first (map branch_of bs) (body_of ends)) t1 (Elifs ls now (map branch_of (drop i bs)) (body_of ends)) → Gains t1 t2 (stmts_code ls now (body_of ss))
+      → Due t0 jumps (Elifs ls first (map branch_of bs) (body_of ends)) t2
   elifs_end {t0} {t1} {t2} bs i ends ss jumps first now le same before h =
-      MakesAll-end jumps (Elifs ls first (map elif_of bs) (body_of ends)) (Elifs ls now (map elif_of (drop i bs)) (body_of ends)) before
-      (subst (λ x. Gains t1 t2 (Elifs ls now (map elif_of x) (body_of ends))) (sym (drop_all i bs le)) (subst (λ x. Gains t1 t2 (stmts_code ls now (body_of x))) same h))
+      MakesAll-end jumps (Elifs ls first (map branch_of bs) (body_of ends)) (Elifs ls now (map branch_of (drop i bs)) (body_of ends)) before
+      (subst (λ x. Gains t1 t2 (Elifs ls now (map branch_of x) (body_of ends))) (sym (drop_all i bs le)) (subst (λ x. Gains t1 t2 (stmts_code ls now (body_of x))) same h))
 
 -- the number moves on over an `elif`, and over the suite behind the last
-pub next_elif_number : (bs : List (Expr × Vec Stmt Global)) (i : ℕ) (b : Expr × Vec Stmt Global) (last : tree.Stmts) (ss : List Stmt) (now then all : ℕ) → i < length bs → get_or bs i b ≡ b → ss ≡ b.1.items → then ≡ now + length (functions_in (body_of ss))
-    → now + length (functions_in (elifs_of (map elif_of (drop i bs)) last)) ≡ all → then + length (functions_in (elifs_of (map elif_of (drop (i + 1) bs)) last)) ≡ all
-next_elif_number bs i b last ss now then all lt is body goes before =
-    let others = functions_in (elifs_of (map elif_of (drop (i + 1) bs)) last) in
+pub next_elif_number : (bs : List BranchParts) (i : ℕ) (b : BranchParts) (last : tree.Stmts) (now then all : ℕ) → i < length bs → get_or bs i b ≡ b → then ≡ now + length (functions_in (branch_of b).1)
+    → now + length (functions_in (elifs_of (map branch_of (drop i bs)) last)) ≡ all → then + length (functions_in (elifs_of (map branch_of (drop (i + 1) bs)) last)) ≡ all
+next_elif_number bs i b last now then all lt is goes before =
+    let others = functions_in (elifs_of (map branch_of (drop (i + 1) bs)) last) in
     omega (
       arith,
-      ap (λ l. length (functions_in (elifs_of (map elif_of l) last))) (rest_is bs i b lt is),
-      ap length (elif_defines (elif_of b) (map elif_of (drop (i + 1) bs)) last),
-      length-append (functions_in (body_of b.1.items)) others,
-      ap (λ l. length (functions_in (body_of l))) body,
+      goes,
+      ap (λ l. length (functions_in (elifs_of (map branch_of l) last))) (rest_is bs i b lt is),
+      ap length (elif_defines (branch_of b) (map branch_of (drop (i + 1) bs)) last),
+      length-append (functions_in (branch_of b).1) others,
     )
 
-pub last_elif_number : (bs : List (Expr × Vec Stmt Global)) (i : ℕ) (ends ss : List Stmt) (now then all : ℕ) → length bs ≤ i → ss ≡ ends → then ≡ now + length (functions_in (body_of ss)) → now + length (functions_in (elifs_of (map elif_of (drop i bs)) (body_of ends))) ≡ all → then ≡ all
+pub last_elif_number : (bs : List BranchParts) (i : ℕ) (ends ss : List Stmt) (now then all : ℕ) → length bs ≤ i → ss ≡ ends → then ≡ now + length (functions_in (body_of ss)) → now + length (functions_in (elifs_of (map branch_of (drop i bs)) (body_of ends))) ≡ all → then ≡ all
 last_elif_number bs i ends ss now then all le same goes before =
-    omega (arith, ap (λ l. length (functions_in (elifs_of (map elif_of l) (body_of ends)))) (drop_all i bs le), ap (λ l. length (functions_in (body_of l))) same)
+    omega (arith, goes, ap (λ l. length (functions_in (elifs_of (map branch_of l) (body_of ends)))) (drop_all i bs le), ap (λ l. length (functions_in (body_of l))) same)
+
+pub others_number : (now first : ℕ) (i : If) (bs : List BranchParts) → bs ≡ (out-If i).elifs.items → now ≡ first + length (functions_in (elifs_of (map branch_of bs) (body_of (out-If i).last.items))) → now ≡ first + length (functions_in (others_of i))
+others_number now first i bs all h = subst (λ l. now ≡ first + length (functions_in (elifs_of (map branch_of l) (body_of (out-If i).last.items)))) all h
 
 -- the number moves on over an `if`
-pub if_number : (first then now : ℕ) (ss : List Stmt) (others : tree.Stmts) → then ≡ first + length (functions_in (body_of ss)) → now ≡ then + length (functions_in others) → now ≡ first + length (functions_in (body_of ss) ++ functions_in others)
-if_number first then now ss others goes on = omega (arith, goes, on, length-append (functions_in (body_of ss)) (functions_in others))
+pub if_number : (first then now : ℕ) (suite others : tree.Stmts) → then ≡ first + length (functions_in suite) → now ≡ then + length (functions_in others) → now ≡ first + length (functions_in suite ++ functions_in others)
+if_number first then now suite others goes on = omega (arith, goes, on, length-append (functions_in suite) (functions_in others))
 
 -- so with a loop
 pub while_number : (first then now : ℕ) (test : Expr) (ss ends : List Stmt) (t : tree.Stmt) → t ≡ tree.While (expr_of test) (body_of ss) (body_of ends)
     → then ≡ first + length (functions_in (body_of ss)) → now ≡ then + length (functions_in (body_of ends)) → now ≡ first + length (functions_of t)
-while_number first then now test ss ends t seen goes on = tree_number now first t (tree.While (expr_of test) (body_of ss) (body_of ends)) seen (if_number first then now ss (body_of ends) goes on)
+while_number first then now test ss ends t seen goes on = tree_number now first t (tree.While (expr_of test) (body_of ss) (body_of ends)) seen (if_number first then now (body_of ss) (body_of ends) goes on)
 
 pub for_number : (first then now : ℕ) (target : tree.Target) (items : Expr) (ss ends : List Stmt) (t : tree.Stmt) → t ≡ tree.For target (expr_of items) (body_of ss) (body_of ends)
     → then ≡ first + length (functions_in (body_of ss)) → now ≡ then + length (functions_in (body_of ends)) → now ≡ first + length (functions_of t)
-for_number first then now target items ss ends t seen goes on = tree_number now first t (tree.For target (expr_of items) (body_of ss) (body_of ends)) seen (if_number first then now ss (body_of ends) goes on)
+for_number first then now target items ss ends t seen goes on = tree_number now first t (tree.For target (expr_of items) (body_of ss) (body_of ends)) seen (if_number first then now (body_of ss) (body_of ends) goes on)
 
 -- ---- what stood in front
 

@@ -1,5 +1,5 @@
 -- The functions of a script, one after the other.
-use Rattle.std.proofs.Common.{◌≡◌, ◌⊎◌, inl, inr, max, ℕ, ◌+◌, ◌<◌, ◌≤◌, List, [], ◌∷◌, ◌++◌, map, length, drop, get_or, Option, Some, None, Vec, String, Global, string_bytes, refl, sym, ap, subst, ◌∙◌, append_assoc, append-nil, length-append, arith}
+use Rattle.std.proofs.Common.{◌≡◌, ℕ, ◌+◌, ◌<◌, ◌≤◌, List, [], ◌∷◌, ◌++◌, map, length, drop, get_or, Option, Some, None, string_bytes, refl, sym, ap, subst, ◌∙◌, append_assoc, append-nil, length-append, arith}
 use Rattle.std.specs.Prelude.{slice_get}
 use Rattle.std.specs.Option.{option_map}
 use Rattle.std.proofs.lemmas.List.{drop_all, length-map, map-append}
@@ -9,12 +9,14 @@ use Rattle.si_semantics.specs.Tree.{Function, Stmts, functions_of, functions_in,
 use Rattle.si_semantics.specs.Grammar.{elifs_of, clauses_of}
 use Rattle.si_semantics.specs.Machine as machine
 use Rattle.si_semantics.specs.Scope.{locals_of}
-use Rattle.si_syntax.specs.declared.expr.Expr.{Expr}
-use Rattle.si_syntax.specs.declared.target.Target.{Target}
-use Rattle.si_syntax.specs.declared.stmt.Stmt.{Stmt, size-Stmt}
-use denote.Param.Weighed.{most}
-use Rattle.si_syntax.specs.declared.stmt.Stmt.TheViews as stmt_views
-use Rattle.si_syntax.specs.Trees.{stmt_of, body_of, elif_of, clause_of}
+use Rattle.si_syntax.specs.declared.stmt.Branch.{Branch}
+use Rattle.si_syntax.specs.declared.stmt.Clause.{Clause}
+use Rattle.si_syntax.specs.declared.stmt.Define.{Define}
+use Rattle.si_syntax.specs.declared.stmt.Finally.{Finally, out-Finally}
+use Rattle.si_syntax.specs.declared.stmt.Stmt.{Stmt}
+use Rattle.si_syntax.specs.declared.stmt.Stmt.TheVariants as stmts
+use Rattle.si_syntax.specs.Trees.{stmt_of, body_of, branch_of, clause_of, tried_of, try_of, finally_of}
+use Rattle.si_syntax.proofs.Forms.{define_is}
 use Rattle.si_code.specs.Contents.{Contents}
 use Rattle.si_code.specs.declared.routine.Routine.{Routine}
 use Rattle.si_code.specs.Views.{entry_of, Gains, GainsRoutines}
@@ -22,10 +24,9 @@ use Rattle.si_code.proofs.Codes.{Gains-nil, Gains-append, Gains-alone, GainsRout
 use Rattle.si_code.proofs.Jumped.{get_here, length_gained}
 use Rattle.si_syntax.proofs.Rows.{rest_is}
 use Rattle.si_compile.specs.Code.{stmts_code, function_code, functions_code, entries_from, module_code}
-use Rattle.si_compile.specs.inner.Functions.{StandAt, GainsFunctions, loop_functions, finally_functions}
-use Rattle.si_compile.specs.inner.Jumps.{front_functions}
+use Rattle.si_compile.specs.inner.Functions.{StandAt, GainsFunctions}
 use Rattle.si_compile.proofs.Forms.{elif_defines}
-use Rattle.si_compile.proofs.Seen.{Handler, define_seen, while_seen, for_seen, try_seen, finally_seen}
+use Rattle.si_compile.proofs.Seen.{finally_seen}
 
 -- ---- their code
 
@@ -89,6 +90,10 @@ pub record Walk (all whole rest : List Function) (t0 t1 : Contents) (n0 n1 : ℕ
 pub walk_begins : (all whole : List Function) (t : Contents) (n : ℕ) → StandAt all n whole → Walk all whole whole t t n n
 walk_begins all whole t n h = record { gains = λ end k. k; stands = h; number = refl }
 
+-- the rest is this too
+pub walk_from : {all whole rest : List Function} {t0 t1 : Contents} {n0 n1 : ℕ} (more : List Function) → rest ≡ more → Walk all whole rest t0 t1 n0 n1 → Walk all whole more t0 t1 n0 n1
+walk_from {all} {whole} {rest} {t0} {t1} {n0} {n1} more is w = subst (λ l. Walk all whole l t0 t1 n0 n1) is w
+
 pub walk_more : {all whole rest : List Function} {t0 t1 t2 : Contents} {n0 n1 n2 : ℕ} (fs more : List Function) → rest ≡ fs ++ more → GainsFunctions t1 t2 fs → n2 ≡ n1 + length fs → Walk all whole rest t0 t1 n0 n1 → Walk all whole more t0 t2 n0 n2
 walk_more {all} {whole} {rest} {t0} {t1} {t2} {n0} {n1} {n2} fs more is h goes w = record {
   gains = λ end k. w.gains end (subst (GainsFunctions t1 end) (sym is) (functions_more t1 t2 end fs more h k));
@@ -111,24 +116,24 @@ stmts_rest ss i s lt at = ap (λ l. functions_in (body_of l)) (rest_is ss i s lt
 pub stmts_none : (ss : List Stmt) (i : ℕ) → length ss ≤ i → functions_in (body_of (drop i ss)) ≡ []
 stmts_none ss i le = ap (λ l. functions_in (body_of l)) (drop_all i ss le)
 
-pub elifs_rest : (bs : List (Expr × Vec Stmt Global)) (i : ℕ) (b : Expr × Vec Stmt Global) (last : Stmts) (ss : List Stmt) → i < length bs → get_or bs i b ≡ b → ss ≡ b.1.items
-    → functions_in (elifs_of (map elif_of (drop i bs)) last) ≡ functions_in (body_of ss) ++ functions_in (elifs_of (map elif_of (drop (i + 1) bs)) last)
+pub elifs_rest : (bs : List Branch) (i : ℕ) (b : Branch) (last : Stmts) (ss : List Stmt) → i < length bs → get_or bs i b ≡ b → ss ≡ b.body.items
+    → functions_in (elifs_of (map branch_of (drop i bs)) last) ≡ functions_in (body_of ss) ++ functions_in (elifs_of (map branch_of (drop (i + 1) bs)) last)
 elifs_rest bs i b last ss lt at all =
-    let more = functions_in (elifs_of (map elif_of (drop (i + 1) bs)) last) in
-    ap (λ l. functions_in (elifs_of (map elif_of l) last)) (rest_is bs i b lt at) ∙ elif_defines (elif_of b) (map elif_of (drop (i + 1) bs)) last ∙ ap (λ l. functions_in (body_of l) ++ more) (sym all)
+    let more = functions_in (elifs_of (map branch_of (drop (i + 1) bs)) last) in
+    ap (λ l. functions_in (elifs_of (map branch_of l) last)) (rest_is bs i b lt at) ∙ elif_defines (branch_of b) (map branch_of (drop (i + 1) bs)) last ∙ ap (λ l. functions_in (body_of l) ++ more) (sym all)
 
-pub elifs_last : (bs : List (Expr × Vec Stmt Global)) (i : ℕ) (ends ss : List Stmt) → length bs ≤ i → ss ≡ ends → functions_in (elifs_of (map elif_of (drop i bs)) (body_of ends)) ≡ functions_in (body_of ss)
-elifs_last bs i ends ss le same = ap (λ l. functions_in (elifs_of (map elif_of l) (body_of ends))) (drop_all i bs le) ∙ ap (λ l. functions_in (body_of l)) (sym same)
+pub elifs_last : (bs : List Branch) (i : ℕ) (ends ss : List Stmt) → length bs ≤ i → ss ≡ ends → functions_in (elifs_of (map branch_of (drop i bs)) (body_of ends)) ≡ functions_in (body_of ss)
+elifs_last bs i ends ss le same = ap (λ l. functions_in (elifs_of (map branch_of l) (body_of ends))) (drop_all i bs le) ∙ ap (λ l. functions_in (body_of l)) (sym same)
 
 -- ---- where those of a part stand
 
 pub stmt_stands : (all : List Function) (n : ℕ) (ss : List Stmt) (i : ℕ) (s : Stmt) → s ≡ get_or ss i s → i < length ss → StandAt all n (functions_in (body_of (drop i ss))) → StandAt all n (functions_of (stmt_of s))
 stmt_stands all n ss i s at lt h = stand_front all n (functions_of (stmt_of s)) (functions_in (body_of (drop (i + 1) ss))) (subst (StandAt all n) (stmts_rest ss i s lt (sym at)) h)
 
-pub elif_stands : (all : List Function) (n : ℕ) (bs : List (Expr × Vec Stmt Global)) (i : ℕ) (b : Expr × Vec Stmt Global) (last : Stmts) (ss : List Stmt) → ss ≡ b.1.items → b ≡ get_or bs i b → i < length bs
-    → StandAt all n (functions_in (elifs_of (map elif_of (drop i bs)) last)) → StandAt all n (functions_in (body_of ss))
+pub elif_stands : (all : List Function) (n : ℕ) (bs : List Branch) (i : ℕ) (b : Branch) (last : Stmts) (ss : List Stmt) → ss ≡ b.body.items → b ≡ get_or bs i b → i < length bs
+    → StandAt all n (functions_in (elifs_of (map branch_of (drop i bs)) last)) → StandAt all n (functions_in (body_of ss))
 elif_stands all n bs i b last ss body at lt h =
-    stand_front all n (functions_in (body_of ss)) (functions_in (elifs_of (map elif_of (drop (i + 1) bs)) last)) (subst (StandAt all n) (elifs_rest bs i b last ss lt (sym at) body) h)
+    stand_front all n (functions_in (body_of ss)) (functions_in (elifs_of (map branch_of (drop (i + 1) bs)) last)) (subst (StandAt all n) (elifs_rest bs i b last ss lt (sym at) body) h)
 
 -- those in front, and those that are left
 pub part_stands : (all : List Function) (n : ℕ) (whole fs gs : List Function) → whole ≡ fs ++ gs → StandAt all n whole → StandAt all n fs
@@ -147,89 +152,40 @@ both_gain {a} {b} {c} whole fs gs is h k = subst (GainsFunctions a c) (sym is) (
 pub both_pass : (n then now : ℕ) (whole fs gs : List Function) → whole ≡ fs ++ gs → then ≡ n + length fs → now ≡ then + length gs → now ≡ n + length whole
 both_pass n then now whole fs gs is goes on = omega (arith, goes, on, ap length is, length-append fs gs)
 
--- ---- of except clauses, and of the else suite behind them
+-- ---- of except clauses
 
-abbrev pub Handled : List Handler → List Stmt → List Function
-Handled cs ends = functions_in_clauses (clauses_of (map clause_of cs)) ++ functions_in (body_of ends)
+abbrev pub Handled : List Clause → List Function
+Handled cs = functions_in_clauses (clauses_of (map clause_of cs))
 
-pub clauses_rest : (cs : List Handler) (i : ℕ) (c : Handler) (ends ss : List Stmt) → i < length cs → get_or cs i c ≡ c → ss ≡ c.2.items → Handled (drop i cs) ends ≡ functions_in (body_of ss) ++ Handled (drop (i + 1) cs) ends
-clauses_rest cs i c ends ss lt at all =
-    let more = functions_in_clauses (clauses_of (map clause_of (drop (i + 1) cs))) in
-    ap (λ l. Handled l ends) (rest_is cs i c lt at) ∙ append_assoc (functions_in (body_of c.2.items)) more (functions_in (body_of ends)) ∙ ap (λ l. functions_in (body_of l) ++ Handled (drop (i + 1) cs) ends) (sym all)
+pub clauses_rest : (cs : List Clause) (i : ℕ) (c : Clause) (ss : List Stmt) → i < length cs → get_or cs i c ≡ c → ss ≡ c.body.items → Handled (drop i cs) ≡ functions_in (body_of ss) ++ Handled (drop (i + 1) cs)
+clauses_rest cs i c ss lt at all = ap Handled (rest_is cs i c lt at) ∙ ap (λ l. functions_in (body_of l) ++ Handled (drop (i + 1) cs)) (sym all)
 
-pub clauses_last : (cs : List Handler) (i : ℕ) (ends ss : List Stmt) → length cs ≤ i → ss ≡ ends → Handled (drop i cs) ends ≡ functions_in (body_of ss)
-clauses_last cs i ends ss le same = ap (λ l. Handled l ends) (drop_all i cs le) ∙ ap (λ l. functions_in (body_of l)) (sym same)
+pub clauses_none : (cs : List Clause) (i : ℕ) → length cs ≤ i → Handled (drop i cs) ≡ []
+clauses_none cs i le = ap Handled (drop_all i cs le)
 
-pub clause_stands : (all : List Function) (n : ℕ) (cs : List Handler) (i : ℕ) (c : Handler) (ends ss : List Stmt) → ss ≡ c.2.items → c ≡ get_or cs i c → i < length cs
-    → StandAt all n (Handled (drop i cs) ends) → StandAt all n (functions_in (body_of ss))
-clause_stands all n cs i c ends ss body at lt h = stand_front all n (functions_in (body_of ss)) (Handled (drop (i + 1) cs) ends) (subst (StandAt all n) (clauses_rest cs i c ends ss lt (sym at) body) h)
+pub clause_stands : (all : List Function) (n : ℕ) (cs : List Clause) (i : ℕ) (c : Clause) (ss : List Stmt) → ss ≡ c.body.items → c ≡ get_or cs i c → i < length cs → StandAt all n (Handled (drop i cs)) → StandAt all n (functions_in (body_of ss))
+clause_stands all n cs i c ss body at lt h = stand_front all n (functions_in (body_of ss)) (Handled (drop (i + 1) cs)) (subst (StandAt all n) (clauses_rest cs i c ss lt (sym at) body) h)
 
 -- what stands in front of a finally suite, and that suite
-pub finally_front : (body : Vec Stmt Global) (clauses : Vec Handler Global) (last final : Vec Stmt Global) (finals : List Stmt) (s : Stmt) → s ≡ stmt_views.Finally body clauses last final → finals ≡ final.items
-    → finally_functions (stmt_of s) ≡ front_functions (stmt_of s) ++ functions_in (body_of finals)
-finally_front body clauses last final finals s is done =
-    let seen = finally_seen body clauses last final body.items last.items finals clauses.items s is refl refl refl done in
-    let b = functions_in (body_of body.items) in let cs = functions_in_clauses (clauses_of (map clause_of clauses.items)) in let c = functions_in (body_of last.items) in
-    let f = functions_in (body_of finals) in
-    ap finally_functions seen ∙ ap (λ l. b ++ l) (sym (append_assoc cs c f)) ∙ sym (append_assoc b (cs ++ c) f) ∙ ap (λ x. front_functions x ++ f) (sym seen)
-
--- ---- the parts of a statement
-
--- a loop, of either kind, has this suite and this else suite
-abbrev pub IsLoop : Stmt → Vec Stmt Global → Vec Stmt Global → Type 0
-IsLoop s body last = ((x : Expr) × (s ≡ stmt_views.While x body last)) ⊎ ((y : Target) × (x : Expr) × (s ≡ stmt_views.For y x body last))
-
-pub loop_defines : (s : Stmt) (body last : Vec Stmt Global) (ss ends : List Stmt) → IsLoop s body last → ss ≡ body.items → ends ≡ last.items → loop_functions (stmt_of s) ≡ functions_in (body_of ss) ++ functions_in (body_of ends)
-loop_defines s body last ss ends (inl (x, is)) suite end = ap loop_functions (while_seen x body last ss ends s is suite end)
-loop_defines s body last ss ends (inr (y, x, is)) suite end = ap loop_functions (for_seen y x body last ss ends s is suite end)
-
--- its suites are smaller
-pub loop_suite : (s : Stmt) (body last : Vec Stmt Global) (ss : List Stmt) → IsLoop s body last → ss ≡ body.items → most size-Stmt ss < size-Stmt s
-loop_suite s body last ss (inl (x, is)) suite = omega (arith, stmt_views.sized-While x body last, ap size-Stmt is, ap (most size-Stmt) suite)
-loop_suite s body last ss (inr (y, x, is)) suite = omega (arith, stmt_views.sized-For y x body last, ap size-Stmt is, ap (most size-Stmt) suite)
-
-pub loop_last : (s : Stmt) (body last : Vec Stmt Global) (ends : List Stmt) → IsLoop s body last → ends ≡ last.items → most size-Stmt ends < size-Stmt s
-loop_last s body last ends (inl (x, is)) end = omega (arith, stmt_views.sized-While x body last, ap size-Stmt is, ap (most size-Stmt) end)
-loop_last s body last ends (inr (y, x, is)) end = omega (arith, stmt_views.sized-For y x body last, ap size-Stmt is, ap (most size-Stmt) end)
-
--- a `try`, with a finally suite or with none, has this suite, these clauses and this else suite
-abbrev pub IsTry : Stmt → Vec Stmt Global → Vec Handler Global → Vec Stmt Global → Type 0
-IsTry s body clauses last = (s ≡ stmt_views.Try body clauses last) ⊎ ((x : Vec Stmt Global) × (s ≡ stmt_views.Finally body clauses last x))
-
-pub try_defines : (s : Stmt) (body : Vec Stmt Global) (clauses : Vec Handler Global) (last : Vec Stmt Global) (ss ends : List Stmt) (cs : List Handler)
-    → IsTry s body clauses last → ss ≡ body.items → cs ≡ clauses.items → ends ≡ last.items → front_functions (stmt_of s) ≡ functions_in (body_of ss) ++ Handled cs ends
-try_defines s body clauses last ss ends cs (inl is) suite all end = ap front_functions (try_seen body clauses last ss ends cs s is suite all end)
-try_defines s body clauses last ss ends cs (inr (x, is)) suite all end = ap front_functions (finally_seen body clauses last x ss ends x.items cs s is suite all end refl)
-
-pub try_suite : (s : Stmt) (body : Vec Stmt Global) (clauses : Vec Handler Global) (last : Vec Stmt Global) (ss : List Stmt) → IsTry s body clauses last → ss ≡ body.items → most size-Stmt ss < size-Stmt s
-try_suite s body clauses last ss (inl is) suite = omega (arith, stmt_views.sized-Try body clauses last, ap size-Stmt is, ap (most size-Stmt) suite)
-try_suite s body clauses last ss (inr (x, is)) suite = omega (arith, stmt_views.sized-Finally body clauses last x, ap size-Stmt is, ap (most size-Stmt) suite)
-
-pub try_last : (s : Stmt) (body : Vec Stmt Global) (clauses : Vec Handler Global) (last : Vec Stmt Global) (ends : List Stmt) → IsTry s body clauses last → ends ≡ last.items → most size-Stmt ends < size-Stmt s
-try_last s body clauses last ends (inl is) end = omega (arith, stmt_views.sized-Try body clauses last, ap size-Stmt is, ap (most size-Stmt) end)
-try_last s body clauses last ends (inr (x, is)) end = omega (arith, stmt_views.sized-Finally body clauses last x, ap size-Stmt is, ap (most size-Stmt) end)
-
--- how deep the suite of a clause is
-abbrev pub clause_depth : Handler → ℕ
-clause_depth h = max 0 (max 0 (max (most size-Stmt h.2.items) 0))
-
-pub try_clauses : (s : Stmt) (body : Vec Stmt Global) (clauses : Vec Handler Global) (last : Vec Stmt Global) (cs : List Handler) → IsTry s body clauses last → cs ≡ clauses.items → most clause_depth cs < size-Stmt s
-try_clauses s body clauses last cs (inl is) all = omega (arith, stmt_views.sized-Try body clauses last, ap size-Stmt is, ap (most clause_depth) all)
-try_clauses s body clauses last cs (inr (x, is)) all = omega (arith, stmt_views.sized-Finally body clauses last x, ap size-Stmt is, ap (most clause_depth) all)
+pub finally_front : (f : Finally) (ss : List Stmt) → ss ≡ (out-Finally f).end.items → functions_of (finally_of f) ≡ functions_of (try_of (out-Finally f).tried) ++ functions_in (body_of ss)
+finally_front f ss done =
+    let t = tried_of (out-Finally f).tried in
+    let b = functions_in t.0 in let cs = functions_in_clauses (clauses_of t.1) in let c = functions_in t.2 in let end = functions_in (body_of ss) in
+    ap functions_of (finally_seen f ss done) ∙ ap (λ l. b ++ l) (sym (append_assoc cs c end)) ∙ sym (append_assoc b (cs ++ c) end)
 
 -- ---- a definition
 
 -- the function that it defines
-abbrev pub defined : String Global → Vec (String Global) Global → Vec Stmt Global → Function
-defined x ps body = record { name = string_bytes x; parameters = map string_bytes ps.items; body = body_of body.items }
+abbrev pub defined : Define → Function
+defined d = record { name = string_bytes d.name; parameters = map string_bytes d.parameters.items; body = body_of d.body.items }
 
-defines : (line : ℕ) (x : String Global) (ps : Vec (String Global) Global) (body : Vec Stmt Global) (s : Stmt) → s ≡ stmt_views.Define line x ps body → functions_of (stmt_of s) ≡ defined x ps body ∷ []
-defines line x ps body s is = ap functions_of (define_seen line x ps body s is)
+defines : (d : Define) (s : Stmt) → s ≡ stmts.Define d → functions_of (stmt_of s) ≡ defined d ∷ []
+defines d s is = ap (λ x. functions_of (stmt_of x)) is ∙ ap functions_of (define_is d)
 
 -- the names that are local to it
-pub locals_at : (all : List Function) (n : ℕ) (line : ℕ) (x : String Global) (ps : Vec (String Global) Global) (body : Vec Stmt Global) (s : Stmt) → s ≡ stmt_views.Define line x ps body → StandAt all n (functions_of (stmt_of s)) → slice_get (map locals_of all) n ≡ Some (locals_of (defined x ps body))
-locals_at all n line x ps body s is h =
-    let here = subst (StandAt all n) (defines line x ps body s is) h in
+pub locals_at : (all : List Function) (n : ℕ) (d : Define) (s : Stmt) → s ≡ stmts.Define d → StandAt all n (functions_of (stmt_of s)) → slice_get (map locals_of all) n ≡ Some (locals_of (defined d))
+locals_at all n d s is h =
+    let here = subst (StandAt all n) (defines d s is) h in
     slice_get-map locals_of all n ∙ ap (option_map locals_of) here.0
 
 -- they are there, and are what is found
@@ -255,19 +211,18 @@ routine_gains {a} {b} {c} {d} xs ys at k n parameters locals here many names h h
     } in
     subst (λ t. GainsRoutines a t (xs ++ ys) (entry (length a.lines) parameters locals ∷ [])) (sym is) (subst (λ e. GainsRoutines a (record c { routines = c.routines ++ r ∷ [] }) (xs ++ ys) (e ∷ [])) same put)
 
-pub define_functions : {a b : Contents} (line : ℕ) (x : String Global) (ps : Vec (String Global) Global) (body : Vec Stmt Global) (s : Stmt) (ss : List Stmt) (names : List Text) (many : ℕ)
-    → s ≡ stmt_views.Define line x ps body → ss ≡ body.items → names ≡ locals_of (defined x ps body) → many ≡ length ps.items
-    → GainsRoutines a b (stmts_code names 0 (body_of ss) ++ (machine.Push Nothing ∷ (machine.Return ∷ []))) (record { at = length a.lines; parameters = many; locals = length names } ∷ [])
+pub define_functions : {a b : Contents} (d : Define) (s : Stmt) (names : List Text) → s ≡ stmts.Define d → names ≡ locals_of (defined d)
+    → GainsRoutines a b (stmts_code names 0 (body_of d.body.items) ++ (machine.Push Nothing ∷ (machine.Return ∷ []))) (record { at = length a.lines; parameters = length d.parameters.items; locals = length names } ∷ [])
     → GainsFunctions a b (functions_of (stmt_of s))
-define_functions {a} {b} line x ps body s ss names many is all named parameters h =
-    let f = defined x ps body in
+define_functions {a} {b} d s names is named h =
+    let f = defined d in
     let end = machine.Push Nothing ∷ (machine.Return ∷ []) in
     let entry : ℕ → ℕ → List machine.Entry = λ k n. record { at = length a.lines; parameters = k; locals = n } ∷ [] in
-    let code : stmts_code names 0 (body_of ss) ++ end ≡ function_code f ++ [] = ap (λ l. stmts_code l 0 (body_of ss) ++ end) named ∙ ap (λ l. stmts_code (locals_of f) 0 (body_of l) ++ end) all ∙ sym (append-nil (function_code f)) in
-    let counted : many ≡ length (map string_bytes ps.items) = parameters ∙ sym (length-map ps.items string_bytes) in
-    let entries : entry many (length names) ≡ entry (length f.parameters) (length (locals_of f)) = ap (λ k. entry k (length names)) counted ∙ ap (λ l. entry (length f.parameters) (length l)) named in
-    subst (GainsFunctions a b) (sym (defines line x ps body s is))
-    (subst (GainsRoutines a b (function_code f ++ [])) entries (subst (λ c. GainsRoutines a b c (entry many (length names))) code h))
+    let code : stmts_code names 0 (body_of d.body.items) ++ end ≡ function_code f ++ [] = ap (λ l. stmts_code l 0 (body_of d.body.items) ++ end) named ∙ sym (append-nil (function_code f)) in
+    let counted : length d.parameters.items ≡ length (map string_bytes d.parameters.items) = sym (length-map d.parameters.items string_bytes) in
+    let entries : entry (length d.parameters.items) (length names) ≡ entry (length f.parameters) (length (locals_of f)) = ap (λ k. entry k (length names)) counted ∙ ap (λ l. entry (length f.parameters) (length l)) named in
+    subst (GainsFunctions a b) (sym (defines d s is))
+    (subst (GainsRoutines a b (function_code f ++ [])) entries (subst (λ c. GainsRoutines a b c (entry (length d.parameters.items) (length names))) code h))
 
 -- ---- a whole script
 

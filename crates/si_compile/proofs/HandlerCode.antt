@@ -8,21 +8,22 @@ use Rattle.si_semantics.specs.Tree.{Expr, functions_in, functions_in_clauses, fu
 use Rattle.si_semantics.specs.Grammar.{clauses_of}
 use Rattle.si_semantics.specs.Machine as machine
 use Rattle.si_semantics.specs.Machine.{Instr}
+use Rattle.si_syntax.specs.declared.stmt.Clause.{Clause as ClauseParts}
 use Rattle.si_syntax.specs.declared.stmt.Stmt.{Stmt}
 use Rattle.si_syntax.specs.Trees.{body_of, clause_of}
 use Rattle.si_syntax.proofs.Rows.{rest_is}
 use Rattle.si_compile.specs.Code.{expr_code, stmt_code, stmts_code, finally_code, named_code, store_code, unbind_code, clause_code, clauses_code, try_code}
-use Rattle.si_compile.specs.inner.Jumps.{clause_front, only_finally, tried}
+use Rattle.si_compile.specs.inner.Jumps.{clause_front}
 use Rattle.si_code.specs.Contents.{Contents}
 use Rattle.si_code.specs.inner.Jumps.{Due, Aims}
 use Rattle.si_code.specs.Views.{Gains}
 use Rattle.si_code.proofs.Codes.{Gains-append}
 use Rattle.si_code.proofs.Jumped.{length_gained, Due-jump}
 use Rattle.si_compile.proofs.Branches.{MakesAll, MakesAll-end}
-use Rattle.si_compile.proofs.Seen.{Handler, tree_gains, tree_number}
+use Rattle.si_compile.proofs.Seen.{tree_gains, tree_number}
 
 -- the code of except clauses
-abbrev pub Handlers : List Text → ℕ → List Handler → List Instr
+abbrev pub Handlers : List Text → ℕ → List ClauseParts → List Instr
 Handlers ls first cs = clauses_code ls first (clauses_of (map clause_of cs))
 
 -- the number that the functions of a suite begin with, behind those of others
@@ -74,29 +75,23 @@ named_gains {t0} {t1} {t2} {t3} ls y body enter here h k leaves =
     leaves t0 (machine.PushException ∷ (store_code y (place_of y ls) ∷ [])) body (Gains-append t0 t1 t2 (machine.PushException ∷ (store_code y (place_of y ls) ∷ (machine.EnterFinally 0 ∷ []))) body h k) here
 
 -- a `try` with a finally suite, of its parts
-pub finally_stmt : {t0 t1 : Contents} (ls : List Text) (first then : ℕ) (s : tree.Stmt) (b : tree.Stmts) (cs : tree.Clauses) (c f : tree.Stmts) → s ≡ tree.Finally b cs c f → then ≡ first + length (functions_of (tried s))
-    → Gains t0 t1 (finally_code (stmt_code ls first (tried s)) (stmts_code ls then f)) → Gains t0 t1 (stmt_code ls first (only_finally s))
-finally_stmt {t0} {t1} ls first then s b cs c f is goes h =
-    let seen = subst (λ x. Gains t0 t1 (finally_code (stmt_code ls first (tried x)) (stmts_code ls then f))) is h in
-    let number = goes ∙ ap (λ x. first + length (functions_of (tried x))) is in
-    subst (λ x. Gains t0 t1 (stmt_code ls first (only_finally x))) (sym is) (subst (λ n. Gains t0 t1 (finally_code (stmt_code ls first (tree.Try b cs c)) (stmts_code ls n f))) number seen)
+pub finally_stmt : {t0 t1 : Contents} (ls : List Text) (first then : ℕ) (t : tree.Stmt) (b : tree.Stmts) (cs : tree.Clauses) (c f : tree.Stmts) → t ≡ tree.Finally b cs c f → then ≡ first + length (functions_of (tree.Try b cs c))
+    → Gains t0 t1 (finally_code (stmt_code ls first (tree.Try b cs c)) (stmts_code ls then f)) → Gains t0 t1 (stmt_code ls first t)
+finally_stmt {t0} {t1} ls first then t b cs c f seen goes h =
+    tree_gains ls first t (tree.Finally b cs c f) seen (subst (λ n. Gains t0 t1 (finally_code (stmt_code ls first (tree.Try b cs c)) (stmts_code ls n f))) goes h)
 
-pub finally_number : (first then now : ℕ) (s : tree.Stmt) (b : tree.Stmts) (cs : tree.Clauses) (c f : tree.Stmts) → s ≡ tree.Finally b cs c f → then ≡ first + length (functions_of (tried s)) → now ≡ then + length (functions_in f)
-    → now ≡ first + length (functions_of (only_finally s))
-finally_number first then now s b cs c f is goes on =
-    let number : then ≡ first + length (functions_in b ++ (functions_in_clauses cs ++ functions_in c)) = goes ∙ ap (λ x. first + length (functions_of (tried x))) is in
-    let all : now ≡ first + length (functions_in b ++ (functions_in_clauses cs ++ (functions_in c ++ functions_in f))) =
-    omega (
-      arith,
-      number,
-      on,
-      length-append (functions_in b) (functions_in_clauses cs ++ functions_in c),
-      length-append (functions_in_clauses cs) (functions_in c),
-      length-append (functions_in b) (functions_in_clauses cs ++ (functions_in c ++ functions_in f)),
-      length-append (functions_in_clauses cs) (functions_in c ++ functions_in f),
-      length-append (functions_in c) (functions_in f),
-    ) in
-    subst (λ x. now ≡ first + length (functions_of (only_finally x))) (sym is) all
+pub finally_number : (first then now : ℕ) (t : tree.Stmt) (b : tree.Stmts) (cs : tree.Clauses) (c f : tree.Stmts) → t ≡ tree.Finally b cs c f → then ≡ first + length (functions_of (tree.Try b cs c)) → now ≡ then + length (functions_in f)
+    → now ≡ first + length (functions_of t)
+finally_number first then now t b cs c f seen goes on = tree_number now first t (tree.Finally b cs c f) seen (omega (
+  arith,
+  goes,
+  on,
+  length-append (functions_in b) (functions_in_clauses cs ++ functions_in c),
+  length-append (functions_in_clauses cs) (functions_in c),
+  length-append (functions_in b) (functions_in_clauses cs ++ (functions_in c ++ functions_in f)),
+  length-append (functions_in_clauses cs) (functions_in c ++ functions_in f),
+  length-append (functions_in c) (functions_in f),
+))
 
 -- the same, where there is a name
 pub named_suite : {t0 t1 t2 t3 : Contents} (ls : List Text) (name : Option Text) (y bound unbound : Text) (body : List Instr) (enter : ℕ) → name ≡ Some y → bound ≡ y → unbound ≡ y → enter ≡ length t0.lines + 2
@@ -152,7 +147,7 @@ tried_gains {t0} {t1} {t2} {t3} {t4} {t5} {t6} {t7} {t8} body handlers last ente
     (aim_end t0 before last (machine.Jump 0) whole at_end)
 
 -- a `try` of its parts; the functions of each are numbered behind those of the parts in front
-pub tried_stmt : {t0 t1 : Contents} (ls : List Text) (first then now : ℕ) (t : tree.Stmt) (ss ends : List Stmt) (cs : List Handler) → t ≡ tree.Try (body_of ss) (clauses_of (map clause_of cs)) (body_of ends)
+pub tried_stmt : {t0 t1 : Contents} (ls : List Text) (first then now : ℕ) (t : tree.Stmt) (ss ends : List Stmt) (cs : List ClauseParts) → t ≡ tree.Try (body_of ss) (clauses_of (map clause_of cs)) (body_of ends)
     → then ≡ first + length (functions_in (body_of ss)) → now ≡ then + length (functions_in_clauses (clauses_of (map clause_of cs)))
     → Gains t0 t1 (try_code (stmts_code ls first (body_of ss)) (clauses_of (map clause_of cs)) (Handlers ls then cs) (stmts_code ls now (body_of ends))) → Gains t0 t1 (stmt_code ls first t)
 tried_stmt {t0} {t1} ls first then now t ss ends cs seen goes on h =
@@ -171,29 +166,29 @@ tried_number first then now last t ss ends cs seen goes on ends_at =
     (omega (arith, goes, on, ends_at, length-append b (functions_in_clauses cs ++ c), length-append (functions_in_clauses cs) c))
 
 -- with clauses, and with none
-pub with_clauses : {t0 t1 : Contents} (cs : List Handler) (body handlers last : List Instr) → (cs ≡ [] → ⊥)
+pub with_clauses : {t0 t1 : Contents} (cs : List ClauseParts) (body handlers last : List Instr) → (cs ≡ [] → ⊥)
     → Gains t0 t1 (machine.EnterTry (length body + 2) ∷ (body ++ (machine.LeaveBlock ∷ (machine.Jump (length handlers + 1) ∷ (handlers ++ (machine.Jump (length last) ∷ last))))))
     → Gains t0 t1 (try_code body (clauses_of (map clause_of cs)) handlers last)
 with_clauses [] body handlers last some h = absurd (some refl)
 with_clauses (c ∷ cs) body handlers last some h = h
 
-pub without_clauses : {t0 t1 : Contents} (cs : List Handler) (body handlers last : List Instr) → cs ≡ [] → Gains t0 t1 (body ++ last) → Gains t0 t1 (try_code body (clauses_of (map clause_of cs)) handlers last)
+pub without_clauses : {t0 t1 : Contents} (cs : List ClauseParts) (body handlers last : List Instr) → cs ≡ [] → Gains t0 t1 (body ++ last) → Gains t0 t1 (try_code body (clauses_of (map clause_of cs)) handlers last)
 without_clauses [] body handlers last none h = h
 without_clauses (c ∷ cs) body handlers last none h = absurd cc
 
 -- none at all: the suite and the else suite
-none_numbered : (cs : List Handler) → cs ≡ [] → length (functions_in_clauses (clauses_of (map clause_of cs))) ≡ 0
+none_numbered : (cs : List ClauseParts) → cs ≡ [] → length (functions_in_clauses (clauses_of (map clause_of cs))) ≡ 0
 none_numbered [] none = refl
 none_numbered (c ∷ cs) none = absurd cc
 
-pub plain_try : {t0 t1 t2 : Contents} (ls : List Text) (first then : ℕ) (t : tree.Stmt) (ss ends : List Stmt) (cs : List Handler) → cs ≡ [] → t ≡ tree.Try (body_of ss) (clauses_of (map clause_of cs)) (body_of ends)
+pub plain_try : {t0 t1 t2 : Contents} (ls : List Text) (first then : ℕ) (t : tree.Stmt) (ss ends : List Stmt) (cs : List ClauseParts) → cs ≡ [] → t ≡ tree.Try (body_of ss) (clauses_of (map clause_of cs)) (body_of ends)
     → then ≡ first + length (functions_in (body_of ss)) → Gains t0 t1 (stmts_code ls first (body_of ss)) → Gains t1 t2 (stmts_code ls then (body_of ends)) → Gains t0 t2 (stmt_code ls first t)
 plain_try {t0} {t1} {t2} ls first then t ss ends cs none seen goes h k =
     let body = stmts_code ls first (body_of ss) in let last = stmts_code ls then (body_of ends) in
     tried_stmt ls first then then t ss ends cs seen goes (omega (arith, none_numbered cs none))
     (without_clauses cs body (Handlers ls then cs) last none (Gains-append t0 t1 t2 body last h k))
 
-pub plain_number : (first then now : ℕ) (t : tree.Stmt) (ss ends : List Stmt) (cs : List Handler) → cs ≡ [] → t ≡ tree.Try (body_of ss) (clauses_of (map clause_of cs)) (body_of ends)
+pub plain_number : (first then now : ℕ) (t : tree.Stmt) (ss ends : List Stmt) (cs : List ClauseParts) → cs ≡ [] → t ≡ tree.Try (body_of ss) (clauses_of (map clause_of cs)) (body_of ends)
     → then ≡ first + length (functions_in (body_of ss)) → now ≡ then + length (functions_in (body_of ends)) → now ≡ first + length (functions_of t)
 plain_number first then now t ss ends cs none seen goes on = tried_number first then then now t ss ends (clauses_of (map clause_of cs)) seen goes (omega (arith, none_numbered cs none)) on
 
@@ -247,24 +242,15 @@ tested_at {t0} {t1} {t2} {t3} {t4} {t5} ls a e body end some here h0 h1 h2 h3 al
       length-append body (machine.LeaveBlock ∷ (machine.Jump 0 ∷ [])),
     )
 
--- the clauses of a statement are those that stand there; so with their functions
-pub clauses_gains : {t0 t1 : Contents} (ls : List Text) (first : ℕ) (cs ds : tree.Clauses) → cs ≡ ds → Gains t0 t1 (clauses_code ls first ds) → Gains t0 t1 (clauses_code ls first cs)
-clauses_gains {t0} {t1} ls first cs ds same h = subst (λ x. Gains t0 t1 (clauses_code ls first x)) (sym same) h
-
-pub clauses_number : (now first : ℕ) (cs ds : tree.Clauses) → cs ≡ ds → now ≡ first + length (functions_in_clauses ds) → now ≡ first + length (functions_in_clauses cs)
-clauses_number now first cs ds same h = subst (λ x. now ≡ first + length (functions_in_clauses x)) (sym same) h
-
 -- one clause of several, whose jump is due; the functions of those behind it are numbered behind its own
-pub next_clause : {t1 t2 : Contents} (ls : List Text) (cs : List Handler) (i : ℕ) (c : Handler) (ss : List Stmt) (at now then : ℕ) → i < length cs → get_or cs i c ≡ c → ss ≡ c.2.items → then ≡ now + length (functions_in (body_of ss)) → at + 1 ≡ length t2.lines
-    → Gains t1 t2 (clause_front ls (clause_of c).0 (named_code ls (clause_of c).1 (stmts_code ls now (body_of ss))) ++ machine.Jump 0 ∷ [])
+pub next_clause : {t1 t2 : Contents} (ls : List Text) (cs : List ClauseParts) (i : ℕ) (c : ClauseParts) (at now then : ℕ) → i < length cs → get_or cs i c ≡ c → then ≡ now + length (functions_in (clause_of c).2) → at + 1 ≡ length t2.lines
+    → Gains t1 t2 (clause_front ls (clause_of c).0 (named_code ls (clause_of c).1 (stmts_code ls now (clause_of c).2)) ++ machine.Jump 0 ∷ [])
     → (end : Contents) (later : List ℕ) → Due t2 later (Handlers ls then (drop (i + 1) cs)) end → Due t1 (at ∷ later) (Handlers ls now (drop i cs)) end
-next_clause {t1} {t2} ls cs i c ss at now then lt is suite goes here h end later d =
+next_clause {t1} {t2} ls cs i c at now then lt is goes here gains end later d =
     let body = named_code ls (clause_of c).1 (stmts_code ls now (clause_of c).2) in
     let front = clause_front ls (clause_of c).0 body in
     let rest = Handlers ls (now + length (functions_in (clause_of c).2)) (drop (i + 1) cs) in
-    let number : then ≡ now + length (functions_in (clause_of c).2) = goes ∙ ap (λ x. now + length (functions_in (body_of x))) suite in
-    let others = subst (λ n. Due t2 later (Handlers ls n (drop (i + 1) cs)) end) number d in
-    let gains = subst (λ x. Gains t1 t2 (clause_front ls (clause_of c).0 (named_code ls (clause_of c).1 (stmts_code ls now (body_of x))) ++ machine.Jump 0 ∷ [])) suite h in
+    let others = subst (λ n. Due t2 later (Handlers ls n (drop (i + 1) cs)) end) goes d in
     let place : at ≡ length t1.lines + length front = omega (arith, here, length_gained gains, length-append front (machine.Jump 0 ∷ [])) in
     subst (λ l. Due t1 (at ∷ later) (Handlers ls now l) end) (sym (rest_is cs i c lt is))
     (subst (λ l. Due t1 (at ∷ later) l end) (clause_whole ls (clause_of c).0 body rest) (Due-jump front rest (machine.Jump 0) gains place others))
@@ -274,21 +260,21 @@ pub clause_behind : {t1 t2 : Contents} (front : List Instr) (at : ℕ) → at + 
 clause_behind front at here h = omega (arith, here, length_gained h, length-append front (machine.Jump 0 ∷ []))
 
 -- the number moves on over a clause, and over the last
-pub next_clause_number : (cs : List Handler) (i : ℕ) (c : Handler) (ss : List Stmt) (now then all : ℕ) → i < length cs → get_or cs i c ≡ c → ss ≡ c.2.items → then ≡ now + length (functions_in (body_of ss))
+pub next_clause_number : (cs : List ClauseParts) (i : ℕ) (c : ClauseParts) (now then all : ℕ) → i < length cs → get_or cs i c ≡ c → then ≡ now + length (functions_in (clause_of c).2)
     → now + length (functions_in_clauses (clauses_of (map clause_of (drop i cs)))) ≡ all → then + length (functions_in_clauses (clauses_of (map clause_of (drop (i + 1) cs)))) ≡ all
-next_clause_number cs i c ss now then all lt is suite goes before =
+next_clause_number cs i c now then all lt is goes before =
     omega (
       arith,
+      goes,
       ap (λ l. length (functions_in_clauses (clauses_of (map clause_of l)))) (rest_is cs i c lt is),
-      length-append (functions_in (body_of c.2.items)) (functions_in_clauses (clauses_of (map clause_of (drop (i + 1) cs)))),
-      ap (λ l. length (functions_in (body_of l))) suite,
+      length-append (functions_in (clause_of c).2) (functions_in_clauses (clauses_of (map clause_of (drop (i + 1) cs)))),
     )
 
-pub last_clause_number : (cs : List Handler) (i now all : ℕ) → length cs ≤ i → now + length (functions_in_clauses (clauses_of (map clause_of (drop i cs)))) ≡ all → now ≡ all
+pub last_clause_number : (cs : List ClauseParts) (i now all : ℕ) → length cs ≤ i → now + length (functions_in_clauses (clauses_of (map clause_of (drop i cs)))) ≡ all → now ≡ all
 last_clause_number cs i now all le before = omega (arith, ap (λ l. length (functions_in_clauses (clauses_of (map clause_of l)))) (drop_all i cs le))
 
 -- behind the last one
-pub clauses_end : {t0 t1 t2 : Contents} (ls : List Text) (cs : List Handler) (i : ℕ) (jumps : List ℕ) (first now : ℕ) → length cs ≤ i → MakesAll t0 jumps (Handlers ls first cs) t1 (Handlers ls now (drop i cs)) → Gains t1 t2 (machine.RaiseAgain ∷ [])
+pub clauses_end : {t0 t1 t2 : Contents} (ls : List Text) (cs : List ClauseParts) (i : ℕ) (jumps : List ℕ) (first now : ℕ) → length cs ≤ i → MakesAll t0 jumps (Handlers ls first cs) t1 (Handlers ls now (drop i cs)) → Gains t1 t2 (machine.RaiseAgain ∷ [])
     → Due t0 jumps (Handlers ls first cs) t2
 clauses_end {t0} {t1} {t2} ls cs i jumps first now le before h =
     MakesAll-end jumps (Handlers ls first cs) (Handlers ls now (drop i cs)) before (subst (λ l. Gains t1 t2 (Handlers ls now l)) (sym (drop_all i cs le)) h)

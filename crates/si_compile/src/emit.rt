@@ -5,18 +5,18 @@ ghost use Rattle.si_semantics.specs.Machine as machine;
 ghost use Rattle.si_semantics.specs.Scope.{place_of};
 ghost use Rattle.si_semantics.specs.Tree.{functions_in, functions_of};
 ghost use Rattle.si_semantics.specs.Value.{Function, Nothing};
-ghost use Rattle.si_syntax.specs.Trees.{body_of, expr_of, stmt_of, target_of};
+ghost use Rattle.si_syntax.specs.Trees.{body_of, expr_of, if_of, others_of, stmt_of, target_of};
 ghost use Rattle.si_compile.specs.Code.{bind_code, expr_code, raise_code, return_code, stmt_code, stmts_code, store_code, target_code, unbind_code};
 ghost use Rattle.si_code.specs.Contents.{Extends};
-ghost use Rattle.si_compile.specs.inner.Jumps.{branch_front, only_if};
+ghost use Rattle.si_compile.specs.inner.Jumps.{branch_front};
 ghost use Rattle.si_code.specs.Views.{Gains};
 
 use crate::expression::{emit_expr, emit_load};
 use crate::handlers::{emit_finally, emit_try};
 use crate::loops::{emit_for, emit_while};
 use si_code::{CodeTable, Instr};
-use si_plain::{BinaryOperator, Names, NoMemory};
-use si_syntax::{Expr, Stmt, Target};
+use si_plain::{Names, NoMemory};
+use si_syntax::{Assign, Augment, Branch, Expr, If, Stmt, Target};
 use std::alloc::AllocError;
 
 /// Statements one after another, where these names are local. The functions that they define are numbered from `next`
@@ -39,6 +39,7 @@ pub(crate) fn emit_suite(
 }
 
 #[cycle(stmts)]
+#[tactic(auto, using(si_syntax::proofs::Forms::if_is, si_syntax::proofs::Forms::while_is, si_syntax::proofs::Forms::for_is, si_syntax::proofs::Forms::define_is, si_syntax::proofs::Forms::try_is, si_syntax::proofs::Forms::finally_is))]
 fn emit_stmt(
     table: &mut CodeTable,
     locals: &Names,
@@ -51,22 +52,20 @@ fn emit_stmt(
 {
     match stmt {
         Stmt::Evaluate(expr) => emit_evaluate(table, locals, expr),
-        Stmt::Assign(target, expr) => emit_assign(table, locals, target, expr),
-        Stmt::Augment(target, operator, expr) => {
-            emit_augment(table, locals, target, *operator, expr)
-        }
+        Stmt::Assign(Assign { target, value }) => emit_assign(table, locals, target, value),
+        Stmt::Augment(statement) => emit_augment(table, locals, statement),
         Stmt::Pass => Ok(()),
-        Stmt::If(_, _, _, _) => emit_if(table, locals, next, stmt),
-        Stmt::While(_, _, _) => emit_while(table, locals, next, stmt),
-        Stmt::For(_, _, _, _) => emit_for(table, locals, next, stmt),
+        Stmt::If(statement) => emit_if(table, locals, next, statement),
+        Stmt::While(statement) => emit_while(table, locals, next, statement),
+        Stmt::For(statement) => emit_for(table, locals, next, statement),
         Stmt::Break(_) => table.put(Instr::Break),
         Stmt::Continue(_) => table.put(Instr::Continue),
-        Stmt::Define(_, name, _, _) => emit_define(table, locals, next, name.as_str()),
+        Stmt::Define(function) => emit_define(table, locals, next, function.name.as_str()),
         Stmt::Return(_, value) => emit_return(table, locals, value),
         Stmt::Global(_, _) => Ok(()),
         Stmt::Raise(value) => emit_raise(table, locals, value),
-        Stmt::Try(_, _, _) => emit_try(table, locals, next, stmt),
-        Stmt::Finally(_, _, _, _) => emit_finally(table, locals, next, stmt),
+        Stmt::Try(statement) => emit_try(table, locals, next, statement),
+        Stmt::Finally(statement) => emit_finally(table, locals, next, statement),
     }
 }
 
@@ -94,21 +93,16 @@ fn emit_assign(
 }
 
 // The same, to what the operator gives for its own value and that of the expression.
-fn emit_augment(
-    table: &mut CodeTable,
-    locals: &Names,
-    target: &Target,
-    operator: BinaryOperator,
-    expr: &Expr,
-) -> Result<(), NoMemory>
-    ensures ok { OnOk result (Gains table.old table.new
-        (target_code locals.now (target_of target.now) ++ (expr_code locals.now (expr_of expr.now) ++ (machine.Binary operator ∷ bind_code locals.now (target_of target.now))))) }
+fn emit_augment(table: &mut CodeTable, locals: &Names, statement: &Augment) -> Result<(), NoMemory>
+    ensures ok { let target = target_of statement.now.target in
+        OnOk result (Gains table.old table.new
+        (target_code locals.now target ++ (expr_code locals.now (expr_of statement.now.value) ++ (machine.Binary statement.now.operator ∷ bind_code locals.now target)))) }
     ensures extends { Extends table.old table.new }
 {
-    emit_target(table, locals, target)?;
-    emit_expr(table, locals, expr)?;
-    table.put(Instr::Binary(operator))?;
-    emit_bind(table, locals, target)
+    emit_target(table, locals, &statement.target)?;
+    emit_expr(table, locals, &statement.value)?;
+    table.put(Instr::Binary(statement.operator))?;
+    emit_bind(table, locals, &statement.target)
 }
 
 // The value of a target.
@@ -135,29 +129,41 @@ pub(crate) fn emit_bind(
     }
 }
 
-// An `if`, each `elif`, and the else suite. Another statement has no code here.
+// An `if`, each `elif`, and the else suite.
 #[cycle(stmts)]
 fn emit_if(
     table: &mut CodeTable,
     locals: &Names,
     next: &mut u32,
-    stmt: &Stmt,
+    statement: &If,
 ) -> Result<(), NoMemory>
-    ensures ok { OnOk result (Gains table.old table.new (stmt_code locals.now next.old (only_if (stmt_of stmt.now)))) }
-    ensures next { OnOk result (next.new ≡ next.old + length (functions_of (only_if (stmt_of stmt.now)))) }
+    ensures ok { OnOk result (Gains table.old table.new (stmt_code locals.now next.old (if_of statement.now))) }
+    ensures next { OnOk result (next.new ≡ next.old + length (functions_of (if_of statement.now))) }
     ensures extends { Extends table.old table.new }
 {
-    let Stmt::If(test, body, elifs, last) = stmt else {
-        return Ok(());
-    };
-    let end = emit_branch(table, locals, next, body, test)?;
-    let mut ends = Vec::new(table.allocator());
-    for (test, body) in elifs {
-        ends.push(emit_branch(table, locals, next, body, test)?)?;
-    }
-    emit_suite(table, locals, next, last)?;
-    table.aim_all(&ends)?;
+    let end = emit_branch(table, locals, next, &statement.first)?;
+    emit_others(table, locals, next, statement)?;
     table.aim(end)
+}
+
+// Each `elif` of an `if`, and the else suite.
+#[cycle(stmts)]
+fn emit_others(
+    table: &mut CodeTable,
+    locals: &Names,
+    next: &mut u32,
+    statement: &If,
+) -> Result<(), NoMemory>
+    ensures ok { OnOk result (Gains table.old table.new (stmts_code locals.now next.old (others_of statement.now))) }
+    ensures next { OnOk result (next.new ≡ next.old + length (functions_in (others_of statement.now))) }
+    ensures extends { Extends table.old table.new }
+{
+    let mut ends = Vec::new(table.allocator());
+    for branch in &statement.elifs {
+        ends.push(emit_branch(table, locals, next, branch)?)?;
+    }
+    emit_suite(table, locals, next, &statement.last)?;
+    table.aim_all(&ends)
 }
 
 // A test, the suite that is passed over where its value isn't true, and the jump behind that. It isn't aimed yet: it leads
@@ -167,20 +173,19 @@ fn emit_branch(
     table: &mut CodeTable,
     locals: &Names,
     next: &mut u32,
-    body: &[Stmt],
-    test: &Expr,
+    branch: &Branch,
 ) -> Result<usize, NoMemory>
-    ensures ok { let suite = stmts_code locals.now next.old (body_of body.now) in
-        OnOk result (Gains table.old table.new (branch_front (expr_code locals.now (expr_of test.now)) suite ++ machine.Jump 0 ∷ [])) }
-    ensures next { OnOk result (next.new ≡ next.old + length (functions_in (body_of body.now))) }
+    ensures ok { let suite = stmts_code locals.now next.old (body_of branch.now.body.items) in
+        OnOk result (Gains table.old table.new (branch_front (expr_code locals.now (expr_of branch.now.test)) suite ++ machine.Jump 0 ∷ [])) }
+    ensures next { OnOk result (next.new ≡ next.old + length (functions_in (body_of branch.now.body.items))) }
     ensures at { IfOk result (λ at. at + 1 ≡ length table.new.lines) }
     ensures behind { IfOk result (λ at. length table.old.lines ≤ at) }
     ensures extends { Extends table.old table.new }
 {
-    emit_expr(table, locals, test)?;
+    emit_expr(table, locals, &branch.test)?;
     let skip = table.len();
     table.put(Instr::JumpIfFalse(0))?;
-    emit_suite(table, locals, next, body)?;
+    emit_suite(table, locals, next, &branch.body)?;
     let end = table.len();
     table.put(Instr::Jump(0))?;
     table.aim(skip)?;

@@ -1,12 +1,13 @@
 // The code of `try`.
 ghost use Rattle.std.specs.Prelude.{◌≡◌, ◌+◌, ◌≤◌, List, [], ◌∷◌, ◌++◌, length, map, string_bytes, IfOk, OnOk};
 ghost use Rattle.std.specs.Option.{option_map};
+ghost use Rattle.si_semantics.specs.Grammar.{clauses_of};
 ghost use Rattle.si_semantics.specs.Machine as machine;
 ghost use Rattle.si_semantics.specs.Scope.{place_of};
 ghost use Rattle.si_semantics.specs.Tree.{functions_in, functions_in_clauses, functions_of};
-ghost use Rattle.si_syntax.specs.Trees.{body_of, expr_of, stmt_of};
+ghost use Rattle.si_syntax.specs.Trees.{body_of, clause_of, finally_of, try_of};
 ghost use Rattle.si_compile.specs.Code.{clauses_code, finally_code, named_code, stmt_code, stmts_code, store_code, unbind_code};
-ghost use Rattle.si_compile.specs.inner.Jumps.{clause_front, clauses_in, only_finally, tried};
+ghost use Rattle.si_compile.specs.inner.Jumps.{clause_front};
 ghost use Rattle.si_code.specs.Contents.{Contents, Extends};
 ghost use Rattle.si_code.specs.Views.{Gains};
 
@@ -14,61 +15,54 @@ use crate::emit::{emit_store, emit_suite, emit_unbind};
 use crate::expression::emit_expr;
 use si_code::{CodeTable, Instr};
 use si_plain::{Names, NoMemory};
-use si_syntax::{Expr, Stmt};
+use si_syntax::{Clause, Finally, Stmt, Try};
 
-/// A `try` with a finally suite. Another statement has no code here.
+/// A `try` with a finally suite.
 #[cycle(stmts)]
 pub(crate) fn emit_finally(
     table: &mut CodeTable,
     locals: &Names,
     next: &mut u32,
-    stmt: &Stmt,
+    statement: &Finally,
 ) -> Result<(), NoMemory>
-    ensures ok { OnOk result (Gains table.old table.new (stmt_code locals.now next.old (only_finally (stmt_of stmt.now)))) }
-    ensures next { OnOk result (next.new ≡ next.old + length (functions_of (only_finally (stmt_of stmt.now)))) }
+    ensures ok { OnOk result (Gains table.old table.new (stmt_code locals.now next.old (finally_of statement.now))) }
+    ensures next { OnOk result (next.new ≡ next.old + length (functions_of (finally_of statement.now))) }
     ensures extends { Extends table.old table.new }
 {
-    let Stmt::Finally(_, _, _, last) = stmt else {
-        return Ok(());
-    };
     let enter = table.len();
     table.put(Instr::EnterFinally(0))?;
-    emit_try(table, locals, next, stmt)?;
+    emit_try(table, locals, next, &statement.tried)?;
     table.put(Instr::StartFinally)?;
     table.aim(enter)?;
-    emit_suite(table, locals, next, last)?;
+    emit_suite(table, locals, next, &statement.end)?;
     table.put(Instr::EndFinally)
 }
 
-/// A `try` without its finally suite: the suite, the except clauses where there are any, and the else suite. Another
-/// statement has none of these.
+/// A `try` without its finally suite: the suite, the except clauses where there are any, and the else suite.
 #[cycle(stmts)]
 pub(crate) fn emit_try(
     table: &mut CodeTable,
     locals: &Names,
     next: &mut u32,
-    stmt: &Stmt,
+    statement: &Try,
 ) -> Result<(), NoMemory>
-    ensures ok { OnOk result (Gains table.old table.new (stmt_code locals.now next.old (tried (stmt_of stmt.now)))) }
-    ensures next { OnOk result (next.new ≡ next.old + length (functions_of (tried (stmt_of stmt.now)))) }
+    ensures ok { OnOk result (Gains table.old table.new (stmt_code locals.now next.old (try_of statement.now))) }
+    ensures next { OnOk result (next.new ≡ next.old + length (functions_of (try_of statement.now))) }
     ensures extends { Extends table.old table.new }
 {
-    let (Stmt::Try(body, clauses, last) | Stmt::Finally(body, clauses, last, _)) = stmt else {
-        return Ok(());
-    };
-    if clauses.is_empty() {
-        emit_suite(table, locals, next, body)?;
-        return emit_suite(table, locals, next, last);
+    if statement.clauses.is_empty() {
+        emit_suite(table, locals, next, &statement.body)?;
+        return emit_suite(table, locals, next, &statement.last);
     }
     let enter = table.len();
     table.put(Instr::EnterTry(0))?;
-    emit_suite(table, locals, next, body)?;
+    emit_suite(table, locals, next, &statement.body)?;
     let skip = leave_try(table, enter)?;
-    emit_clauses(table, locals, next, stmt)?;
+    emit_clauses(table, locals, next, &statement.clauses)?;
     let end = table.len();
     table.put(Instr::Jump(0))?;
     table.aim(skip)?;
-    emit_suite(table, locals, next, last)?;
+    emit_suite(table, locals, next, &statement.last)?;
     table.aim(end)
 }
 
@@ -93,18 +87,15 @@ fn emit_clauses(
     table: &mut CodeTable,
     locals: &Names,
     next: &mut u32,
-    stmt: &Stmt,
+    clauses: &[Clause],
 ) -> Result<(), NoMemory>
-    ensures ok { OnOk result (Gains table.old table.new (clauses_code locals.now next.old (clauses_in (stmt_of stmt.now)))) }
-    ensures next { OnOk result (next.new ≡ next.old + length (functions_in_clauses (clauses_in (stmt_of stmt.now)))) }
+    ensures ok { OnOk result (Gains table.old table.new (clauses_code locals.now next.old (clauses_of (map clause_of clauses.now)))) }
+    ensures next { OnOk result (next.new ≡ next.old + length (functions_in_clauses (clauses_of (map clause_of clauses.now)))) }
     ensures extends { Extends table.old table.new }
 {
-    let (Stmt::Try(_, clauses, _) | Stmt::Finally(_, clauses, _, _)) = stmt else {
-        return table.put(Instr::RaiseAgain);
-    };
     let mut ends = Vec::new(table.allocator());
-    for (value, name, body) in clauses {
-        ends.push(emit_clause(table, locals, next, body, value, name)?)?;
+    for clause in clauses {
+        ends.push(emit_clause(table, locals, next, clause)?)?;
     }
     table.put(Instr::RaiseAgain)?;
     table.aim_all(&ends)
@@ -117,24 +108,22 @@ fn emit_clause(
     table: &mut CodeTable,
     locals: &Names,
     next: &mut u32,
-    body: &[Stmt],
-    value: &Option<Expr>,
-    name: &Option<String>,
+    clause: &Clause,
 ) -> Result<usize, NoMemory>
-    ensures ok { let suite = named_code locals.now (option_map string_bytes name.now) (stmts_code locals.now next.old (body_of body.now)) in
-        OnOk result (Gains table.old table.new (clause_front locals.now (option_map expr_of value.now) suite ++ machine.Jump 0 ∷ [])) }
-    ensures next { OnOk result (next.new ≡ next.old + length (functions_in (body_of body.now))) }
+    ensures ok { let is = clause_of clause.now in let suite = named_code locals.now is.1 (stmts_code locals.now next.old is.2) in
+        OnOk result (Gains table.old table.new (clause_front locals.now is.0 suite ++ machine.Jump 0 ∷ [])) }
+    ensures next { OnOk result (next.new ≡ next.old + length (functions_in (clause_of clause.now).2)) }
     ensures at { IfOk result (λ at. at + 1 ≡ length table.new.lines) }
     ensures extends { Extends table.old table.new }
 {
-    let Some(value) = value else {
-        return emit_handler(table, locals, next, body, name);
+    let Some(value) = &clause.value else {
+        return emit_handler(table, locals, next, &clause.body, &clause.name);
     };
     emit_expr(table, locals, value)?;
     table.put(Instr::TestClause)?;
     let skip = table.len();
     table.put(Instr::JumpIfFalse(0))?;
-    let end = emit_handler(table, locals, next, body, name)?;
+    let end = emit_handler(table, locals, next, &clause.body, &clause.name)?;
     table.aim(skip)?;
     Ok(end)
 }

@@ -2,9 +2,9 @@
 ghost use Rattle.std.specs.Prelude.{◌≡◌, ℕ, ◌+◌, ◌≤◌, List, [], ◌∷◌, ◌++◌, length, IfOk, OnOk};
 ghost use Rattle.si_semantics.specs.Machine as machine;
 ghost use Rattle.si_semantics.specs.Tree.{functions_in, functions_of};
-ghost use Rattle.si_syntax.specs.Trees.{body_of, expr_of, stmt_of, target_of};
+ghost use Rattle.si_syntax.specs.Trees.{body_of, expr_of, for_of, target_of, while_of};
 ghost use Rattle.si_compile.specs.Code.{bind_code, expr_code, stmt_code, stmts_code};
-ghost use Rattle.si_compile.specs.inner.Jumps.{only_for, only_while, round_front, turn_front};
+ghost use Rattle.si_compile.specs.inner.Jumps.{round_front, turn_front};
 ghost use Rattle.si_code.specs.Contents.{Contents, Extends};
 ghost use Rattle.si_code.specs.Views.{Gains};
 
@@ -12,25 +12,22 @@ use crate::emit::{emit_bind, emit_suite};
 use crate::expression::emit_expr;
 use si_code::{CodeTable, Instr};
 use si_plain::{Names, NoMemory};
-use si_syntax::{Expr, Stmt, Target};
+use si_syntax::{Expr, For, Stmt, Target, While};
 
-/// A `while`. Another statement has no code here.
+/// A `while`.
 #[cycle(stmts)]
 pub(crate) fn emit_while(
     table: &mut CodeTable,
     locals: &Names,
     next: &mut u32,
-    stmt: &Stmt,
+    statement: &While,
 ) -> Result<(), NoMemory>
-    ensures ok { OnOk result (Gains table.old table.new (stmt_code locals.now next.old (only_while (stmt_of stmt.now)))) }
-    ensures next { OnOk result (next.new ≡ next.old + length (functions_of (only_while (stmt_of stmt.now)))) }
+    ensures ok { OnOk result (Gains table.old table.new (stmt_code locals.now next.old (while_of statement.now))) }
+    ensures next { OnOk result (next.new ≡ next.old + length (functions_of (while_of statement.now))) }
     ensures extends { Extends table.old table.new }
 {
-    let Stmt::While(test, body, last) = stmt else {
-        return Ok(());
-    };
-    let enter = emit_turn(table, locals, next, body, test)?;
-    emit_suite(table, locals, next, last)?;
+    let enter = emit_turn(table, locals, next, &statement.body, &statement.test)?;
+    emit_suite(table, locals, next, &statement.last)?;
     table.aim(enter)
 }
 
@@ -62,24 +59,21 @@ fn emit_turn(
     Ok(enter)
 }
 
-/// A `for`. Another statement has no code here.
+/// A `for`.
 #[cycle(stmts)]
 pub(crate) fn emit_for(
     table: &mut CodeTable,
     locals: &Names,
     next: &mut u32,
-    stmt: &Stmt,
+    statement: &For,
 ) -> Result<(), NoMemory>
-    ensures ok { OnOk result (Gains table.old table.new (stmt_code locals.now next.old (only_for (stmt_of stmt.now)))) }
-    ensures next { OnOk result (next.new ≡ next.old + length (functions_of (only_for (stmt_of stmt.now)))) }
+    ensures ok { OnOk result (Gains table.old table.new (stmt_code locals.now next.old (for_of statement.now))) }
+    ensures next { OnOk result (next.new ≡ next.old + length (functions_of (for_of statement.now))) }
     ensures extends { Extends table.old table.new }
 {
-    let Stmt::For(target, items, body, last) = stmt else {
-        return Ok(());
-    };
-    emit_items(table, locals, items)?;
-    let enter = emit_round(table, locals, next, target, body)?;
-    emit_suite(table, locals, next, last)?;
+    emit_items(table, locals, &statement.items)?;
+    let enter = emit_round(table, locals, next, &statement.target, &statement.body)?;
+    emit_suite(table, locals, next, &statement.last)?;
     emit_last_round(table, enter)
 }
 

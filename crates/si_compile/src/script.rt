@@ -1,21 +1,21 @@
 // The code of scripts.
-ghost use Rattle.std.specs.Prelude.{◌≡◌, ◌+◌, [], ◌∷◌, ◌++◌, length, IfOk, OnOk, OnErr};
-ghost use Rattle.si_semantics.specs.Tree.{functions_in, functions_of};
+ghost use Rattle.std.specs.Prelude.{◌≡◌, ◌+◌, [], ◌∷◌, ◌++◌, length, map, IfOk, OnOk, OnErr};
+ghost use Rattle.si_semantics.specs.Grammar.{clauses_of};
+ghost use Rattle.si_semantics.specs.Tree.{functions_in, functions_in_clauses, functions_of};
 ghost use Rattle.si_semantics.specs.Value.{Nothing};
 ghost use Rattle.si_semantics.specs.Machine as machine;
-ghost use Rattle.si_syntax.specs.Trees.{body_of, stmt_of};
+ghost use Rattle.si_syntax.specs.Trees.{body_of, clause_of, finally_of, for_of, if_of, others_of, stmt_of, try_of, while_of};
 ghost use Rattle.si_scope.specs.Scripts.{script_of};
 ghost use Rattle.si_code.specs.Contents.{Extends};
 ghost use Rattle.si_code.specs.Views.{Gains, GainsRoutines, table_of};
 ghost use Rattle.si_compile.specs.Code.{compiled, entries_from, functions_code, module_code, stmts_code};
-ghost use Rattle.si_compile.specs.inner.Functions.{GainsFunctions, StandAt, finally_functions, if_functions, loop_functions};
-ghost use Rattle.si_compile.specs.inner.Jumps.{front_functions};
+ghost use Rattle.si_compile.specs.inner.Functions.{GainsFunctions, StandAt};
 
 use crate::emit::{emit_end, emit_suite};
 use si_code::{CodeTable, Entry, Instr, Routine};
 use si_plain::{Names, NoMemory};
 use si_scope::Scoped;
-use si_syntax::Stmt;
+use si_syntax::{Clause, Define, Finally, For, If, Stmt, Try, While};
 use std::alloc::AllocError;
 
 /// Adds the code of a script to a table, that of its functions first, and says where the code of its statements begins.
@@ -89,6 +89,7 @@ fn emit_functions(
 
 // Those of one of them.
 #[cycle(functions)]
+#[tactic(auto, using(si_syntax::proofs::Forms::if_is, si_syntax::proofs::Forms::while_is, si_syntax::proofs::Forms::for_is, si_syntax::proofs::Forms::define_is, si_syntax::proofs::Forms::try_is, si_syntax::proofs::Forms::finally_is))]
 fn emit_functions_of(
     table: &mut CodeTable,
     script: &Scoped,
@@ -101,20 +102,20 @@ fn emit_functions_of(
     ensures extends { Extends table.old table.new }
 {
     match stmt {
-        Stmt::If(_, _, _, _) => emit_functions_of_if(table, script, number, stmt),
-        Stmt::While(_, _, _) => emit_functions_of_loop(table, script, number, stmt),
-        Stmt::For(_, _, _, _) => emit_functions_of_loop(table, script, number, stmt),
-        Stmt::Try(_, _, _) => emit_functions_of_try(table, script, number, stmt),
-        Stmt::Finally(_, _, _, _) => emit_functions_of_finally(table, script, number, stmt),
-        Stmt::Define(_, _, parameters, body) => {
+        Stmt::If(statement) => emit_functions_of_if(table, script, number, statement),
+        Stmt::While(statement) => emit_functions_of_while(table, script, number, statement),
+        Stmt::For(statement) => emit_functions_of_for(table, script, number, statement),
+        Stmt::Try(statement) => emit_functions_of_try(table, script, number, statement),
+        Stmt::Finally(statement) => emit_functions_of_finally(table, script, number, statement),
+        Stmt::Define(function) => {
             let Some(locals) = script.locals(*number as usize) else {
                 unreachable!()
             };
-            emit_function(table, locals, number, parameters.len(), body)
+            emit_function(table, locals, number, function)
         }
         Stmt::Evaluate(_)
-        | Stmt::Assign(_, _)
-        | Stmt::Augment(_, _, _)
+        | Stmt::Assign(_)
+        | Stmt::Augment(_)
         | Stmt::Pass
         | Stmt::Break(_)
         | Stmt::Continue(_)
@@ -124,113 +125,150 @@ fn emit_functions_of(
     }
 }
 
-// Those of an `if`. Another statement has none there.
+// Those of an `if`.
 #[cycle(functions)]
 fn emit_functions_of_if(
     table: &mut CodeTable,
     script: &Scoped,
     number: &mut u32,
-    stmt: &Stmt,
+    statement: &If,
 ) -> Result<(), NoMemory>
-    requires { StandAt (functions_in (script_of script.now)) number.old (if_functions (stmt_of stmt.now)) }
-    ensures ok { OnOk result (GainsFunctions table.old table.new (if_functions (stmt_of stmt.now))) }
-    ensures number { OnOk result (number.new ≡ number.old + length (if_functions (stmt_of stmt.now))) }
+    requires { StandAt (functions_in (script_of script.now)) number.old (functions_of (if_of statement.now)) }
+    ensures ok { OnOk result (GainsFunctions table.old table.new (functions_of (if_of statement.now))) }
+    ensures number { OnOk result (number.new ≡ number.old + length (functions_of (if_of statement.now))) }
     ensures extends { Extends table.old table.new }
 {
-    let Stmt::If(_, body, elifs, last) = stmt else {
-        return Ok(());
-    };
-    emit_functions(table, script, number, body)?;
-    for (_, body) in elifs {
-        emit_functions(table, script, number, body)?;
-    }
-    emit_functions(table, script, number, last)
+    emit_functions(table, script, number, &statement.first.body)?;
+    emit_functions_of_others(table, script, number, statement)
 }
 
-// Those of a loop. Another statement has none there.
+// Those of each `elif`, and of the else suite.
 #[cycle(functions)]
-fn emit_functions_of_loop(
+fn emit_functions_of_others(
     table: &mut CodeTable,
     script: &Scoped,
     number: &mut u32,
-    stmt: &Stmt,
+    statement: &If,
 ) -> Result<(), NoMemory>
-    requires { StandAt (functions_in (script_of script.now)) number.old (loop_functions (stmt_of stmt.now)) }
-    ensures ok { OnOk result (GainsFunctions table.old table.new (loop_functions (stmt_of stmt.now))) }
-    ensures number { OnOk result (number.new ≡ number.old + length (loop_functions (stmt_of stmt.now))) }
+    requires { StandAt (functions_in (script_of script.now)) number.old (functions_in (others_of statement.now)) }
+    ensures ok { OnOk result (GainsFunctions table.old table.new (functions_in (others_of statement.now))) }
+    ensures number { OnOk result (number.new ≡ number.old + length (functions_in (others_of statement.now))) }
     ensures extends { Extends table.old table.new }
 {
-    let (Stmt::While(_, body, last) | Stmt::For(_, _, body, last)) = stmt else {
-        return Ok(());
-    };
-    emit_functions(table, script, number, body)?;
-    emit_functions(table, script, number, last)
+    for branch in &statement.elifs {
+        emit_functions(table, script, number, &branch.body)?;
+    }
+    emit_functions(table, script, number, &statement.last)
 }
 
-// Those of a `try` with a finally suite. Another statement has none there.
+// Those of a `while`.
+#[cycle(functions)]
+fn emit_functions_of_while(
+    table: &mut CodeTable,
+    script: &Scoped,
+    number: &mut u32,
+    statement: &While,
+) -> Result<(), NoMemory>
+    requires { StandAt (functions_in (script_of script.now)) number.old (functions_of (while_of statement.now)) }
+    ensures ok { OnOk result (GainsFunctions table.old table.new (functions_of (while_of statement.now))) }
+    ensures number { OnOk result (number.new ≡ number.old + length (functions_of (while_of statement.now))) }
+    ensures extends { Extends table.old table.new }
+{
+    emit_functions(table, script, number, &statement.body)?;
+    emit_functions(table, script, number, &statement.last)
+}
+
+// Those of a `for`.
+#[cycle(functions)]
+fn emit_functions_of_for(
+    table: &mut CodeTable,
+    script: &Scoped,
+    number: &mut u32,
+    statement: &For,
+) -> Result<(), NoMemory>
+    requires { StandAt (functions_in (script_of script.now)) number.old (functions_of (for_of statement.now)) }
+    ensures ok { OnOk result (GainsFunctions table.old table.new (functions_of (for_of statement.now))) }
+    ensures number { OnOk result (number.new ≡ number.old + length (functions_of (for_of statement.now))) }
+    ensures extends { Extends table.old table.new }
+{
+    emit_functions(table, script, number, &statement.body)?;
+    emit_functions(table, script, number, &statement.last)
+}
+
+// Those of a `try` with a finally suite.
 #[cycle(functions)]
 fn emit_functions_of_finally(
     table: &mut CodeTable,
     script: &Scoped,
     number: &mut u32,
-    stmt: &Stmt,
+    statement: &Finally,
 ) -> Result<(), NoMemory>
-    requires { StandAt (functions_in (script_of script.now)) number.old (finally_functions (stmt_of stmt.now)) }
-    ensures ok { OnOk result (GainsFunctions table.old table.new (finally_functions (stmt_of stmt.now))) }
-    ensures number { OnOk result (number.new ≡ number.old + length (finally_functions (stmt_of stmt.now))) }
+    requires { StandAt (functions_in (script_of script.now)) number.old (functions_of (finally_of statement.now)) }
+    ensures ok { OnOk result (GainsFunctions table.old table.new (functions_of (finally_of statement.now))) }
+    ensures number { OnOk result (number.new ≡ number.old + length (functions_of (finally_of statement.now))) }
     ensures extends { Extends table.old table.new }
 {
-    let Stmt::Finally(_, _, _, last) = stmt else {
-        return Ok(());
-    };
-    emit_functions_of_try(table, script, number, stmt)?;
-    emit_functions(table, script, number, last)
+    emit_functions_of_try(table, script, number, &statement.tried)?;
+    emit_functions(table, script, number, &statement.end)
 }
 
-// Those of a `try` without its finally suite. Another statement has none there.
+// Those of a `try` without its finally suite.
 #[cycle(functions)]
 fn emit_functions_of_try(
     table: &mut CodeTable,
     script: &Scoped,
     number: &mut u32,
-    stmt: &Stmt,
+    statement: &Try,
 ) -> Result<(), NoMemory>
-    requires { StandAt (functions_in (script_of script.now)) number.old (front_functions (stmt_of stmt.now)) }
-    ensures ok { OnOk result (GainsFunctions table.old table.new (front_functions (stmt_of stmt.now))) }
-    ensures number { OnOk result (number.new ≡ number.old + length (front_functions (stmt_of stmt.now))) }
+    requires { StandAt (functions_in (script_of script.now)) number.old (functions_of (try_of statement.now)) }
+    ensures ok { OnOk result (GainsFunctions table.old table.new (functions_of (try_of statement.now))) }
+    ensures number { OnOk result (number.new ≡ number.old + length (functions_of (try_of statement.now))) }
     ensures extends { Extends table.old table.new }
 {
-    let (Stmt::Try(body, clauses, last) | Stmt::Finally(body, clauses, last, _)) = stmt else {
-        return Ok(());
-    };
-    emit_functions(table, script, number, body)?;
-    for (_, _, body) in clauses {
-        emit_functions(table, script, number, body)?;
-    }
-    emit_functions(table, script, number, last)
+    emit_functions(table, script, number, &statement.body)?;
+    emit_functions_of_clauses(table, script, number, &statement.clauses)?;
+    emit_functions(table, script, number, &statement.last)
 }
 
-// A function of so many parameters, with the names that are local to it. `number` moves past its number: there are at most
+// Those of except clauses.
+#[cycle(functions)]
+fn emit_functions_of_clauses(
+    table: &mut CodeTable,
+    script: &Scoped,
+    number: &mut u32,
+    clauses: &[Clause],
+) -> Result<(), NoMemory>
+    requires { StandAt (functions_in (script_of script.now)) number.old (functions_in_clauses (clauses_of (map clause_of clauses.now))) }
+    ensures ok { OnOk result (GainsFunctions table.old table.new (functions_in_clauses (clauses_of (map clause_of clauses.now)))) }
+    ensures number { OnOk result (number.new ≡ number.old + length (functions_in_clauses (clauses_of (map clause_of clauses.now)))) }
+    ensures extends { Extends table.old table.new }
+{
+    for clause in clauses {
+        emit_functions(table, script, number, &clause.body)?;
+    }
+    Ok(())
+}
+
+// A function, with the names that are local to it. `number` moves past its number: there are at most
 // 2^32, and past them memory counts as refused.
 fn emit_function(
     table: &mut CodeTable,
     locals: &Names,
     number: &mut u32,
-    parameters: usize,
-    body: &[Stmt],
+    function: &Define,
 ) -> Result<(), NoMemory>
-    ensures ok { OnOk result (GainsRoutines table.old table.new (stmts_code locals.now 0 (body_of body.now) ++ (machine.Push Nothing ∷ (machine.Return ∷ []))) ((record { at = length table.old.lines; parameters = parameters; locals = length locals.now }) ∷ [])) }
+    ensures ok { OnOk result (GainsRoutines table.old table.new (stmts_code locals.now 0 (body_of function.now.body.items) ++ (machine.Push Nothing ∷ (machine.Return ∷ []))) ((record { at = length table.old.lines; parameters = length function.now.parameters.items; locals = length locals.now }) ∷ [])) }
     ensures number { OnOk result (number.new ≡ number.old + 1) }
     ensures extends { Extends table.old table.new }
 {
     let routine = Routine {
         at: table.len(),
-        parameters: u32::try_from(parameters).map_err(|_| AllocError)?,
+        parameters: u32::try_from(function.parameters.len()).map_err(|_| AllocError)?,
         locals: u32::try_from(locals.len()).map_err(|_| AllocError)?,
     };
     *number = number.checked_add(1).ok_or(AllocError)?;
     let mut next = 0;
-    emit_suite(table, locals, &mut next, body)?;
+    emit_suite(table, locals, &mut next, &function.body)?;
     emit_end(table)?;
     table.add_routine(routine)
 }

@@ -2,6 +2,7 @@ pub mod Numbers
 pub mod Places
 pub mod Steps
 pub mod Turns
+pub mod Built
 pub mod Literals
 pub mod Strings
 pub mod Laws

@@ -4,12 +4,12 @@ use Rattle.std.specs.Prelude.{nat_lt, Bool, true, false, if◌then◌else◌}
 use Rattle.std.proofs.lemmas.Bool.Decides.{nat_tests}
 use Rattle.si_semantics.specs.Value.{Text}
 use Rattle.si_semantics.specs.Tree as tree
-use Rattle.si_semantics.specs.Tree.{Expr, Stmt, Stmts}
+use Rattle.si_semantics.specs.Tree.{Expr, Stmt, Stmts, Target}
 use Rattle.si_semantics.specs.Tokens as token
 use Rattle.si_semantics.specs.Grammar.{Terminal, DEDENT, Branch, stmts_of, Clause, clauses_of, Sign, Word}
 use Rattle.si_parse.specs.declared.fault.ParseFault.{ParseFault}
 use Rattle.si_parse.specs.declared.fault.ParseFault.TheVariants.{Syntax, NoMemory}
-use Rattle.si_parse.specs.inner.Reading.{Parser, Step, Continuation, strength_of, then_read, strength_at, continuation_at, closing, behind_item, separated_by, chain_from, chain_by, Parsed, many_by, extended_by, continued_by, rest_of, name_at, and_name, next_name_by, Header, header_at, LineParser, with_branch, branch_by, elif_by, otherwise_by, suite_by, handlers_by, finally_from, try_by, after_catch, with_clause, clause_by, catch_by, handled_from, tried, compound_by, with_compound, block_from, block_at, after}
+use Rattle.si_parse.specs.inner.Reading.{Parser, Step, Continuation, strength_of, then_read, strength_at, continuation_at, closing, behind_item, separated_by, chain_from, chain_by, Parsed, many_by, extended_by, continued_by, rest_of, name_at, and_name, next_name_by, Header, header_at, LineParser, with_branch, branch_by, elif_by, otherwise_by, joined_while, while_by, target_by, joined_for, for_by, parameters_by, defined_by, define_by, suite_by, handlers_by, finally_from, try_by, after_catch, with_clause, clause_by, catch_by, handled_from, tried, compound_by, with_compound, block_from, block_at, after}
 use Rattle.si_parse.specs.inner.Gives.{Fails}
 use Rattle.si_parse.proofs.Steps.{continued_by_step, separated_by_step, chain_by_step, many_by_step, block_at_step}
 
@@ -113,6 +113,35 @@ elif_read line bs ts rest b more is h = ap (λ o. then_read o (λ rest. then_rea
 
 pub catch_read : (line : LineParser) (cs : List Clause) (ts rest : List Terminal) (c : Clause) (more : List Terminal) → after_catch ts ≡ Some rest → clause_by line rest ≡ Some (c, more) → catch_by line cs ts ≡ Some (cs ++ c ∷ [], more)
 catch_read line cs ts rest c more is h = ap (λ o. then_read o (λ rest. then_read (clause_by line rest) (with_clause cs))) is ∙ ap (λ o. then_read o (with_clause cs)) h
+
+-- the other compound statements behind their words
+pub while_read : (line : LineParser) (ts : List Terminal) (b : Branch) (behind : List Terminal) (last : List Stmt) (more : List Terminal) → branch_by line ts ≡ Some (b, behind) → otherwise_by line behind ≡ Some (last, more)
+    → while_by line ts ≡ Some (tree.While b.0 b.1 (stmts_of last), more)
+while_read line ts b behind last more h i = ap (λ o. then_read o (λ b. then_read (otherwise_by line b.1) (joined_while b.0))) h ∙ ap (λ o. then_read o (joined_while b)) i
+
+pub for_read : (line : LineParser) (ts : List Terminal) (t : Target) (first : List Terminal) (b : Branch) (behind : List Terminal) (last : List Stmt) (more : List Terminal) → target_by ts ≡ Some (t, first)
+    → branch_by line first ≡ Some (b, behind) → otherwise_by line behind ≡ Some (last, more) → for_by line ts ≡ Some (tree.For t b.0 b.1 (stmts_of last), more)
+for_read line ts t first b behind last more h i j =
+    ap (λ o. then_read o (λ t. then_read (branch_by line t.1) (λ b. then_read (otherwise_by line b.1) (joined_for t.0 b.0)))) h
+    ∙ ap (λ o. then_read o (λ b. then_read (otherwise_by line b.1) (joined_for t b.0))) i
+    ∙ ap (λ o. then_read o (joined_for t b)) j
+
+pub define_read : (line : LineParser) (ts : List Terminal) (x : Text) (opened first : List Terminal) (ps : List Text) (behind : List Terminal) (body : List Stmt) (more : List Terminal) → name_at ts ≡ Some (x, opened)
+    → after (Sign token.LeftParenthesis) opened ≡ Some first → parameters_by first ≡ Some (ps, behind) → suite_by line behind ≡ Some (body, more) → define_by line ts ≡ Some (tree.Define x ps (stmts_of body), more)
+define_read line ts x opened first ps behind body more h i j k =
+    ap (λ o. then_read o (λ n. then_read (after (Sign token.LeftParenthesis) n.1) (λ rest. then_read (parameters_by rest) (defined_by line n.0)))) h
+    ∙ ap (λ o. then_read o (λ rest. then_read (parameters_by rest) (defined_by line x))) i
+    ∙ ap (λ o. then_read o (defined_by line x)) j
+    ∙ ap (λ o. then_read o (λ b. Some (tree.Define x ps (stmts_of b.0), b.1))) k
+
+pub finally_read : (line : LineParser) (ts : List Terminal) (body : List Stmt) (behind : List Terminal) (cs : List Clause) (last : List Stmt) (more rest : List Terminal) (end : List Stmt) (done : List Terminal) → suite_by line ts ≡ Some (body, behind)
+    → handlers_by line behind ≡ Some ((cs, last), more) → after (Word token.FinallyWord) more ≡ Some rest → suite_by line rest ≡ Some (end, done)
+    → try_by line ts ≡ Some (tree.Finally (stmts_of body) (clauses_of cs) (stmts_of last) (stmts_of end), done)
+finally_read line ts body behind cs last more rest end done h i is j =
+    ap (λ o. then_read o (λ b. then_read (handlers_by line b.1) (λ h. finally_from line (stmts_of b.0) h (after (Word token.FinallyWord) h.1)))) h
+    ∙ ap (λ o. then_read o (λ h. finally_from line (stmts_of body) h (after (Word token.FinallyWord) h.1))) i
+    ∙ ap (finally_from line (stmts_of body) ((cs, last), more)) is
+    ∙ ap (λ o. then_read o (λ b. Some (tree.Finally (stmts_of body) (clauses_of cs) (stmts_of last) (stmts_of b.0), b.1))) j
 
 -- with a clause at least an `else` may follow, and no `finally` need
 pub handled_some : (line : LineParser) (cs : List Clause) (ts : List Terminal) → 0 < length cs → handled_from line cs ts ≡ then_read (otherwise_by line ts) (λ o. Some ((cs, o.0), o.1))

@@ -16,7 +16,7 @@ use crate::precedence::EXPRESSION;
 use crate::statement::line;
 use crate::target::target;
 use si_plain::limits::MAX_EXPRESSION_DEPTH;
-use si_syntax::{Expr, Stmt};
+use si_syntax::{Branch, Define, For, If, Stmt, While};
 use si_token::{Keyword, Symbol, Token};
 use std::alloc::Global;
 
@@ -83,10 +83,10 @@ fn if_statement(
     requires { parts < 999 }
     ensures { Gives (λ x. (stmt_of x.0, from tokens.now x.1)) result (if_by (block_at parts) (from tokens.now start)) }
 {
-    let ((test, body), behind) = branch(alloc, parts, tokens, start)?;
+    let (first, behind) = branch(alloc, parts, tokens, start)?;
     let (elifs, at) = elifs(alloc, parts, tokens, behind)?;
     let (last, end) = otherwise(alloc, parts, tokens, at)?;
-    Ok((Stmt::If(test, body, elifs, last), end))
+    Ok((Stmt::If(If { first, elifs, last }), end))
 }
 
 // The statement from behind its `while`.
@@ -100,9 +100,10 @@ fn while_statement(
     requires { parts < 999 }
     ensures { Gives (λ x. (stmt_of x.0, from tokens.now x.1)) result (while_by (block_at parts) (from tokens.now start)) }
 {
-    let ((test, body), at) = branch(alloc, parts, tokens, start)?;
+    let (first, at) = branch(alloc, parts, tokens, start)?;
+    let Branch { test, body } = first;
     let (last, end) = otherwise(alloc, parts, tokens, at)?;
-    Ok((Stmt::While(test, body, last), end))
+    Ok((Stmt::While(While { test, body, last }), end))
 }
 
 // The statement from behind its `for`.
@@ -117,9 +118,16 @@ fn for_statement(
     ensures { Gives (λ x. (stmt_of x.0, from tokens.now x.1)) result (for_by (block_at parts) (from tokens.now start)) }
 {
     let (target, behind) = target(alloc, tokens, start)?;
-    let ((over, body), at) = branch(alloc, parts, tokens, behind)?;
+    let (first, at) = branch(alloc, parts, tokens, behind)?;
+    let Branch { test: items, body } = first;
     let (last, end) = otherwise(alloc, parts, tokens, at)?;
-    Ok((Stmt::For(target, over, body, last), end))
+    let statement = For {
+        target,
+        items,
+        body,
+        last,
+    };
+    Ok((Stmt::For(statement), end))
 }
 
 // The statement from behind its `def`, which stands in the line.
@@ -140,7 +148,13 @@ fn definition(
     };
     let (parameters, at) = parameters(alloc, tokens, first)?;
     let (body, end) = suite(alloc, parts, tokens, at)?;
-    Ok((Stmt::Define(line, name, parameters, body), end))
+    let statement = Define {
+        line,
+        name,
+        parameters,
+        body,
+    };
+    Ok((Stmt::Define(statement), end))
 }
 
 // A test and its suite, and the place behind them.
@@ -150,13 +164,13 @@ fn branch(
     parts: u32,
     tokens: &[Token],
     start: usize,
-) -> Result<((Expr, Vec<Stmt>), usize), ParseFault>
+) -> Result<(Branch, usize), ParseFault>
     requires { parts < 999 }
-    ensures { Gives (λ x. (branch_of x.0.0 x.0.1.items, from tokens.now x.1)) result (branch_by (block_at parts) (from tokens.now start)) }
+    ensures { Gives (λ x. (branch_of x.0, from tokens.now x.1)) result (branch_by (block_at parts) (from tokens.now start)) }
 {
     let (test, _, at) = expression(alloc, MAX_EXPRESSION_DEPTH, EXPRESSION, tokens, start)?;
     let (body, end) = suite(alloc, parts, tokens, at)?;
-    Ok(((test, body), end))
+    Ok((Branch { test, body }, end))
 }
 
 // The test and the suite of each `elif`, and the place behind them.
@@ -167,9 +181,9 @@ fn elifs(
     parts: u32,
     tokens: &[Token],
     start: usize,
-) -> Result<(Vec<(Expr, Vec<Stmt>)>, usize), ParseFault>
+) -> Result<(Vec<Branch>, usize), ParseFault>
     requires { parts < 999 }
-    ensures { Gives (λ x. (map (λ b. branch_of b.0 b.1.items) x.0.items, from tokens.now x.1)) result (elifs_by (block_at parts) (from tokens.now start)) }
+    ensures { Gives (λ x. (map branch_of x.0.items, from tokens.now x.1)) result (elifs_by (block_at parts) (from tokens.now start)) }
 {
     let mut elifs = Vec::new(alloc);
     let mut at = start;

@@ -13,7 +13,7 @@ use crate::lookahead::{after_catch, after_word, line_at};
 use crate::name::name;
 use crate::precedence::EXPRESSION;
 use si_plain::limits::MAX_EXPRESSION_DEPTH;
-use si_syntax::{Clause, Expr, Stmt};
+use si_syntax::{Clause, Expr, Finally, Stmt, Try};
 use si_token::{Keyword, Token};
 use std::alloc::Global;
 
@@ -22,7 +22,7 @@ type Clauses = Result<(Vec<Clause>, usize), ParseFault>;
 
 // The statement from behind its `try`.
 #[cycle(blocks)]
-#[tactic(auto, using(si_syntax::proofs::Forms::finally_is, crate::proofs::Turns::tried_none))]
+#[tactic(auto, using(crate::proofs::Turns::tried_none))]
 pub(crate) fn try_statement(
     alloc: Global,
     parts: u32,
@@ -36,12 +36,26 @@ pub(crate) fn try_statement(
     let (clauses, last, at) = handlers(alloc, parts, tokens, behind)?;
     if let Some(cleanup) = after_word(tokens, at, Keyword::Finally) {
         let (cleanup, end) = suite(alloc, parts, tokens, cleanup)?;
-        return Ok((Stmt::Finally(body, clauses, last, cleanup), end));
+        let tried = Try {
+            body,
+            clauses,
+            last,
+        };
+        let statement = Finally {
+            tried,
+            end: cleanup,
+        };
+        return Ok((Stmt::Finally(statement), end));
     }
     if clauses.is_empty() {
         return Err(ParseFault::Syntax(line_at(tokens, at)));
     }
-    Ok((Stmt::Try(body, clauses, last), at))
+    let statement = Try {
+        body,
+        clauses,
+        last,
+    };
+    Ok((Stmt::Try(statement), at))
 }
 
 // The except clauses, the suite of the `else` behind them, and the place behind it. Without a clause no `else` is read.
@@ -96,7 +110,11 @@ fn bare(alloc: Global, parts: u32, before: Vec<Clause>, tokens: &[Token], at: us
     };
     let (body, end) = suite(alloc, parts, tokens, behind)?;
     let mut clauses = before;
-    clauses.push((None, None, body))?;
+    clauses.push(Clause {
+        value: None,
+        name: None,
+        body,
+    })?;
     Ok((clauses, end))
 }
 
@@ -113,7 +131,12 @@ fn clause(
 {
     let (value, name, at) = caught(alloc, tokens, start)?;
     let (body, end) = suite(alloc, parts, tokens, at)?;
-    Ok(((Some(value), name, body), end))
+    let clause = Clause {
+        value: Some(value),
+        name,
+        body,
+    };
+    Ok((clause, end))
 }
 
 // The expression of an except clause, the name behind its `as` where there is one, and the place behind them.

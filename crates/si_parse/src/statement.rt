@@ -16,7 +16,7 @@ use crate::precedence::EXPRESSION;
 use crate::target::as_target;
 use si_plain::BinaryOperator;
 use si_plain::limits::{MAX_EXPRESSION_DEPTH, MAX_NESTING};
-use si_syntax::{Expr, Stmt};
+use si_syntax::{Assign, Augment, Expr, Stmt};
 use si_token::{Keyword, Symbol, Token, TokenKind};
 use std::alloc::Global;
 
@@ -82,8 +82,15 @@ fn spelled(alloc: Global, tokens: &[Token], start: usize) -> Result<(Stmt, usize
     };
     let (value, _, end) = expression(alloc, MAX_EXPRESSION_DEPTH, EXPRESSION, tokens, behind)?;
     match operator {
-        None => Ok((Stmt::Assign(target, value), end)),
-        Some(operator) => Ok((Stmt::Augment(target, operator, value), end)),
+        None => Ok((Stmt::Assign(Assign { target, value }), end)),
+        Some(operator) => {
+            let statement = Augment {
+                target,
+                operator,
+                value,
+            };
+            Ok((Stmt::Augment(statement), end))
+        }
     }
 }
 

@@ -1,12 +1,14 @@
 // The suites of functions.
-ghost use Rattle.std.specs.Prelude.{false};
-ghost use Rattle.si_syntax.specs.Trees.{body_of, stmt_of};
+ghost use Rattle.std.specs.Prelude.{false, map};
+ghost use Rattle.si_semantics.specs.Grammar.{clauses_of};
+ghost use Rattle.si_semantics.specs.Scope.{names_of};
+ghost use Rattle.si_syntax.specs.Trees.{body_of, branch_of, clause_of, if_of, others_of, stmt_of, try_of};
 ghost use Rattle.si_scope.specs.Faults.{Leaves};
-ghost use Rattle.si_scope.specs.inner.Walk.{after, after_all, after_try, after_clauses, clauses_in};
+ghost use Rattle.si_scope.specs.inner.Walk.{after, after_all, after_clauses, using};
 
 use crate::fault::{ScopeFault, allowed};
 use crate::seen::Seen;
-use si_syntax::Stmt;
+use si_syntax::{Assign, Branch, Clause, Finally, If, Stmt, Try, While};
 
 // Where statements of a function stand: in a loop of it or in none, and whether `return` may stand there.
 #[derive(Clone, Copy)]
@@ -43,76 +45,90 @@ pub(crate) fn see_suite(suite: &[Stmt], place: Place, seen: &mut Seen) -> Result
 
 // The same, of one statement.
 #[cycle(suite)]
+#[tactic(auto, using(si_syntax::proofs::Forms::if_is, si_syntax::proofs::Forms::try_is, si_syntax::proofs::Forms::finally_is, crate::proofs::Turns::finally_front, si_syntax::proofs::Forms::while_is, si_syntax::proofs::Forms::for_is, si_syntax::proofs::Forms::define_is))]
 fn see_stmt(stmt: &Stmt, place: Place, seen: &mut Seen) -> Result<(), ScopeFault>
     ensures { Leaves seen.new result (after (stmt_of stmt.now) place.in_loop place.may_return seen.old) }
 {
     match stmt {
         Stmt::Evaluate(expr) => Ok(seen.use_expr(expr)?),
         Stmt::Raise(value) => Ok(seen.use_value(value)?),
-        Stmt::Assign(target, expr) | Stmt::Augment(target, _, expr) => Ok(seen.set(target, expr)?),
+        Stmt::Assign(Assign { target, value }) => Ok(seen.set(target, value)?),
+        Stmt::Augment(statement) => Ok(seen.set(&statement.target, &statement.value)?),
         Stmt::Pass => Ok(()),
-        Stmt::If(test, body, elifs, last) => {
-            seen.use_expr(test)?;
-            see_suite(body, place, seen)?;
-            for (test, body) in elifs {
-                seen.use_expr(test)?;
-                see_suite(body, place, seen)?;
-            }
-            see_suite(last, place, seen)
-        }
-        Stmt::While(test, body, last) => {
+        Stmt::If(statement) => see_if(statement, place, seen),
+        Stmt::While(While { test, body, last }) => {
             seen.use_expr(test)?;
             see_suite(body, place.looping(), seen)?;
             see_suite(last, place, seen)
         }
-        Stmt::For(target, over, body, last) => {
-            seen.set(target, over)?;
-            see_suite(body, place.looping(), seen)?;
-            see_suite(last, place, seen)
+        Stmt::For(statement) => {
+            seen.set(&statement.target, &statement.items)?;
+            see_suite(&statement.body, place.looping(), seen)?;
+            see_suite(&statement.last, place, seen)
         }
         Stmt::Break(line) | Stmt::Continue(line) => allowed(place.in_loop, *line),
         Stmt::Return(line, value) => {
             allowed(place.may_return, *line)?;
             Ok(seen.use_value(value)?)
         }
-        Stmt::Define(line, _, _, _) => Err(ScopeFault::Scope(*line)),
+        Stmt::Define(function) => Err(ScopeFault::Scope(function.line)),
         Stmt::Global(line, names) => seen.declare(*line, names),
-        Stmt::Try(_, _, _) | Stmt::Finally(_, _, _, _) => see_try(stmt, place, seen),
-    }
-}
-
-// The suites of a `try`; other statements have none.
-#[cycle(suite)]
-fn see_try(stmt: &Stmt, place: Place, seen: &mut Seen) -> Result<(), ScopeFault>
-    ensures { Leaves seen.new result (after_try (stmt_of stmt.now) place.in_loop place.may_return seen.old) }
-{
-    match stmt {
-        Stmt::Try(body, _, last) => {
-            see_suite(body, place, seen)?;
-            see_clauses(stmt, place, seen)?;
-            see_suite(last, place, seen)
-        }
-        Stmt::Finally(body, _, last, end) => {
-            see_suite(body, place, seen)?;
-            see_clauses(stmt, place, seen)?;
-            see_suite(last, place, seen)?;
+        Stmt::Try(statement) => see_try(statement, place, seen),
+        Stmt::Finally(Finally { tried, end }) => {
+            see_try(tried, place, seen)?;
             see_end(end, seen)
         }
-        _ => Ok(()),
     }
 }
 
-// The clauses of a `try`; other statements have none.
+// The same, of an `if`.
 #[cycle(suite)]
-fn see_clauses(stmt: &Stmt, place: Place, seen: &mut Seen) -> Result<(), ScopeFault>
-    ensures { Leaves seen.new result (after_clauses (clauses_in (stmt_of stmt.now)) place.in_loop place.may_return seen.old) }
+fn see_if(statement: &If, place: Place, seen: &mut Seen) -> Result<(), ScopeFault>
+    ensures { Leaves seen.new result (after (if_of statement.now) place.in_loop place.may_return seen.old) }
 {
-    if let Stmt::Try(_, clauses, _) | Stmt::Finally(_, clauses, _, _) = stmt {
-        for (value, name, body) in clauses {
-            seen.use_value(value)?;
-            seen.bind_any(name)?;
-            see_suite(body, place, seen)?;
-        }
+    see_branch(&statement.first, place, seen)?;
+    see_others(statement, place, seen)
+}
+
+// The test and the suite of a branch.
+#[cycle(suite)]
+fn see_branch(branch: &Branch, place: Place, seen: &mut Seen) -> Result<(), ScopeFault>
+    ensures { let is = branch_of branch.now in Leaves seen.new result (after_all is.1 place.in_loop place.may_return (using (names_of is.0) seen.old)) }
+{
+    seen.use_expr(&branch.test)?;
+    see_suite(&branch.body, place, seen)
+}
+
+// The `elif`s of an `if`, and the suite of its `else`.
+#[cycle(suite)]
+fn see_others(statement: &If, place: Place, seen: &mut Seen) -> Result<(), ScopeFault>
+    ensures { Leaves seen.new result (after_all (others_of statement.now) place.in_loop place.may_return seen.old) }
+{
+    for branch in &statement.elifs {
+        see_branch(branch, place, seen)?;
+    }
+    see_suite(&statement.last, place, seen)
+}
+
+// A `try` without its `finally`.
+#[cycle(suite)]
+fn see_try(statement: &Try, place: Place, seen: &mut Seen) -> Result<(), ScopeFault>
+    ensures { Leaves seen.new result (after (try_of statement.now) place.in_loop place.may_return seen.old) }
+{
+    see_suite(&statement.body, place, seen)?;
+    see_clauses(&statement.clauses, place, seen)?;
+    see_suite(&statement.last, place, seen)
+}
+
+// The `except` clauses of a `try`.
+#[cycle(suite)]
+fn see_clauses(clauses: &[Clause], place: Place, seen: &mut Seen) -> Result<(), ScopeFault>
+    ensures { Leaves seen.new result (after_clauses (clauses_of (map clause_of clauses.now)) place.in_loop place.may_return seen.old) }
+{
+    for clause in clauses {
+        seen.use_value(&clause.value)?;
+        seen.bind_any(&clause.name)?;
+        see_suite(&clause.body, place, seen)?;
     }
     Ok(())
 }

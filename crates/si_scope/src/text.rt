@@ -1,18 +1,19 @@
 // Whole scripts.
 ghost use Rattle.std.specs.Prelude.{◌≡◌, IfOk, IfErr, false, map, string_bytes};
+ghost use Rattle.si_semantics.specs.Grammar.{clauses_of};
 ghost use Rattle.si_semantics.specs.Scope.{is_scoped};
 ghost use Rattle.si_syntax.specs.Modules.{tree_of};
-ghost use Rattle.si_syntax.specs.Trees.{body_of, stmt_of};
+ghost use Rattle.si_syntax.specs.Trees.{body_of, clause_of, if_of, others_of, stmt_of, try_of};
 ghost use Rattle.si_scope.specs.Faults.{IsScope, Leaves, Returns};
 ghost use Rattle.si_scope.specs.Scripts.{script_of};
-ghost use Rattle.si_scope.specs.inner.Walk.{local_to, resolved, resolved_all, resolved_try, resolved_clauses, clauses_in};
+ghost use Rattle.si_scope.specs.inner.Walk.{local_to, resolved, resolved_all, resolved_clauses};
 
 use crate::fault::{ScopeFault, allowed};
 use crate::scoped::Scoped;
 use crate::seen::Seen;
 use crate::suite::{Place, see_suite};
 use si_plain::Names;
-use si_syntax::{Line, Module, Stmt};
+use si_syntax::{Clause, Define, Finally, If, Module, Stmt, Try};
 use std::alloc::Global;
 
 /// The script of a tree with its names resolved: which are local to each of its functions.
@@ -54,6 +55,7 @@ fn resolve_suite(
 
 // The same, of one statement.
 #[cycle(text)]
+#[tactic(auto, using(si_syntax::proofs::Forms::if_is, si_syntax::proofs::Forms::try_is, si_syntax::proofs::Forms::finally_is, crate::proofs::Texts::finally_front, si_syntax::proofs::Forms::while_is, si_syntax::proofs::Forms::for_is, si_syntax::proofs::Forms::define_is))]
 fn resolve_stmt(
     alloc: Global,
     stmt: &Stmt,
@@ -63,91 +65,103 @@ fn resolve_stmt(
     ensures { Leaves locals.new.items result (resolved (stmt_of stmt.now) in_loop locals.old.items) }
 {
     match stmt {
-        Stmt::Evaluate(_)
-        | Stmt::Assign(_, _)
-        | Stmt::Augment(_, _, _)
-        | Stmt::Pass
-        | Stmt::Raise(_) => Ok(()),
-        Stmt::If(_, body, elifs, last) => {
-            resolve_suite(alloc, body, in_loop, locals)?;
-            for (_, body) in elifs {
-                resolve_suite(alloc, body, in_loop, locals)?;
-            }
-            resolve_suite(alloc, last, in_loop, locals)
+        Stmt::Evaluate(_) | Stmt::Assign(_) | Stmt::Augment(_) | Stmt::Pass | Stmt::Raise(_) => {
+            Ok(())
         }
-        Stmt::While(_, body, last) | Stmt::For(_, _, body, last) => {
-            resolve_suite(alloc, body, true, locals)?;
-            resolve_suite(alloc, last, in_loop, locals)
+        Stmt::If(statement) => resolve_if(alloc, statement, in_loop, locals),
+        Stmt::While(statement) => {
+            resolve_suite(alloc, &statement.body, true, locals)?;
+            resolve_suite(alloc, &statement.last, in_loop, locals)
+        }
+        Stmt::For(statement) => {
+            resolve_suite(alloc, &statement.body, true, locals)?;
+            resolve_suite(alloc, &statement.last, in_loop, locals)
         }
         Stmt::Break(line) | Stmt::Continue(line) => allowed(in_loop, *line),
-        Stmt::Define(line, _, parameters, body) => {
-            let names = function_locals(alloc, *line, parameters, body)?;
+        Stmt::Define(function) => {
+            let names = function_locals(alloc, function)?;
             locals.push(names)?;
             Ok(())
         }
         Stmt::Return(line, _) | Stmt::Global(line, _) => Err(ScopeFault::Scope(*line)),
-        Stmt::Try(_, _, _) | Stmt::Finally(_, _, _, _) => resolve_try(alloc, stmt, in_loop, locals),
+        Stmt::Try(statement) => resolve_try(alloc, statement, in_loop, locals),
+        Stmt::Finally(Finally { tried, end }) => {
+            resolve_try(alloc, tried, in_loop, locals)?;
+            resolve_suite(alloc, end, false, locals)
+        }
     }
 }
 
-// The suites of a `try`; other statements have none.
+// The same, of an `if`.
+#[cycle(text)]
+fn resolve_if(
+    alloc: Global,
+    statement: &If,
+    in_loop: bool,
+    locals: &mut Vec<Names>,
+) -> Result<(), ScopeFault>
+    ensures { Leaves locals.new.items result (resolved (if_of statement.now) in_loop locals.old.items) }
+{
+    resolve_suite(alloc, &statement.first.body, in_loop, locals)?;
+    resolve_others(alloc, statement, in_loop, locals)
+}
+
+// The `elif`s of an `if`, and the suite of its `else`.
+#[cycle(text)]
+fn resolve_others(
+    alloc: Global,
+    statement: &If,
+    in_loop: bool,
+    locals: &mut Vec<Names>,
+) -> Result<(), ScopeFault>
+    ensures { Leaves locals.new.items result (resolved_all (others_of statement.now) in_loop locals.old.items) }
+{
+    for branch in &statement.elifs {
+        resolve_suite(alloc, &branch.body, in_loop, locals)?;
+    }
+    resolve_suite(alloc, &statement.last, in_loop, locals)
+}
+
+// A `try` without its `finally`.
 #[cycle(text)]
 fn resolve_try(
     alloc: Global,
-    stmt: &Stmt,
+    statement: &Try,
     in_loop: bool,
     locals: &mut Vec<Names>,
 ) -> Result<(), ScopeFault>
-    ensures { Leaves locals.new.items result (resolved_try (stmt_of stmt.now) in_loop locals.old.items) }
+    ensures { Leaves locals.new.items result (resolved (try_of statement.now) in_loop locals.old.items) }
 {
-    match stmt {
-        Stmt::Try(body, _, last) => {
-            resolve_suite(alloc, body, in_loop, locals)?;
-            resolve_clauses(alloc, stmt, in_loop, locals)?;
-            resolve_suite(alloc, last, in_loop, locals)
-        }
-        Stmt::Finally(body, _, last, end) => {
-            resolve_suite(alloc, body, in_loop, locals)?;
-            resolve_clauses(alloc, stmt, in_loop, locals)?;
-            resolve_suite(alloc, last, in_loop, locals)?;
-            resolve_suite(alloc, end, false, locals)
-        }
-        _ => Ok(()),
-    }
+    resolve_suite(alloc, &statement.body, in_loop, locals)?;
+    resolve_clauses(alloc, &statement.clauses, in_loop, locals)?;
+    resolve_suite(alloc, &statement.last, in_loop, locals)
 }
 
-// The clauses of a `try`; other statements have none.
+// The `except` clauses of a `try`.
 #[cycle(text)]
 fn resolve_clauses(
     alloc: Global,
-    stmt: &Stmt,
+    clauses: &[Clause],
     in_loop: bool,
     locals: &mut Vec<Names>,
 ) -> Result<(), ScopeFault>
-    ensures { Leaves locals.new.items result (resolved_clauses (clauses_in (stmt_of stmt.now)) in_loop locals.old.items) }
+    ensures { Leaves locals.new.items result (resolved_clauses (clauses_of (map clause_of clauses.now)) in_loop locals.old.items) }
 {
-    if let Stmt::Try(_, clauses, _) | Stmt::Finally(_, clauses, _, _) = stmt {
-        for (_, _, body) in clauses {
-            resolve_suite(alloc, body, in_loop, locals)?;
-        }
+    for clause in clauses {
+        resolve_suite(alloc, &clause.body, in_loop, locals)?;
     }
     Ok(())
 }
 
-// The names that are local to a function, whose `def` stands in this line.
-fn function_locals(
-    alloc: Global,
-    line: Line,
-    parameters: &[String],
-    body: &[Stmt],
-) -> Result<Names, ScopeFault>
-    ensures { Returns result (local_to (map string_bytes parameters.now) (body_of body.now)) }
+// The names that are local to a function.
+fn function_locals(alloc: Global, function: &Define) -> Result<Names, ScopeFault>
+    ensures { Returns result (local_to (map string_bytes function.now.parameters.items) (body_of function.now.body.items)) }
 {
-    let mut seen = Seen::new(alloc, line, parameters)?;
+    let mut seen = Seen::new(alloc, function.line, &function.parameters)?;
     let place = Place {
         in_loop: false,
         may_return: true,
     };
-    see_suite(body, place, &mut seen)?;
+    see_suite(&function.body, place, &mut seen)?;
     Ok(seen.locals)
 }

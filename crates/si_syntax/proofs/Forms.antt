@@ -1,51 +1,61 @@
--- The trees that forms with lists of pairs stand for.
-use Rattle.std.proofs.Common.{◌≡◌, List, [], ◌∷◌, Option, Some, None, String, string_bytes, option_map, map, Box, Vec, Global, refl, sym, ap, ◌∙◌}
+-- The trees that forms with parts of their own stand for.
+use Rattle.std.proofs.Common.{◌≡◌, List, [], ◌∷◌, map, Box, Vec, Global, refl, sym, ap, ◌∙◌}
 use Rattle.si_semantics.specs.Tree as tree
-use Rattle.si_semantics.specs.Grammar.{chain_of, Branch, stmts_of, elifs_of, Clause, clauses_of}
+use Rattle.si_semantics.specs.Grammar.{chain_of, Branch, Clause, elifs_of, clauses_of}
 use Rattle.si_plain.specs.declared.operators.ComparisonOperator.{ComparisonOperator}
 use Rattle.si_syntax.specs.declared.expr.Expr.{Expr}
 use Rattle.si_syntax.specs.declared.expr.Expr.TheFolds.{fold-roll-Expr}
 use Rattle.si_syntax.specs.declared.expr.Expr.TheOpen.{Expr-F}
 use Rattle.si_syntax.specs.declared.expr.Expr.TheVariants.{rolls-Compare}
 use Rattle.si_syntax.specs.declared.expr.Expr.TheViews as views
-use Rattle.si_syntax.specs.declared.stmt.Stmt.{Stmt}
-use Rattle.si_syntax.specs.declared.stmt.Stmt.TheFolds.{fold-Stmt, fold-roll-Stmt}
-use Rattle.si_syntax.specs.declared.stmt.Stmt.TheShapes.{former-Stmt-If-2-at-3, former-Stmt-Try-1-at-4}
+use Rattle.si_syntax.specs.declared.stmt.Branch.{Branch as BranchParts}
+use Rattle.si_syntax.specs.declared.stmt.Clause.{Clause as ClauseParts}
+use Rattle.si_syntax.specs.declared.stmt.If.{If, out-If}
+use Rattle.si_syntax.specs.declared.stmt.Try.{Try, out-Try}
+use Rattle.si_syntax.specs.declared.stmt.Finally.{Finally, out-Finally}
+use Rattle.si_syntax.specs.declared.stmt.While.{While}
+use Rattle.si_syntax.specs.declared.stmt.For.{For}
+use Rattle.si_syntax.specs.declared.stmt.Define.{Define}
+use Rattle.si_syntax.specs.declared.stmt.Stmt.TheFolds.{fold-Branch, fold-Clause, fold-Try, fold-roll-Stmt, fold_out-Branch, fold_out-Clause, fold_out-Define, fold_out-Finally, fold_out-For, fold_out-If, fold_out-Try, fold_out-While}
 use Rattle.si_syntax.specs.declared.stmt.Stmt.TheOpen.{Stmt-F}
-use Rattle.si_syntax.specs.declared.stmt.Stmt.TheVariants.{rolls-If, rolls-Try, rolls-Finally}
-use Rattle.si_syntax.specs.declared.stmt.Stmt.TheViews as stmts
-use Rattle.si_syntax.specs.Trees.{expr_of, view_step, link_of, stmt_of, stmt_step, branch_of, clause_step, clause_of}
+use Rattle.si_syntax.specs.declared.stmt.Stmt.TheVariants as stmts
+use Rattle.si_syntax.specs.declared.stmt.Stmt.TheVariants.{rolls-Define, rolls-Finally, rolls-For, rolls-If, rolls-Try, rolls-While}
+use Rattle.si_syntax.specs.Trees.{body_of, expr_of, view_step, link_of, Tried, stmt_of, stmt_step, branch_step, clause_step, define_step, finally_step, for_step, if_step, try_step, while_step, branch_of, clause_of, define_of, finally_of, for_of, if_of, try_of, tried_of, while_of}
 
 pub compare_is : (a : Box Expr Global) (ls : Vec (ComparisonOperator × Expr) Global) → expr_of (views.Compare a ls) ≡ tree.Compare (expr_of a.value) (chain_of (map link_of ls.items))
 compare_is a ls =
     ap expr_of (sym (rolls-Compare a ls)) ∙ fold-roll-Expr tree.Expr view_step (Expr-F.Compare a ls)
 
-abbrev branch_seen : Expr × Vec Stmt Global → Branch
-branch_seen b = branch_of b.0 b.1.items
-
-branches_are : (bs : List (Expr × Vec Stmt Global))
-    → map {A = Expr × Vec tree.Stmt Global} {B = Branch} (λ b. (expr_of b.0, stmts_of b.1.items)) (map (former-Stmt-If-2-at-3.map Stmt tree.Stmt (fold-Stmt tree.Stmt stmt_step)) bs) ≡ map branch_seen bs
+branches_are : (bs : List BranchParts) → map (fold-Branch tree.Stmt Branch Clause tree.Stmt tree.Stmt tree.Stmt tree.Stmt Tried tree.Stmt stmt_step branch_step clause_step define_step finally_step for_step if_step try_step while_step) bs ≡ map branch_of bs
 branches_are [] = refl
-branches_are (b ∷ bs) = ap (λ r. branch_seen b ∷ r) (branches_are bs)
+branches_are (b ∷ bs) = ap (λ x. x ∷ map (fold-Branch tree.Stmt Branch Clause tree.Stmt tree.Stmt tree.Stmt tree.Stmt Tried tree.Stmt stmt_step branch_step clause_step define_step finally_step for_step if_step try_step while_step) bs) (fold_out-Branch tree.Stmt Branch Clause tree.Stmt tree.Stmt tree.Stmt tree.Stmt Tried tree.Stmt stmt_step branch_step clause_step define_step finally_step for_step if_step try_step while_step b) ∙ ap (λ r. branch_of b ∷ r) (branches_are bs)
 
-pub if_is : (test : Expr) (body : Vec Stmt Global) (elifs : Vec (Expr × Vec Stmt Global) Global) (last : Vec Stmt Global)
-    → stmt_of (stmts.If test body elifs last) ≡ tree.If (expr_of test) (stmts_of (map stmt_of body.items)) (elifs_of (map (λ b. branch_of b.0 b.1.items) elifs.items) (stmts_of (map stmt_of last.items)))
-if_is test body elifs last =
-    ap stmt_of (sym (rolls-If test body elifs last)) ∙ fold-roll-Stmt tree.Stmt stmt_step (Stmt-F.If test body elifs last)
-    ∙ ap (λ l. tree.If (expr_of test) (stmts_of (map stmt_of body.items)) (elifs_of l (stmts_of (map stmt_of last.items)))) (branches_are elifs.items)
-
-clauses_are : (cs : List (Option Expr × Option (String Global) × Vec Stmt Global)) → map clause_step (map (former-Stmt-Try-1-at-4.map Stmt tree.Stmt (fold-Stmt tree.Stmt stmt_step)) cs) ≡ map clause_of cs
+clauses_are : (cs : List ClauseParts) → map (fold-Clause tree.Stmt Branch Clause tree.Stmt tree.Stmt tree.Stmt tree.Stmt Tried tree.Stmt stmt_step branch_step clause_step define_step finally_step for_step if_step try_step while_step) cs ≡ map clause_of cs
 clauses_are [] = refl
-clauses_are (c ∷ cs) = ap (λ r. clause_of c ∷ r) (clauses_are cs)
+clauses_are (c ∷ cs) = ap (λ x. x ∷ map (fold-Clause tree.Stmt Branch Clause tree.Stmt tree.Stmt tree.Stmt tree.Stmt Tried tree.Stmt stmt_step branch_step clause_step define_step finally_step for_step if_step try_step while_step) cs) (fold_out-Clause tree.Stmt Branch Clause tree.Stmt tree.Stmt tree.Stmt tree.Stmt Tried tree.Stmt stmt_step branch_step clause_step define_step finally_step for_step if_step try_step while_step c) ∙ ap (λ r. clause_of c ∷ r) (clauses_are cs)
 
-pub try_is : (body : Vec Stmt Global) (cs : Vec (Option Expr × Option (String Global) × Vec Stmt Global) Global) (last : Vec Stmt Global)
-    → stmt_of (stmts.Try body cs last) ≡ tree.Try (stmts_of (map stmt_of body.items)) (clauses_of (map clause_of cs.items)) (stmts_of (map stmt_of last.items))
-try_is body cs last =
-    ap stmt_of (sym (rolls-Try body cs last)) ∙ fold-roll-Stmt tree.Stmt stmt_step (Stmt-F.Try body cs last)
-    ∙ ap (λ l. tree.Try (stmts_of (map stmt_of body.items)) (clauses_of l) (stmts_of (map stmt_of last.items))) (clauses_are cs.items)
+tried_is : (t : Try) → fold-Try tree.Stmt Branch Clause tree.Stmt tree.Stmt tree.Stmt tree.Stmt Tried tree.Stmt stmt_step branch_step clause_step define_step finally_step for_step if_step try_step while_step t ≡ tried_of t
+tried_is t = fold_out-Try tree.Stmt Branch Clause tree.Stmt tree.Stmt tree.Stmt tree.Stmt Tried tree.Stmt stmt_step branch_step clause_step define_step finally_step for_step if_step try_step while_step t ∙ ap (λ cs. ((tried_of t).0, cs, (tried_of t).2)) (clauses_are (out-Try t).clauses.items)
 
-pub finally_is : (body : Vec Stmt Global) (cs : Vec (Option Expr × Option (String Global) × Vec Stmt Global) Global) (last final : Vec Stmt Global)
-    → stmt_of (stmts.Finally body cs last final) ≡ tree.Finally (stmts_of (map stmt_of body.items)) (clauses_of (map clause_of cs.items)) (stmts_of (map stmt_of last.items)) (stmts_of (map stmt_of final.items))
-finally_is body cs last final =
-    ap stmt_of (sym (rolls-Finally body cs last final)) ∙ fold-roll-Stmt tree.Stmt stmt_step (Stmt-F.Finally body cs last final)
-    ∙ ap (λ l. tree.Finally (stmts_of (map stmt_of body.items)) (clauses_of l) (stmts_of (map stmt_of last.items)) (stmts_of (map stmt_of final.items))) (clauses_are cs.items)
+pub if_is : (i : If) → stmt_of (stmts.If i) ≡ if_of i
+if_is i =
+    ap stmt_of (sym (rolls-If i)) ∙ fold-roll-Stmt tree.Stmt Branch Clause tree.Stmt tree.Stmt tree.Stmt tree.Stmt Tried tree.Stmt stmt_step branch_step clause_step define_step finally_step for_step if_step try_step while_step (Stmt-F.If i) ∙ fold_out-If tree.Stmt Branch Clause tree.Stmt tree.Stmt tree.Stmt tree.Stmt Tried tree.Stmt stmt_step branch_step clause_step define_step finally_step for_step if_step try_step while_step i
+    ∙ ap (λ b. tree.If b.0 b.1 (elifs_of (map (fold-Branch tree.Stmt Branch Clause tree.Stmt tree.Stmt tree.Stmt tree.Stmt Tried tree.Stmt stmt_step branch_step clause_step define_step finally_step for_step if_step try_step while_step) (out-If i).elifs.items) (body_of (out-If i).last.items))) (fold_out-Branch tree.Stmt Branch Clause tree.Stmt tree.Stmt tree.Stmt tree.Stmt Tried tree.Stmt stmt_step branch_step clause_step define_step finally_step for_step if_step try_step while_step (out-If i).first)
+    ∙ ap (λ l. tree.If (branch_of (out-If i).first).0 (branch_of (out-If i).first).1 (elifs_of l (body_of (out-If i).last.items))) (branches_are (out-If i).elifs.items)
+
+pub while_is : (w : While) → stmt_of (stmts.While w) ≡ while_of w
+while_is w = ap stmt_of (sym (rolls-While w)) ∙ fold-roll-Stmt tree.Stmt Branch Clause tree.Stmt tree.Stmt tree.Stmt tree.Stmt Tried tree.Stmt stmt_step branch_step clause_step define_step finally_step for_step if_step try_step while_step (Stmt-F.While w) ∙ fold_out-While tree.Stmt Branch Clause tree.Stmt tree.Stmt tree.Stmt tree.Stmt Tried tree.Stmt stmt_step branch_step clause_step define_step finally_step for_step if_step try_step while_step w
+
+pub for_is : (f : For) → stmt_of (stmts.For f) ≡ for_of f
+for_is f = ap stmt_of (sym (rolls-For f)) ∙ fold-roll-Stmt tree.Stmt Branch Clause tree.Stmt tree.Stmt tree.Stmt tree.Stmt Tried tree.Stmt stmt_step branch_step clause_step define_step finally_step for_step if_step try_step while_step (Stmt-F.For f) ∙ fold_out-For tree.Stmt Branch Clause tree.Stmt tree.Stmt tree.Stmt tree.Stmt Tried tree.Stmt stmt_step branch_step clause_step define_step finally_step for_step if_step try_step while_step f
+
+pub define_is : (d : Define) → stmt_of (stmts.Define d) ≡ define_of d
+define_is d = ap stmt_of (sym (rolls-Define d)) ∙ fold-roll-Stmt tree.Stmt Branch Clause tree.Stmt tree.Stmt tree.Stmt tree.Stmt Tried tree.Stmt stmt_step branch_step clause_step define_step finally_step for_step if_step try_step while_step (Stmt-F.Define d) ∙ fold_out-Define tree.Stmt Branch Clause tree.Stmt tree.Stmt tree.Stmt tree.Stmt Tried tree.Stmt stmt_step branch_step clause_step define_step finally_step for_step if_step try_step while_step d
+
+pub try_is : (t : Try) → stmt_of (stmts.Try t) ≡ try_of t
+try_is t = ap stmt_of (sym (rolls-Try t)) ∙ fold-roll-Stmt tree.Stmt Branch Clause tree.Stmt tree.Stmt tree.Stmt tree.Stmt Tried tree.Stmt stmt_step branch_step clause_step define_step finally_step for_step if_step try_step while_step (Stmt-F.Try t) ∙ ap (λ x. tree.Try x.0 (clauses_of x.1) x.2) (tried_is t)
+
+pub finally_is : (f : Finally) → stmt_of (stmts.Finally f) ≡ finally_of f
+finally_is f =
+    ap stmt_of (sym (rolls-Finally f)) ∙ fold-roll-Stmt tree.Stmt Branch Clause tree.Stmt tree.Stmt tree.Stmt tree.Stmt Tried tree.Stmt stmt_step branch_step clause_step define_step finally_step for_step if_step try_step while_step (Stmt-F.Finally f) ∙ fold_out-Finally tree.Stmt Branch Clause tree.Stmt tree.Stmt tree.Stmt tree.Stmt Tried tree.Stmt stmt_step branch_step clause_step define_step finally_step for_step if_step try_step while_step f
+    ∙ ap (λ x. tree.Finally x.0 (clauses_of x.1) x.2 (body_of (out-Finally f).end.items)) (tried_is (out-Finally f).tried)

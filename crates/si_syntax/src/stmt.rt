@@ -7,41 +7,127 @@ use si_plain::BinaryOperator;
 /// The line in which a statement begins, counted from 1. It is a hint for people: no tree depends on it.
 pub type Line = usize;
 
-/// An `except` clause: its expression where there is one, the name that it binds where there is one, and its suite. A
-/// name stands behind an expression alone, and a clause without an expression stands last.
-pub type Clause = (Option<Expr>, Option<String>, Vec<Stmt>);
-
-/// A statement.
+/// A statement (Python Language Reference 3.14, 7 and 8).
+#[cycle(stmts)]
 #[derive(Debug, Drop)]
 pub enum Stmt {
     /// An expression that is evaluated for its effects.
     Evaluate(Expr),
-    /// `target = expr`.
-    Assign(Target, Expr),
-    /// `target op= expr`.
-    Augment(Target, BinaryOperator, Expr),
+    Assign(Assign),
+    Augment(Augment),
     Pass,
-    /// The test and the suite of an `if`, those of each `elif`, and the suite of the `else`, which is empty where there
-    /// is none.
-    If(Expr, Vec<Stmt>, Vec<(Expr, Vec<Stmt>)>, Vec<Stmt>),
-    /// The test, the suite, and that of the `else`, which is empty where there is none.
-    While(Expr, Vec<Stmt>, Vec<Stmt>),
-    /// The target, what is gone over, the suite, and that of the `else`, which is empty where there is none.
-    For(Target, Expr, Vec<Stmt>, Vec<Stmt>),
+    If(If),
+    While(While),
+    For(For),
     Break(Line),
     Continue(Line),
-    /// `def`: the name, the parameters, of which there are 255 at most, and the suite.
-    Define(Line, String, Vec<String>, Vec<Stmt>),
+    Define(Define),
     /// `return`, and its expression where there is one.
     Return(Line, Option<Expr>),
     /// `global`, and its names, of which there is one at least.
     Global(Line, Vec<String>),
     /// `raise`, and its expression where there is one.
     Raise(Option<Expr>),
-    /// A `try` without `finally`: the suite, the clauses, of which there is one at least, and the suite of the `else`,
-    /// which is empty where there is none.
-    Try(Vec<Stmt>, Vec<Clause>, Vec<Stmt>),
-    /// A `try` with `finally`: the suite, the clauses, the suite of the `else`, which is empty where there is none or no
-    /// clause, and that of the `finally`.
-    Finally(Vec<Stmt>, Vec<Clause>, Vec<Stmt>, Vec<Stmt>),
+    Try(Try),
+    Finally(Finally),
+}
+
+/// `target = value` (Python Language Reference 3.14, 7.2).
+#[derive(Debug, Drop)]
+pub struct Assign {
+    pub target: Target,
+    pub value: Expr,
+}
+
+/// `target op= value` (Python Language Reference 3.14, 7.2.1).
+#[derive(Debug, Drop)]
+pub struct Augment {
+    pub target: Target,
+    pub operator: BinaryOperator,
+    pub value: Expr,
+}
+
+/// An `if` (Python Language Reference 3.14, 8.1).
+#[cycle(stmts)]
+#[derive(Debug, Drop)]
+pub struct If {
+    /// The `if` itself.
+    pub first: Branch,
+    /// Each `elif`.
+    pub elifs: Vec<Branch>,
+    /// The suite of the `else`, which is empty where there is none.
+    pub last: Vec<Stmt>,
+}
+
+/// A test of an `if`, and the suite that is run where it is true (Python Language Reference 3.14, 8.1).
+#[cycle(stmts)]
+#[derive(Debug, Drop)]
+pub struct Branch {
+    pub test: Expr,
+    pub body: Vec<Stmt>,
+}
+
+/// A `while` (Python Language Reference 3.14, 8.2).
+#[cycle(stmts)]
+#[derive(Debug, Drop)]
+pub struct While {
+    pub test: Expr,
+    pub body: Vec<Stmt>,
+    /// The suite of the `else`, which is empty where there is none.
+    pub last: Vec<Stmt>,
+}
+
+/// A `for` (Python Language Reference 3.14, 8.3).
+#[cycle(stmts)]
+#[derive(Debug, Drop)]
+pub struct For {
+    pub target: Target,
+    /// What is gone over.
+    pub items: Expr,
+    pub body: Vec<Stmt>,
+    /// The suite of the `else`, which is empty where there is none.
+    pub last: Vec<Stmt>,
+}
+
+/// A `def` (Python Language Reference 3.14, 8.7).
+#[cycle(stmts)]
+#[derive(Debug, Drop)]
+pub struct Define {
+    pub line: Line,
+    pub name: String,
+    /// There are 255 at most.
+    pub parameters: Vec<String>,
+    pub body: Vec<Stmt>,
+}
+
+/// A `try` without its `finally` (Python Language Reference 3.14, 8.4). Where none follows, there is one clause at least.
+#[cycle(stmts)]
+#[derive(Debug, Drop)]
+pub struct Try {
+    pub body: Vec<Stmt>,
+    pub clauses: Vec<Clause>,
+    /// The suite of the `else`, which is empty where there is none or no clause.
+    pub last: Vec<Stmt>,
+}
+
+/// An `except` clause (Python Language Reference 3.14, 8.4.1). A name stands behind an expression alone, and a clause
+/// without an expression stands last.
+#[cycle(stmts)]
+#[derive(Debug, Drop)]
+pub struct Clause {
+    /// What is matched, where it is said.
+    pub value: Option<Expr>,
+    /// The name that the exception is bound to, where there is one.
+    pub name: Option<String>,
+    pub body: Vec<Stmt>,
+}
+
+/// A `try` with a `finally` (Python Language Reference 3.14, 8.4.4).
+#[cycle(stmts)]
+#[derive(Debug, Drop)]
+pub struct Finally {
+    /// What stands in front of the `finally`.
+    pub tried: Try,
+    /// Its suite.
+    pub end: Vec<Stmt>,
 }

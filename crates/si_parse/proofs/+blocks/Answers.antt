@@ -1,12 +1,13 @@
 use Rattle.std.proofs.Common.{◌+◌, ◌-◌, ◌<◌, [], ◌∷◌, length, sym, ◌∙◌, ap, Some, map, arith}
 use Rattle.std.specs.Prelude.{option_map, not}
 use Rattle.std.proofs.lemmas.List.{map-append, length-map}
-use Rattle.si_syntax.proofs.Forms.{try_is}
+use Rattle.si_syntax.proofs.Forms.{while_is, for_is, define_is}
 use Rattle.si_syntax.specs.Trees.{stmt_of, branch_of, clause_of}
 use Rattle.si_parse.specs.inner.Reading.{many_by, elif_by, no_elif, catch_by, no_catch, is_none, is_dedent, block_at}
 use Rattle.si_parse.specs.inner.Gives.{from, header_view}
 use Rattle.si_plain.proofs.Lengths.{not_empty}
-use Rattle.si_parse.proofs.Turns.{many_on, block_compound, elif_read, catch_read, try_read}
+use Rattle.si_parse.proofs.Turns.{many_on, block_compound, elif_read, catch_read, while_read, for_read, define_read, try_read, finally_read}
+use Rattle.si_parse.proofs.Built.{try_built, finally_built}
 use Rattle.si_parse.proofs.+blocks.Goals as goal
 
 pub block::block-returns : goal.block::block-returns
@@ -19,10 +20,10 @@ block::block-returns t c =
 pub block::elifs-loop-turn-preserved : goal.block::elifs-loop-turn-preserved
 block::elifs-loop-turn-preserved t c =
     let next = sym c.after_word.ensures ∙ ap (option_map (from c.args.tokens.now)) c.in-Some.is in
-    let pushed = ap (map (λ b. branch_of b.0 b.1.items)) c.in_ok-push.ensures.items ∙ map-append (λ b. branch_of b.0 b.1.items) c.loop-turn.elifs.items (c.in_ok-next.next ∷ []) in
-    let read = elif_read (block_at c.args.parts) (map (λ b. branch_of b.0 b.1.items) c.loop-turn.elifs.items) (from c.args.tokens.now c.loop-turn.at) (from c.args.tokens.now c.in-Some.behind) _ _ next c.in_ok-next.ensures in
+    let pushed = ap (map branch_of) c.in_ok-push.ensures.items ∙ map-append branch_of c.loop-turn.elifs.items (c.in_ok-next.next ∷ []) in
+    let read = elif_read (block_at c.args.parts) (map branch_of c.loop-turn.elifs.items) (from c.args.tokens.now c.loop-turn.at) (from c.args.tokens.now c.in-Some.behind) _ _ next c.in_ok-next.ensures in
     ap (λ l. many_by (elif_by (block_at c.args.parts)) no_elif (length c.args.tokens.now - (c.loop-turn._turn + 1)) l (from c.args.tokens.now c.in_ok-next.end)) pushed
-    ∙ sym (many_on (elif_by (block_at c.args.parts)) no_elif (length c.args.tokens.now - c.loop-turn._turn) (length c.args.tokens.now - (c.loop-turn._turn + 1)) (map (λ b. branch_of b.0 b.1.items) c.loop-turn.elifs.items) (from c.args.tokens.now c.loop-turn.at)
+    ∙ sym (many_on (elif_by (block_at c.args.parts)) no_elif (length c.args.tokens.now - c.loop-turn._turn) (length c.args.tokens.now - (c.loop-turn._turn + 1)) (map branch_of c.loop-turn.elifs.items) (from c.args.tokens.now c.loop-turn.at)
     (omega arith) (ap is_none next) _ _ read)
     ∙ c.loop-turn.invariant
 
@@ -49,4 +50,26 @@ handler::try_statement-returns t c =
     let some : 0 < length (map clause_of c.in_ok-clauses.clauses.items) =
     omega (arith, length-map c.in_ok-clauses.clauses.items clause_of, c.in_ok-clauses.clauses.ok.0, not_empty c.in_ok-clauses.clauses.len _ c.is_empty.ensures c.if-is_empty.false) in
     try_read (block_at c.args.parts) (from c.args.tokens.now c.args.start) _ _ _ _ _ c.in_ok-body.ensures c.in_ok-clauses.ensures over some
-    ∙ ap (λ s. Some (s, from c.args.tokens.now c.in_ok-clauses.at)) (sym (try_is c.in_ok-body.body c.in_ok-clauses.clauses c.in_ok-clauses.last))
+    ∙ ap (λ s. Some (s, from c.args.tokens.now c.in_ok-clauses.at)) (sym (try_built (record { body = c.in_ok-body.body; clauses = c.in_ok-clauses.clauses; last = c.in_ok-clauses.last })))
+
+pub handler::try_statement-returns-in-Some : goal.handler::try_statement-returns-in-Some
+handler::try_statement-returns-in-Some t c =
+    let over = sym c.after_word.ensures ∙ ap (option_map (from c.args.tokens.now)) c.in-Some.is in
+    finally_read (block_at c.args.parts) (from c.args.tokens.now c.args.start) _ _ _ _ _ _ _ _ c.in_ok-body.ensures c.in_ok-clauses.ensures over c.in_ok-cleanup.ensures
+    ∙ ap (λ s. Some (s, from c.args.tokens.now c.in_ok-cleanup.end)) (sym (finally_built (record { body = c.in_ok-body.body; clauses = c.in_ok-clauses.clauses; last = c.in_ok-clauses.last }) c.in_ok-cleanup.cleanup))
+
+pub block::while_statement-returns : goal.block::while_statement-returns
+block::while_statement-returns t c =
+    while_read (block_at c.args.parts) (from c.args.tokens.now c.args.start) _ _ _ _ c.in_ok-first.ensures c.in_ok-last.ensures
+    ∙ ap (λ s. Some (s, from c.args.tokens.now c.in_ok-last.end)) (sym (while_is _))
+
+pub block::for_statement-returns : goal.block::for_statement-returns
+block::for_statement-returns t c =
+    for_read (block_at c.args.parts) (from c.args.tokens.now c.args.start) _ _ _ _ _ _ c.in_ok-target.ensures c.in_ok-first.ensures c.in_ok-last.ensures
+    ∙ ap (λ s. Some (s, from c.args.tokens.now c.in_ok-last.end)) (sym (for_is _))
+
+pub block::definition-returns : goal.block::definition-returns
+block::definition-returns t c =
+    let opened = sym c.after.ensures ∙ ap (option_map (from c.args.tokens.now)) c.in-Some.is in
+    define_read (block_at c.args.parts) (from c.args.tokens.now c.args.start) _ _ _ _ _ _ _ c.in_ok-name.ensures opened c.in_ok-parameters.ensures c.in_ok-body.ensures
+    ∙ ap (λ s. Some (s, from c.args.tokens.now c.in_ok-body.end)) (sym (define_is _))

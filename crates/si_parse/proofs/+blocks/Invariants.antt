@@ -54,7 +54,7 @@ decreases-handler::bare l = 9 * l.parts + 4
 
 abbrev pub invariant-block::elifs-loop-turn : goal.invariant-block::elifs-loop-turn
 invariant-block::elifs-loop-turn l =
-    many_by (elif_by (block_at l.parts)) no_elif (length l.tokens - l._turn) (map (λ b. branch_of b.0 b.1.items) l.elifs.items) (from l.tokens l.at) ≡ elifs_by (block_at l.parts) (from l.tokens l.start)
+    many_by (elif_by (block_at l.parts)) no_elif (length l.tokens - l._turn) (map branch_of l.elifs.items) (from l.tokens l.at) ≡ elifs_by (block_at l.parts) (from l.tokens l.start)
 
 abbrev pub invariant-handler::catches-loop-turn : goal.invariant-handler::catches-loop-turn
 invariant-handler::catches-loop-turn l =

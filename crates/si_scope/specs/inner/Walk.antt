@@ -8,12 +8,6 @@ use Rattle.si_semantics.specs.Tree.{Stmt, Target, Stmts, Clauses}
 use Rattle.si_semantics.specs.Scope.{is_in, are_distinct, with_new, names_of, names_of_value}
 use Rattle.si_scope.specs.declared.seen.Seen.{Seen}
 
--- the except clauses of a statement, or none
-abbrev pub clauses_in : Stmt → Clauses
-clauses_in (tree.Try b cs c) = cs
-clauses_in (tree.Finally b cs c f) = cs
-clauses_in _ = tree.NoClauses
-
 -- ---- a function
 
 -- the names once each of these has a slot
@@ -78,12 +72,6 @@ abbrev mutual
   after_clauses (tree.MoreClauses a y b cs) loop returns s =
       option_and_then (after_clauses cs loop returns) (after_all b loop returns (binding_any y (using (names_of_value a) s)))
 
--- a `try`; other statements are passed over
-abbrev pub after_try : Stmt → (loop returns : Bool) → Seen → Option Seen
-after_try (tree.Try b cs c) loop returns s = after (tree.Try b cs c) loop returns s
-after_try (tree.Finally b cs c f) loop returns s = after (tree.Finally b cs c f) loop returns s
-after_try _ loop returns s = Some s
-
 -- what is local to a function with these parameters and this suite
 abbrev pub local_to : List Text → Stmts → Option (List Text)
 local_to ps b =
@@ -119,9 +107,3 @@ abbrev mutual
   pub resolved_clauses : Clauses → Bool → List (List Text) → Option (List (List Text))
   resolved_clauses tree.NoClauses loop names = Some names
   resolved_clauses (tree.MoreClauses a y b cs) loop names = option_and_then (resolved_clauses cs loop) (resolved_all b loop names)
-
--- a `try`; other statements are passed over
-abbrev pub resolved_try : Stmt → Bool → List (List Text) → Option (List (List Text))
-resolved_try (tree.Try b cs c) loop names = resolved (tree.Try b cs c) loop names
-resolved_try (tree.Finally b cs c f) loop names = resolved (tree.Finally b cs c f) loop names
-resolved_try _ loop names = Some names

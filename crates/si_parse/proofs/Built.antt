@@ -1,0 +1,41 @@
+-- The trees of statements that are built of their parts.
+use Rattle.std.proofs.Common.{◌≡◌, map, Vec, Global, ap, ◌∙◌}
+use Rattle.si_semantics.specs.Tree as tree
+use Rattle.si_semantics.specs.Grammar.{clauses_of}
+use Rattle.si_syntax.specs.declared.stmt.Branch.{Branch}
+use Rattle.si_syntax.specs.declared.stmt.Clause.{Clause}
+use Rattle.si_syntax.specs.declared.stmt.Define.{Define}
+use Rattle.si_syntax.specs.declared.stmt.Finally.{Finally}
+use Rattle.si_syntax.specs.declared.stmt.For.{For}
+use Rattle.si_syntax.specs.declared.stmt.If.{If}
+use Rattle.si_syntax.specs.declared.stmt.Stmt.{Stmt}
+use Rattle.si_syntax.specs.declared.stmt.Stmt.TheOpen.{Finally-F, Try-F}
+use Rattle.si_syntax.specs.declared.stmt.Stmt.TheVariants as stmts
+use Rattle.si_syntax.specs.declared.stmt.Stmt.TheViews.{out-roll-Finally, out-roll-Try, roll-Finally, roll-Try}
+use Rattle.si_syntax.specs.declared.stmt.Try.{Try}
+use Rattle.si_syntax.specs.declared.stmt.While.{While}
+use Rattle.si_syntax.specs.Trees.{body_of, clause_of, stmt_of, tried_of}
+use Rattle.si_syntax.proofs.Forms.{finally_is, try_is}
+
+-- the parts of a `try`, and of one with a finally suite
+abbrev pub TryParts : Type 0
+TryParts = Try-F Stmt Branch Clause Define Finally For If Try While
+
+abbrev pub FinallyParts : Type 0
+FinallyParts = Finally-F Stmt Branch Clause Define Finally For If Try While
+
+abbrev pub try_with : TryParts → tree.Stmt
+try_with r = tree.Try (body_of r.body.items) (clauses_of (map clause_of r.clauses.items)) (body_of r.last.items)
+
+pub try_built : (r : TryParts) → stmt_of (stmts.Try (roll-Try r)) ≡ try_with r
+try_built r = try_is (roll-Try r) ∙ ap try_with (out-roll-Try r)
+
+abbrev pub finally_with : FinallyParts → tree.Stmt
+finally_with r = tree.Finally (tried_of r.tried).0 (clauses_of (tried_of r.tried).1) (tried_of r.tried).2 (body_of r.end.items)
+
+abbrev pub ends_with : Vec Stmt Global → TryParts → tree.Stmt
+ends_with end r = tree.Finally (body_of r.body.items) (clauses_of (map clause_of r.clauses.items)) (body_of r.last.items) (body_of end.items)
+
+pub finally_built : (r : TryParts) (end : Vec Stmt Global) → stmt_of (stmts.Finally (roll-Finally (record { tried = roll-Try r; end = end }))) ≡ ends_with end r
+finally_built r end =
+    finally_is (roll-Finally (record { tried = roll-Try r; end = end })) ∙ ap finally_with (out-roll-Finally (record { tried = roll-Try r; end = end })) ∙ ap (ends_with end) (out-roll-Try r)
