@@ -8,3 +8,4 @@ pub mod Spelling
 pub mod Showing
 pub mod Ends
 pub mod Named
+pub mod Lines

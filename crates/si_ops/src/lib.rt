@@ -7,9 +7,9 @@
 //
 // In reading order: `ranges` (the integers of a range), `characters` (texts compared where they lie), `truth` (whether a
 // value counts as true), `operand` (what a value is to an operator), `arithmetic` (operators before a value and between
-// two), `comparison`, `items` (what a `for` goes over), `exceptions` (which clause catches what), `pieces`, `quoted`,
-// `atoms` and `messages` (the parts of what is written), `shown` (`str` and `repr`) and `first` (the names that are there
-// from the first).
+// two), `comparison`, `items` (what a `for` goes over), `exceptions` (which clause catches what),
+// `pieces`, `quoted`, `atoms` and `messages` (the parts of what is written), `shown` (`str` and `repr`), `line` (what
+// `print` writes), `first` (the names that are there from the first).
 #![tactic(auto)]
 
 mod arithmetic;
@@ -19,6 +19,7 @@ mod comparison;
 mod exceptions;
 mod first;
 mod items;
+mod line;
 mod messages;
 mod operand;
 mod pieces;
@@ -32,6 +33,7 @@ pub use comparison::{compare, compare_integers};
 pub use exceptions::catches;
 pub use first::{built_in, first_global};
 pub use items::Items;
+pub use line::push_line;
 pub use operand::integer_in;
 pub use shown::{push_repr, push_str};
 pub use truth::{decides, int_of_truth, is_true};
