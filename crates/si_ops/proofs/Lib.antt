@@ -9,3 +9,4 @@ pub mod Showing
 pub mod Ends
 pub mod Named
 pub mod Lines
+pub mod Calling
