@@ -60,14 +60,17 @@ pub begins_adds : {Z : Type 0} {bs : List ℕ} {old new : String Z} → Adds bs 
 begins_adds {bs = bs} p = (bs, p.bytes)
 
 -- what was added, by its characters
-pub text_behind : {Z : Type 0} (old new : String Z) (t : List ℕ) (start : ℕ) → start ≡ length (string_bytes old) → Adds (encode_utf8_all t) old new → characters_of (drop start (string_bytes new)) ≡ t
-text_behind old new t start e p =
-    let u = more_is old new (encode_utf8_all t) p.bytes in
+pub text_at : {Z : Type 0} (old new : String Z) (t : List ℕ) (start : ℕ) → start ≡ length (string_bytes old) → string_bytes new ≡ string_bytes old ++ encode_utf8_all t → characters_of (drop start (string_bytes new)) ≡ t
+text_at old new t start e p =
+    let u = more_is old new (encode_utf8_all t) p in
     let same : u.0 ≡ t = encodes_same u.0 t u.1.1 in
     ap (λ k. characters_of (drop k (string_bytes new))) e
-    ∙ ap (λ x. characters_of (drop (length (string_bytes old)) x)) p.bytes
+    ∙ ap (λ x. characters_of (drop (length (string_bytes old)) x)) p
     ∙ ap characters_of (drop-append_seam (string_bytes old) (encode_utf8_all t))
     ∙ ap characters_of (sym u.1.1) ∙ chars-encodes u.0 u.1.0 ∙ same
+
+text_behind : {Z : Type 0} (old new : String Z) (t : List ℕ) (start : ℕ) → start ≡ length (string_bytes old) → Adds (encode_utf8_all t) old new → characters_of (drop start (string_bytes new)) ≡ t
+text_behind old new t start e p = text_at old new t start e p.bytes
 
 -- ---- what was added, by its length
 

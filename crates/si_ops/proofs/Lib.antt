@@ -8,3 +8,5 @@ pub mod Spelling
 pub mod Showing
 pub mod Ends
 pub mod Named
+pub mod Lines
+pub mod Calling

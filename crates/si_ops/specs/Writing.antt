@@ -1,9 +1,9 @@
 -- What is written at the end of a String, in UTF-8.
-use Rattle.std.specs.Prelude.{codes, ◌≡◌, ℕ, ◌+◌, ◌<◌, ◌≤◌, List, [], ◌++◌, length, ℤ, pos, Option, Some, None, Result, Ok, Err, encode_utf8_all, if◌then◌else◌}
-use Rattle.si_semantics.specs.Value.{Text, Value, Str}
+use Rattle.std.specs.Prelude.{codes, ◌≡◌, ℕ, ◌+◌, ◌<◌, ◌≤◌, List, [], ◌∷◌, ◌++◌, length, ℤ, pos, Option, Some, None, Result, Ok, Err, encode_utf8_all, if◌then◌else◌}
+use Rattle.si_semantics.specs.Value.{Text, Value, Str, Object}
 use Rattle.si_plain.specs.declared.kind.Kind.{Kind}
 use Rattle.si_plain.specs.declared.kind.Kind.TheVariants.{KeyError, RecursionError, OverflowError}
-use Rattle.si_semantics.specs.Text.{same_int, decimal, repr_text, repr_atom}
+use Rattle.si_semantics.specs.Text.{same_int, decimal, repr_text, repr_atom, str_in, str_of, max_nested}
 use Rattle.si_arena.specs.declared.value.Ref.{Ref}
 use Rattle.si_arena.specs.declared.value.Ref.TheVariants as ref
 use Rattle.si_arena.specs.declared.cause.Cause.{Cause}
@@ -81,3 +81,18 @@ abbrev pub Appends : {Z U : Type 0} → Result Text Kind → List ℕ → String
 Appends p longest old new (Ok _) = (t : Text) × (p ≡ Ok t) × (string_bytes new ≡ string_bytes old ++ encode_utf8_all t)
 Appends p longest old new (Err (Raises cause)) = IsUnwritten p cause × (string_bytes new ≡ string_bytes old)
 Appends p longest old new (Err NoMemory) = HasNoRoom longest old × (string_bytes new ≡ string_bytes old)
+
+-- the str of values, each with a space before it; the first that can't be written decides
+abbrev pub spaced_in : List Object → List Value → Result Text Kind
+spaced_in store [] = Ok []
+spaced_in store (v ∷ vs) = elim (str_in store v) [ Err k ↦ Err k | Ok t ↦ elim (spaced_in store vs) [ Err k ↦ Err k | Ok rest ↦ Ok (32 ∷ (t ++ rest)) ] ]
+
+-- the str of values in UTF-8, each with a space before it, however long it is; of one that is too deep nothing
+abbrev pub spaced_bytes : List Object → List Value → List ℕ
+spaced_bytes store [] = []
+spaced_bytes store (v ∷ vs) = 32 ∷ (spelled (str_of max_nested store v) ++ spaced_bytes store vs)
+
+-- the same of a line
+abbrev pub line_bytes : List Object → List Value → List ℕ
+line_bytes store [] = 10 ∷ []
+line_bytes store (v ∷ vs) = spelled (str_of max_nested store v) ++ (spaced_bytes store vs ++ 10 ∷ [])

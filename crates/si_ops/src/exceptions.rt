@@ -1,11 +1,16 @@
-// Which except clause catches which exception.
+// Which except clause catches which exception, and what `raise` raises.
 
-ghost use Rattle.std.specs.Prelude.{◌<◌, length};
+ghost use Rattle.std.specs.Prelude.{◌≡◌, ℕ, ◌<◌, length, IsOk, IsSome, Some, IfSome, IfOk, OnErr};
+ghost use Rattle.si_semantics.specs.Value as pure;
 ghost use Rattle.si_semantics.specs.Operations as operations;
-ghost use Rattle.si_arena.specs.Memory.{value_of, Lies};
+ghost use Rattle.si_arena.specs.declared.value.Ref.TheVariants as ref;
+ghost use Rattle.si_arena.specs.Causes.{kind_of, message_of, CauseLies};
+ghost use Rattle.si_arena.specs.Memory.{value_of, object_of, Lies, ObjectLies, IsMade};
 ghost use Rattle.si_ops.specs.Runs.{Decides};
+ghost use Rattle.si_ops.specs.Raised.{IsRaised};
 
-use si_arena::{Arena, Cause, Ref, View};
+use si_arena::{Arena, Cause, Object, Ref, View};
+use si_plain::NoMemory;
 
 /// Whether an except clause with this value matches the exception at an address (Python Language Reference 3.14,
 /// 8.4.1). It takes no memory.
@@ -17,5 +22,61 @@ pub fn catches(arena: &Arena, clause: Ref, address: usize) -> Result<bool, Cause
     match arena.view(&clause) {
         View::Kind(top) => Ok(arena.object(address).kind().is_a(top)),
         _ => Err(Cause::WrongType),
+    }
+}
+
+/// The exception that `raise` with a value raises, by its address (Python Language Reference 3.14, 7.8): an exception
+/// itself, of a kind a new one without argument, and for any other value a new TypeError. Memory is asked for only where
+/// one is made; where it is refused, the arena is as before.
+pub fn raised_by(arena: &mut Arena, value: Ref) -> Result<usize, NoMemory>
+    requires { Lies arena.old value }
+    ensures ok { IfOk result (λ x. IsRaised (λ w. operations.raised_by (value_of arena.old value) w) arena.old arena.new x) }
+    ensures err { OnErr result (arena.new ≡ arena.old) }
+    ensures memory { (x : ℕ) → value ≡ ref.Object x → (arena.new ≡ arena.old) × IsOk result }
+{
+    match value {
+        Ref::Object(address) => Ok(address),
+        Ref::Kind(kind) => make_at(arena, Object::Bare(kind)),
+        Ref::Range(place) => {
+            let _steps = arena.steps(place);
+            raised_for(arena, Cause::WrongType)
+        }
+        _ => raised_for(arena, Cause::WrongType),
+    }
+}
+
+/// The exception that a bare `raise` raises, by its address: the active one, where there is one, else a new RuntimeError
+/// (Python Language Reference 3.14, 7.8). Memory is asked for only where one is made; where it is refused, the arena is
+/// as before.
+pub fn raised_again(arena: &mut Arena, active: Option<usize>) -> Result<usize, NoMemory>
+    requires { IfSome active (λ x. x < length arena.old.store) }
+    ensures ok { IfOk result (λ x. IsRaised (λ w. operations.raised_again active w) arena.old arena.new x) }
+    ensures err { OnErr result (arena.new ≡ arena.old) }
+    ensures memory { IsSome active → (arena.new ≡ arena.old) × IsOk result }
+{
+    match active {
+        Some(address) => Ok(address),
+        None => raised_for(arena, Cause::NoneActive),
+    }
+}
+
+/// A new exception of a cause's kind with its message, by its address; where memory is refused, the arena is as before.
+pub fn raised_for(arena: &mut Arena, cause: Cause) -> Result<usize, NoMemory>
+    requires { CauseLies arena.old.names cause }
+    ensures ok { IfOk result (λ x. IsRaised (λ w. operations.exception (kind_of cause) (Some (pure.Str (message_of arena.old.names cause))) w) arena.old arena.new x) }
+    ensures err { OnErr result (arena.new ≡ arena.old) }
+{
+    make_at(arena, Object::Caused(cause))
+}
+
+// Makes an exception, and gives its address.
+fn make_at(arena: &mut Arena, object: Object) -> Result<usize, NoMemory>
+    requires { ObjectLies arena.old object }
+    ensures ok { IfOk result (λ x. IsMade (object_of arena.old object) arena.old arena.new (ref.Object x)) }
+    ensures err { OnErr result (arena.new ≡ arena.old) }
+{
+    match arena.make(object)? {
+        Ref::Object(address) => Ok(address),
+        _ => unreachable!(),
     }
 }

@@ -3,22 +3,24 @@
 // Each goes as its definition in `si_semantics` says, which `specs/Runs.antt` puts beside the arena: it gives the value
 // of the definition, or the cause of an exception whose kind and message are those of the definition, or memory was
 // asked for and refused; what raises or is refused changes nothing. No operation makes the exception that it raises: the
-// caller does, by `Arena::make`.
+// caller does, by `raised_for`. A call may also print or make an object (`specs/Calls.antt`).
 //
 // In reading order: `ranges` (the integers of a range), `characters` (texts compared where they lie), `truth` (whether a
 // value counts as true), `operand` (what a value is to an operator), `arithmetic` (operators before a value and between
-// two), `comparison`, `items` (what a `for` goes over), `exceptions` (which clause catches what), `pieces`, `quoted`,
-// `atoms` and `messages` (the parts of what is written), `shown` (`str` and `repr`) and `first` (the names that are there
-// from the first).
+// two), `comparison`, `items` (what a `for` goes over), `exceptions` (which clause catches what, and what `raise` raises),
+// `pieces`, `quoted`, `atoms` and `messages` (the parts of what is written), `shown` (`str` and `repr`), `line` (what
+// `print` writes), `first` (the names that are there from the first) and `calls` (of these).
 #![tactic(auto)]
 
 mod arithmetic;
 mod atoms;
+mod calls;
 mod characters;
 mod comparison;
 mod exceptions;
 mod first;
 mod items;
+mod line;
 mod messages;
 mod operand;
 mod pieces;
@@ -28,10 +30,12 @@ mod shown;
 mod truth;
 
 pub use arithmetic::{binary, on_integers, unary};
+pub use calls::{Called, call, call_by_name};
 pub use comparison::{compare, compare_integers};
-pub use exceptions::catches;
+pub use exceptions::{catches, raised_again, raised_by, raised_for};
 pub use first::{built_in, first_global};
 pub use items::Items;
+pub use line::push_line;
 pub use operand::integer_in;
 pub use shown::{push_repr, push_str};
 pub use truth::{decides, int_of_truth, is_true};

@@ -50,7 +50,7 @@ pub fn push_repr(out: &mut String, arena: &Arena, value: Ref) -> Result<(), Faul
 }
 
 // Adds the `str` of a value; where it can't be written, or memory is refused, a part of it may have been added.
-fn add_str(out: &mut String, arena: &Arena, value: Ref) -> Result<(), Fault>
+pub fn add_str(out: &mut String, arena: &Arena, value: Ref) -> Result<(), Fault>
     requires { Lies arena.now value }
     ensures { Writes (semantics.str_in arena.now.store (value_of arena.now value)) (spelled (semantics.str_of semantics.max_nested arena.now.store (value_of arena.now value))) out.old out.new result }
 {

@@ -1,0 +1,86 @@
+-- Calls that go as their definitions.
+use Rattle.std.proofs.Common.{◌≡◌, ℕ, ◌<◌, ◌≤◌, List, [], ◌∷◌, length, get_or, Bool, true, false, cond, Option, Some, None, Result, Ok, Err, refl, sym, ap, ◌∙◌, arith, nat_lt, lt-ltb}
+use Rattle.std.specs.declared.string.String.{String}
+use Rattle.std.specs.String.{string_bytes}
+use Rattle.si_plain.specs.declared.kind.Kind.{Kind}
+use Rattle.si_plain.specs.declared.kind.Kind.TheVariants.{OverflowError}
+use Rattle.si_semantics.specs.Value as pure
+use Rattle.si_semantics.specs.World.{World, Ran}
+use Rattle.si_semantics.specs.Text.{written, max_length}
+use Rattle.si_semantics.specs.Operations.{gave, text}
+use Rattle.si_arena.specs.declared.value.Ref.{Ref}
+use Rattle.si_arena.specs.declared.cause.Cause.{Cause}
+use Rattle.si_arena.specs.declared.cause.Cause.TheVariants.{Arithmetic, TooLong, WrongType, NotCallable, WrongArguments, TooDeep, NoneActive, NotDefined, NotBound}
+use Rattle.si_arena.specs.declared.cause.Fault.{Fault}
+use Rattle.si_arena.specs.declared.cause.Fault.TheVariants.{Raises, NoMemory}
+use Rattle.si_arena.specs.Memory.{Memory, value_of, all_of, PlacesText}
+use Rattle.si_ops.specs.declared.calls.Called.TheVariants.{Value}
+use Rattle.si_ops.specs.Runs.{Throws, Runs}
+use Rattle.si_ops.specs.Writing.{Appends, IsUnwritten}
+use Rattle.si_ops.specs.Calls.{Makes, Calls}
+
+-- ---- how many arguments
+
+one_of : (xs : List Ref) (d : Ref) → 1 ≤ length xs → length xs < 2 → xs ≡ get_or xs 0 d ∷ []
+one_of [] d p q = absurd (omega arith)
+one_of (x ∷ []) d p q = refl
+one_of (x ∷ y ∷ xs) d p q = absurd (omega arith)
+
+-- the values of one argument
+pub sole : (m : Memory) (xs : List Ref) (r : Ref) → 1 ≤ length xs → length xs < 2 → r ≡ get_or xs 0 r → all_of m xs ≡ value_of m r ∷ []
+sole m xs r p q e = ap (all_of m) (one_of xs r p q) ∙ ap (λ x. value_of m x ∷ []) (sym e)
+
+-- ---- what makes no object
+
+-- an operation that may place its value makes no object
+pub makes_runs : (f : World → Ran) (old new : Memory) (r : Result Ref Fault) → Runs f old new r → Makes f old new r
+makes_runs f old new (Ok r) h = ((λ w e. h.0 w e ∙ ap (λ s. gave (value_of new r) (record w { store = s })) (e ∙ sym h.3)), h.1, h.2)
+makes_runs f old new (Err (Raises cause)) h = h
+makes_runs f old new (Err NoMemory) h = h
+
+pub calls_ok : {Z : Type 0} (f : World → Ran) (old new : Memory) (s t : String Z) (r : Ref) → Runs f old new (Ok r) → string_bytes t ≡ string_bytes s → Calls f old new s t (Ok (Value r))
+calls_ok f old new s t r h e = (makes_runs f old new (Ok r) h, e)
+
+pub calls_err : {Z : Type 0} (f : World → Ran) (old new : Memory) (s t : String Z) (fault : Fault) → Runs f old new (Err fault) → string_bytes t ≡ string_bytes s → Calls f old new s t (Err fault)
+calls_err f old new s t fault h e = (makes_runs f old new (Err fault) h, e)
+
+-- ---- texts
+
+short_enough : (o : Option pure.Text) (t : pure.Text) → written o ≡ Ok t → nat_lt max_length (length t) ≡ false
+short_enough None t e = cc
+short_enough (Some s) t e = by (nat_lt max_length (length s)) refl e
+  where
+    by : (b : Bool) → nat_lt max_length (length s) ≡ b → ◌≡◌ {A = Result pure.Text Kind} (cond b (Err OverflowError) (Ok s)) (Ok t) → nat_lt max_length (length t) ≡ false
+    by true h e = cc
+    by false h e = let same : s ≡ t = cc in ap (λ x. nat_lt max_length (length x)) (sym same) ∙ h
+
+-- a text that was written and is placed
+pub text_placed : (o : List pure.Object → Option pure.Text) (t : pure.Text) (old new : Memory) (r : Result Ref Fault) → written (o old.store) ≡ Ok t → PlacesText t old new r → Runs (λ w. text (written (o w.store)) w) old new r
+text_placed o t old new (Ok r) is h = (
+  (λ w e. ap (λ s. text (written (o s)) w) e ∙ ap (λ p. text p w) is ∙ ap (λ v. gave v w) (sym h.1.denotes)),
+  h.1.lies,
+  h.1.extends,
+  h.1.store,
+)
+text_placed o t old new (Err (Raises cause)) is h =
+    let long : nat_lt max_length (length t) ≡ true = lt-ltb _ _ h.0 in
+    let short = short_enough (o old.store) t is in
+    absurd (let no : true ≡ false = sym long ∙ short in cc)
+text_placed o t old new (Err NoMemory) is h = h
+
+-- a text that can't be written
+pub text_throws : (o : List pure.Object → Option pure.Text) (m : Memory) (cause : Cause) → IsUnwritten (written (o m.store)) cause → Throws (λ w. text (written (o w.store)) w) m cause
+text_throws o m TooDeep h = ((λ w e. ap (λ s. text (written (o s)) w) e ∙ ap (λ p. text p w) h), tt)
+text_throws o m TooLong h = ((λ w e. ap (λ s. text (written (o s)) w) e ∙ ap (λ p. text p w) h), tt)
+text_throws o m (Arithmetic k) h = absurd h
+text_throws o m WrongType h = absurd h
+text_throws o m NotCallable h = absurd h
+text_throws o m WrongArguments h = absurd h
+text_throws o m NoneActive h = absurd h
+text_throws o m (NotDefined s) h = absurd h
+text_throws o m (NotBound s) h = absurd h
+
+-- what was not added can't be placed
+pub text_refused : {Z : Type 0} (U : Type 0) (o : List pure.Object → Option pure.Text) (longest : List ℕ) (s t : String Z) (m : Memory) (fault : Fault) → Appends {U = U} (written (o m.store)) longest s t (Err fault) → Runs (λ w. text (written (o w.store)) w) m m (Err fault)
+text_refused U o longest s t m (Raises cause) h = (text_throws o m cause h.0, refl)
+text_refused U o longest s t m NoMemory h = refl

@@ -1,0 +1,44 @@
+-- How a call goes over an arena, by its definition, which says what it does in a world. The world's objects are those of
+-- the arena, before it and after it.
+use Rattle.std.specs.Prelude.{◌≡◌, ◌++◌, Some, Result, Ok, Err, encode_utf8_all}
+use Rattle.std.specs.String.{string_bytes}
+use Rattle.std.specs.declared.string.String.{String}
+use Rattle.si_semantics.specs.Value as pure
+use Rattle.si_semantics.specs.World.{World, Ran, Gave}
+use Rattle.si_semantics.specs.Operations.{gave}
+use Rattle.si_arena.specs.declared.value.Ref.{Ref}
+use Rattle.si_arena.specs.declared.object.Steps.{Steps}
+use Rattle.si_arena.specs.declared.cause.Cause.{Cause}
+use Rattle.si_arena.specs.declared.cause.Fault.{Fault}
+use Rattle.si_arena.specs.declared.cause.Fault.TheVariants.{Raises, NoMemory}
+use Rattle.si_arena.specs.Memory.{Memory, value_of, range_of, Lies, Extends}
+use Rattle.si_ops.specs.Runs.{Throws}
+use Rattle.si_ops.specs.declared.calls.Called.{Called}
+use Rattle.si_ops.specs.declared.calls.Called.TheVariants.{Value, Printed}
+
+-- the call gives a value, prints nothing, and changes nothing but the world's objects: they are those of the arena after
+-- it
+abbrev pub GivesAnew : (World → Ran) → Memory → Memory → pure.Value → Type 0
+GivesAnew f old new v = (w : World) → w.store ≡ old.store → f w ≡ gave v (record w { store = new.store })
+
+-- the call gives None, prints a text and changes nothing else
+abbrev pub Prints : (World → Ran) → Memory → pure.Text → Type 0
+Prints f m t = (w : World) → w.store ≡ m.store → f w ≡ Gave pure.Nothing (Some t) w
+
+-- an operation that may place its value or make an object: the value, which lies in the arena; or why it raises, or
+-- memory is refused, and then the arena is as it was
+abbrev pub Makes : (World → Ran) → Memory → Memory → Result Ref Fault → Type 0
+Makes f old new (Ok r) = GivesAnew f old new (value_of new r) × Lies new r × Extends old new
+Makes f old new (Err (Raises cause)) = Throws f old cause × (new ≡ old)
+Makes f old new (Err NoMemory) = new ≡ old
+
+-- a call that may also print: then the text is added to a line, whose text is else as it was, and the arena is as it was
+abbrev pub Calls : {Z : Type 0} → (World → Ran) → Memory → Memory → String Z → String Z → Result Called Fault → Type 0
+Calls f old new line more (Ok (Value r)) = Makes f old new (Ok r) × (string_bytes more ≡ string_bytes line)
+Calls f old new line more (Ok Printed) = (t : pure.Text) × Prints f old t × (new ≡ old) × (string_bytes more ≡ string_bytes line ++ encode_utf8_all t)
+Calls f old new line more (Err fault) = Makes f old new (Err fault) × (string_bytes more ≡ string_bytes line)
+
+-- the integers of a range, or why it raises
+abbrev pub Spans : (World → Ran) → Memory → Result Steps Cause → Type 0
+Spans f m (Ok steps) = (w : World) → f w ≡ gave (range_of steps) w
+Spans f m (Err cause) = Throws f m cause
