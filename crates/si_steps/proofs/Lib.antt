@@ -1,0 +1,4 @@
+pub mod Lines
+pub mod Growth
+pub mod Raised
+pub mod Operands

@@ -1,0 +1,21 @@
+// The steps of the machine with a frame of slots: what each instruction makes of a state.
+//
+// A state has its values in an arena (`si_arena`), its slots and temporaries in frames and what was entered in blocks
+// (`si_stacks`), and its code in a table (`si_slots`). `specs/Moments.antt` says what it is for a state to stand at a
+// moment of the machine's definition (`si_slots/specs/Machine.antt`): its temporaries, its slots, its blocks and its
+// world. The method of an instruction takes a state that stands at a moment and does exactly the instruction's line.
+// Nothing uses it yet, and not each instruction is there yet.
+//
+// In reading order: `step` (what a step did), `state` (what a machine has), `landing` (where a value goes), `raising` (how
+// exceptions are raised), `flow` (the
+// instructions of branches, chains and loops), `tries` (those of `try` and of unbinding).
+#![tactic(auto)]
+
+mod flow;
+mod landing;
+mod raising;
+mod state;
+mod step;
+mod tries;
+
+pub use step::{Outcome, Step};

@@ -1,0 +1,21 @@
+// What a step did.
+
+/// How a run ended.
+#[derive(Clone, Copy, Debug, PartialEq, Eq)]
+pub enum Outcome {
+    /// It came to the end of its text.
+    Returned,
+    /// The exception at this address left it.
+    Raised(usize),
+}
+
+/// What a step did. How a run ended, the machine keeps until it is asked.
+#[derive(Clone, Copy, Debug, PartialEq, Eq)]
+pub enum Step {
+    /// One instruction; the run goes on.
+    Local,
+    /// One instruction, with which the run has ended.
+    Ended,
+    /// No instruction: memory was refused. The machine stands still.
+    Starved,
+}
