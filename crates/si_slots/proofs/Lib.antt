@@ -24,3 +24,5 @@ pub mod WorkedCode
 pub mod Codes
 pub mod Growth
 pub mod Taken
+pub mod Gained
+pub mod Jumped

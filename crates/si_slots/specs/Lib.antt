@@ -8,3 +8,4 @@ pub mod Interpreter
 pub mod CodeCases
 pub mod Contents
 pub mod Views
+pub mod inner
