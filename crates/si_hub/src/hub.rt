@@ -5,14 +5,15 @@ ghost use Rattle.si_plain.specs.Characters.{characters_of};
 ghost use Rattle.si_semantics.specs.History.{answer_in};
 ghost use Rattle.si_semantics.specs.Actions as shared;
 ghost use Rattle.si_parcel.specs.Shared.{action_of, answer_of};
+ghost use Rattle.si_parcel.specs.declared.action.Action.TheVariants.{Get};
 ghost use Rattle.si_hub.specs.Hubs.{IsTold, state_of, reply_at, can_act, Acts, takes_none};
 
 use crate::shared::Shared;
-use si_parcel::{Action, Answer, Parcel};
+use si_parcel::{Action, Answer};
 use si_plain::{Limits, NoMemory, Text};
 use si_queues::Queue;
 use si_semantics::sharing::within_limits;
-use std::alloc::{AllocError, Global};
+use std::alloc::Global;
 use std::marker::Model;
 
 /// A shared action that was done: by which interpreter, and what it was answered.
@@ -225,29 +226,8 @@ impl Hub {
         }
     }
 
-    // The same for a put, in fewer steps: a copy of the parcel goes into the queue, and itself into the journal. Where
-    // memory is refused, it comes back.
-    fn put(&mut self, by: u32, queue: u32, parcel: Parcel) -> Result<(), Parcel>
-        requires enabled { can_act self.old.past by (shared.Put queue parcel) ≡ true }
-        requires room { 0 < self.old.spare }
-        ensures ok { OnOk result (Acts self.old.past by (shared.Put queue parcel) shared.Done self.new.past) }
-        ensures err { IfErr result (λ p. (p ≡ parcel) × (self.new.past ≡ self.old.past)) }
-        ensures spare { self.old.spare ≤ self.new.spare + 1 }
-        ensures kept { OnErr result (self.old.spare ≤ self.new.spare) }
-    {
-        match self.shared.put_copy(queue, &parcel) {
-            Err(_) => Err(parcel),
-            Ok(()) => {
-                let action = Action::Put(queue, parcel);
-                let answer = Answer::Done;
-                self.journal.push_reserved(Call { by, action, answer });
-                Ok(())
-            }
-        }
-    }
-
-    // Does an action that is enabled, a put in fewer steps.
-    fn act_put(&mut self, by: u32, action: Action) -> Result<Answer, NotActed>
+    // The same for a put, in fewer steps: a copy of the parcel goes into the queue.
+    fn put(&mut self, by: u32, action: Action) -> Result<Answer, NotActed>
         requires enabled { can_act self.old.past by (action_of action) ≡ true }
         requires room { 0 < self.old.spare }
         ensures ok { IfOk result (λ r. Acts self.old.past by (action_of action) (answer_of r) self.new.past) }
@@ -257,32 +237,37 @@ impl Hub {
         ensures kept { OnErr result (self.old.spare ≤ self.new.spare) }
         ensures no_memory { takes_none (action_of action) ≡ true → IsOk result }
     {
-        match action {
-            Action::Put(queue, parcel) => match self.put(by, queue, parcel) {
-                Ok(()) => Ok(Answer::Done),
-                Err(parcel) => Err(no_memory(Action::Put(queue, parcel))),
-            },
-            other => self.act_on(by, other),
+        let Action::Put(queue, parcel) = &action else {
+            return self.act_on(by, action);
+        };
+        match self.shared.put_copy(*queue, parcel) {
+            Err(_) => Err(no_memory(action)),
+            Ok(()) => {
+                let answer = Answer::Done;
+                self.journal.push_reserved(Call { by, action, answer });
+                Ok(Answer::Done)
+            }
         }
     }
 
     // Takes the oldest item of a queue: itself for who asked, and a copy of it into the journal.
-    fn get(&mut self, by: u32, queue: u32) -> Result<Parcel, NoMemory>
+    fn get(&mut self, by: u32, queue: u32) -> Result<Answer, NotActed>
         requires enabled { can_act self.old.past by (shared.Get queue) ≡ true }
         requires room { 0 < self.old.spare }
-        ensures ok { IfOk result (λ p. Acts self.old.past by (shared.Get queue) (shared.Item p) self.new.past) }
-        ensures err { OnErr result (self.new.past ≡ self.old.past) }
+        ensures ok { IfOk result (λ r. Acts self.old.past by (shared.Get queue) (answer_of r) self.new.past) }
+        ensures err { IfErr result (λ e. (e.action ≡ Get queue) × (self.new.past ≡ self.old.past)) }
+        ensures memory { IfErr result (λ e. e.why ≡ Why.NoMemory) }
         ensures spare { self.old.spare ≤ self.new.spare + 1 }
         ensures kept { OnErr result (self.old.spare ≤ self.new.spare) }
     {
         let Ok(copy) = self.shared.first(queue) else {
-            return Err(AllocError);
+            return Err(no_memory(Action::Get(queue)));
         };
         let item = self.shared.get(queue);
         let action = Action::Get(queue);
         let answer = Answer::Item(copy);
         self.journal.push_reserved(Call { by, action, answer });
-        Ok(item)
+        Ok(Answer::Item(item))
     }
 
     // Counts the items of a queue.
@@ -322,12 +307,9 @@ impl Hub {
             return Err(no_memory(action));
         }
         match &action {
-            Action::Get(queue) => match self.get(by, *queue) {
-                Ok(item) => Ok(Answer::Item(item)),
-                Err(_) => Err(no_memory(action)),
-            },
+            Action::Get(queue) => self.get(by, *queue),
             Action::Size(queue) => Ok(Answer::Count(self.size(by, *queue))),
-            Action::Put(_, _) => self.act_put(by, action),
+            Action::Put(_, _) => self.put(by, action),
             _ => self.act_on(by, action),
         }
     }
