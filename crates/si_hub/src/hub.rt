@@ -271,17 +271,17 @@ impl Hub {
     }
 
     // Counts the items of a queue.
-    fn size(&mut self, by: u32, queue: u32) -> Answer
+    fn size(&mut self, by: u32, queue: u32) -> u64
         requires enabled { can_act self.old.past by (shared.Size queue) ≡ true }
         requires room { 0 < self.old.spare }
-        ensures ok { Acts self.old.past by (shared.Size queue) (answer_of result) self.new.past }
+        ensures ok { Acts self.old.past by (shared.Size queue) (shared.Count result) self.new.past }
         ensures spare { self.old.spare ≤ self.new.spare + 1 }
     {
         let count = self.shared.size(queue);
         let action = Action::Size(queue);
         let answer = Answer::Count(count);
         self.journal.push_reserved(Call { by, action, answer });
-        Answer::Count(count)
+        count
     }
 
     /// Does an action of interpreter `by` that is enabled, and answers it. The call is then the last of the journal.
@@ -308,7 +308,7 @@ impl Hub {
         }
         match &action {
             Action::Get(queue) => self.get(by, *queue),
-            Action::Size(queue) => Ok(self.size(by, *queue)),
+            Action::Size(queue) => Ok(Answer::Count(self.size(by, *queue))),
             Action::Put(_, _) => self.put(by, action),
             _ => self.act_on(by, action),
         }
