@@ -60,7 +60,7 @@ fn a_line_ends_in_lf_cr_or_cr_lf_and_the_last_one_may_lack_it(rt: HostRuntime) -
     ] {
         assert_eq!(rt;
             shown(alloc, text)?.as_str(),
-            "[Assign(Named(\"x\"), Int(1)), Evaluate(Call(Name(\"f\"), [Name(\"x\")], []))]",
+            "[Assign(Assign { target: Named(\"x\"), value: Int(1) }), Evaluate(Call(Name(\"f\"), [Name(\"x\")], []))]",
             "{text:?}"
         );
     }
@@ -141,23 +141,23 @@ fn statements_of_branches_and_loops(rt: HostRuntime) -> Result<(), Fail> {
     for (text, trees) in [
         (
             "x += 1; (y) **= 2; pass",
-            "Augment(Named(\"x\"), Add, Int(1)), Augment(Named(\"y\"), Power, Int(2)), Pass",
+            "Augment(Augment { target: Named(\"x\"), operator: Add, value: Int(1) }), Augment(Augment { target: Named(\"y\"), operator: Power, value: Int(2) }), Pass",
         ),
         (
             "if a: b",
-            "If(Name(\"a\"), [Evaluate(Name(\"b\"))], [], [])",
+            "If(If { first: Branch { test: Name(\"a\"), body: [Evaluate(Name(\"b\"))] }, elifs: [], last: [] })",
         ),
         (
             "if a: b\nelif c: d; pass\nelif e: break\nelse: continue\n",
-            "If(Name(\"a\"), [Evaluate(Name(\"b\"))], [(Name(\"c\"), [Evaluate(Name(\"d\")), Pass]), (Name(\"e\"), [Break(3)])], [Continue(4)])",
+            "If(If { first: Branch { test: Name(\"a\"), body: [Evaluate(Name(\"b\"))] }, elifs: [Branch { test: Name(\"c\"), body: [Evaluate(Name(\"d\")), Pass] }, Branch { test: Name(\"e\"), body: [Break(3)] }], last: [Continue(4)] })",
         ),
         (
             "while a:\n  if b:\n    break\n\n    # c\n  else: continue\nd",
-            "While(Name(\"a\"), [If(Name(\"b\"), [Break(3)], [], [Continue(6)])], []), Evaluate(Name(\"d\"))",
+            "While(While { test: Name(\"a\"), body: [If(If { first: Branch { test: Name(\"b\"), body: [Break(3)] }, elifs: [], last: [Continue(6)] })], last: [] }), Evaluate(Name(\"d\"))",
         ),
         (
             "if a:\n if b: c\nelse:\n d",
-            "If(Name(\"a\"), [If(Name(\"b\"), [Evaluate(Name(\"c\"))], [], [])], [], [Evaluate(Name(\"d\"))])",
+            "If(If { first: Branch { test: Name(\"a\"), body: [If(If { first: Branch { test: Name(\"b\"), body: [Evaluate(Name(\"c\"))] }, elifs: [], last: [] })] }, elifs: [], last: [Evaluate(Name(\"d\"))] })",
         ),
     ] {
         let wanted = format!(in alloc; "[{trees}]")?;
@@ -172,23 +172,23 @@ fn loops_may_have_an_else(rt: HostRuntime) -> Result<(), Fail> {
     for (text, trees) in [
         (
             "while a: b\nelse: c",
-            "While(Name(\"a\"), [Evaluate(Name(\"b\"))], [Evaluate(Name(\"c\"))])",
+            "While(While { test: Name(\"a\"), body: [Evaluate(Name(\"b\"))], last: [Evaluate(Name(\"c\"))] })",
         ),
         (
             "for x in y: z",
-            "For(Named(\"x\"), Name(\"y\"), [Evaluate(Name(\"z\"))], [])",
+            "For(For { target: Named(\"x\"), items: Name(\"y\"), body: [Evaluate(Name(\"z\"))], last: [] })",
         ),
         (
             "for ((x)) in f(1) + 2:\n break\nelse:\n pass\n",
-            "For(Named(\"x\"), Binary(Add, Call(Name(\"f\"), [Int(1)], []), Int(2)), [Break(2)], [Pass])",
+            "For(For { target: Named(\"x\"), items: Binary(Add, Call(Name(\"f\"), [Int(1)], []), Int(2)), body: [Break(2)], last: [Pass] })",
         ),
         (
             "for(x)in a if b else c: pass",
-            "For(Named(\"x\"), Conditional(Name(\"b\"), Name(\"a\"), Name(\"c\")), [Pass], [])",
+            "For(For { target: Named(\"x\"), items: Conditional(Name(\"b\"), Name(\"a\"), Name(\"c\")), body: [Pass], last: [] })",
         ),
         (
             "if a:\n while b:\n  for c in d: e\n else: f\nelse: g",
-            "If(Name(\"a\"), [While(Name(\"b\"), [For(Named(\"c\"), Name(\"d\"), [Evaluate(Name(\"e\"))], [])], [Evaluate(Name(\"f\"))])], [], [Evaluate(Name(\"g\"))])",
+            "If(If { first: Branch { test: Name(\"a\"), body: [While(While { test: Name(\"b\"), body: [For(For { target: Named(\"c\"), items: Name(\"d\"), body: [Evaluate(Name(\"e\"))], last: [] })], last: [Evaluate(Name(\"f\"))] })] }, elifs: [], last: [Evaluate(Name(\"g\"))] })",
         ),
     ] {
         let wanted = format!(in alloc; "[{trees}]")?;
@@ -203,23 +203,23 @@ fn clauses_are_read_in_their_order(rt: HostRuntime) -> Result<(), Fail> {
     for (text, trees) in [
         (
             "try: a\nexcept: b",
-            "Try([Evaluate(Name(\"a\"))], [(None, None, [Evaluate(Name(\"b\"))])], [])",
+            "Try(Try { body: [Evaluate(Name(\"a\"))], clauses: [Clause { value: None, name: None, body: [Evaluate(Name(\"b\"))] }], last: [] })",
         ),
         (
             "try: pass\nexcept E: a\nexcept F as e:\n b\n c\nexcept:\n pass\nelse: d",
-            "Try([Pass], [(Some(Name(\"E\")), None, [Evaluate(Name(\"a\"))]), (Some(Name(\"F\")), Some(\"e\"), [Evaluate(Name(\"b\")), Evaluate(Name(\"c\"))]), (None, None, [Pass])], [Evaluate(Name(\"d\"))])",
+            "Try(Try { body: [Pass], clauses: [Clause { value: Some(Name(\"E\")), name: None, body: [Evaluate(Name(\"a\"))] }, Clause { value: Some(Name(\"F\")), name: Some(\"e\"), body: [Evaluate(Name(\"b\")), Evaluate(Name(\"c\"))] }, Clause { value: None, name: None, body: [Pass] }], last: [Evaluate(Name(\"d\"))] })",
         ),
         (
             "try: pass\nexcept E or f(1) as e: pass",
-            "Try([Pass], [(Some(Boolean(Or, Name(\"E\"), [Call(Name(\"f\"), [Int(1)], [])])), Some(\"e\"), [Pass])], [])",
+            "Try(Try { body: [Pass], clauses: [Clause { value: Some(Boolean(Or, Name(\"E\"), [Call(Name(\"f\"), [Int(1)], [])])), name: Some(\"e\"), body: [Pass] }], last: [] })",
         ),
         (
             "try: pass\nexcept (E): pass\na",
-            "Try([Pass], [(Some(Name(\"E\")), None, [Pass])], []), Evaluate(Name(\"a\"))",
+            "Try(Try { body: [Pass], clauses: [Clause { value: Some(Name(\"E\")), name: None, body: [Pass] }], last: [] }), Evaluate(Name(\"a\"))",
         ),
         (
             "try:\n try: a\n except: b\nexcept: c",
-            "Try([Try([Evaluate(Name(\"a\"))], [(None, None, [Evaluate(Name(\"b\"))])], [])], [(None, None, [Evaluate(Name(\"c\"))])], [])",
+            "Try(Try { body: [Try(Try { body: [Evaluate(Name(\"a\"))], clauses: [Clause { value: None, name: None, body: [Evaluate(Name(\"b\"))] }], last: [] })], clauses: [Clause { value: None, name: None, body: [Evaluate(Name(\"c\"))] }], last: [] })",
         ),
     ] {
         let wanted = format!(in alloc; "[{trees}]")?;
@@ -255,14 +255,17 @@ fn arguments_are_passed_by_place_or_by_name(rt: HostRuntime) -> Result<(), Fail>
 fn functions_are_read_with_their_lines(rt: HostRuntime) -> Result<(), Fail> {
     let alloc = rt.alloc();
     for (text, trees) in [
-        ("def f(): pass", "Define(1, \"f\", [], [Pass])"),
+        (
+            "def f(): pass",
+            "Define(Define { line: 1, name: \"f\", parameters: [], body: [Pass] })",
+        ),
         (
             "def f(a, b,): return a",
-            "Define(1, \"f\", [\"a\", \"b\"], [Return(1, Some(Name(\"a\")))])",
+            "Define(Define { line: 1, name: \"f\", parameters: [\"a\", \"b\"], body: [Return(1, Some(Name(\"a\")))] })",
         ),
         (
             "x\n\ndef f(a):\n  global b, c\n  return;\n",
-            "Evaluate(Name(\"x\")), Define(3, \"f\", [\"a\"], [Global(4, [\"b\", \"c\"]), Return(5, None)])",
+            "Evaluate(Name(\"x\")), Define(Define { line: 3, name: \"f\", parameters: [\"a\"], body: [Global(4, [\"b\", \"c\"]), Return(5, None)] })",
         ),
         ("global a", "Global(1, [\"a\"])"),
         (
@@ -271,7 +274,7 @@ fn functions_are_read_with_their_lines(rt: HostRuntime) -> Result<(), Fail> {
         ),
         (
             "def f():\n def g(a): break\n return g(\n  a=1)",
-            "Define(1, \"f\", [], [Define(2, \"g\", [\"a\"], [Break(2)]), Return(3, Some(Call(Name(\"g\"), [Int(1)], [\"a\"])))])",
+            "Define(Define { line: 1, name: \"f\", parameters: [], body: [Define(Define { line: 2, name: \"g\", parameters: [\"a\"], body: [Break(2)] }), Return(3, Some(Call(Name(\"g\"), [Int(1)], [\"a\"])))] })",
         ),
     ] {
         let wanted = format!(in alloc; "[{trees}]")?;
