@@ -1,7 +1,7 @@
 -- Calls that go as their definitions.
-use Rattle.std.proofs.Common.{◌≡◌, ℕ, ◌<◌, ◌≤◌, List, [], ◌∷◌, length, get_or, Bool, true, false, cond, Option, Some, None, Result, Ok, Err, refl, sym, ap, ◌∙◌, arith, nat_lt, lt-ltb}
+use Rattle.std.proofs.Common.{◌≡◌, ℕ, ◌+◌, ◌<◌, ◌≤◌, List, [], ◌∷◌, length, get_or, Bool, true, false, cond, Option, Some, None, Result, Ok, Err, refl, sym, ap, ◌∙◌, arith, nat_lt, lt-ltb}
 use Rattle.std.specs.declared.string.String.{String}
-use Rattle.std.specs.String.{string_bytes}
+use Rattle.std.specs.String.{string_bytes, string_len, string_capacity}
 use Rattle.si_plain.specs.declared.kind.Kind.{Kind}
 use Rattle.si_plain.specs.declared.kind.Kind.TheVariants.{OverflowError}
 use Rattle.si_semantics.specs.Value as pure
@@ -17,7 +17,7 @@ use Rattle.si_arena.specs.Memory.{Memory, value_of, all_of, PlacesText}
 use Rattle.si_ops.specs.declared.calls.Called.TheVariants.{Value}
 use Rattle.si_ops.specs.Runs.{Throws, Runs}
 use Rattle.si_ops.specs.Writing.{Appends, IsUnwritten}
-use Rattle.si_ops.specs.Calls.{Makes, Calls}
+use Rattle.si_ops.specs.Calls.{Makes, Calls, IsSaid}
 
 -- ---- how many arguments
 
@@ -84,3 +84,8 @@ text_throws o m (NotBound s) h = absurd h
 pub text_refused : {Z : Type 0} (U : Type 0) (o : List pure.Object → Option pure.Text) (longest : List ℕ) (s t : String Z) (m : Memory) (fault : Fault) → Appends {U = U} (written (o m.store)) longest s t (Err fault) → Runs (λ w. text (written (o w.store)) w) m m (Err fault)
 text_refused U o longest s t m (Raises cause) h = (text_throws o m cause h.0, refl)
 text_refused U o longest s t m NoMemory h = refl
+
+-- a line that there is room for is refused for no memory
+pub line_said : {Z : Type 0} (U : Type 0) (p : Result pure.Text Kind) (longest : List ℕ) (s t : String Z) (fault : Fault) → Appends {U = U} p longest s t (Err fault) → string_len s + length longest ≤ string_capacity s → IsSaid (Err fault)
+line_said U p longest s t (Raises cause) h l = tt
+line_said U p longest s t NoMemory h l = let full = h.0 in absurd (omega (arith, full, l))

@@ -1,13 +1,11 @@
 -- The items that are given one by one, and what is left of them after the arena has gone on: laws that the crates above
 -- cite.
-use Rattle.std.proofs.Common.{◌≡◌, ℕ, ℤ, suc, ◌+◌, ◌<◌, ◌≤◌, List, [], ◌∷◌, length, take, drop, get_or, Option, Some, None, refl, sym, ap, subst, ◌∙◌, arith, add-one, drop-cons, length-drop}
-use Rattle.si_semantics.specs.Value as pure
-use Rattle.si_semantics.specs.World.{World}
+use Rattle.std.proofs.Common.{◌≡◌, ℤ, length, drop, Option, refl, sym, ap, subst, ◌∙◌}
 use Rattle.si_semantics.specs.Operations as operations
 use Rattle.si_semantics.specs.Operations.{Iterator, Item, Exhausted, next_item}
 use Rattle.si_arena.specs.declared.value.Ref.{Ref}
 use Rattle.si_arena.specs.declared.value.Ref.TheVariants as value
-use Rattle.si_arena.specs.Memory.{Memory, value_of, Lies, Placed, Extends}
+use Rattle.si_arena.specs.Memory.{Memory, Lies, Extends}
 use Rattle.si_arena.specs.Texts.{text_of, TextLies}
 use Rattle.si_arena.proofs.Rows.{text-grows}
 use Rattle.si_arena.proofs.Lying.{lies-extends}

@@ -16,7 +16,7 @@ use Rattle.si_arena.specs.declared.cause.Fault.{Fault}
 use Rattle.si_arena.specs.declared.cause.Fault.TheVariants.{Raises, NoMemory}
 use Rattle.si_arena.specs.Memory.{Memory, value_of, all_of, Lies, AllLie}
 use Rattle.si_ops.specs.Writing.{Adds, Lacks, Begins, Writes, IsUnwritten, spelled, spaced_in, spaced_bytes, line_bytes}
-use Rattle.si_ops.proofs.Adding.{adds_none, adds_more, adds_as, lacks_as, lacks_first, lacks_next}
+use Rattle.si_ops.proofs.Adding.{adds_more, adds_as, lacks_as, lacks_first, lacks_next}
 
 -- ---- what lies
 

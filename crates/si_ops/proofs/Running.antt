@@ -1,5 +1,5 @@
 -- Operations that go as their definitions.
-use Rattle.std.proofs.Common.{◌≡◌, ◌≢◌, ◌+◌, arith, length-append, ℕ, ℤ, ◌<◌, ◌≤◌, ◌++◌, length, Bool, true, false, Option, Some, None, Result, Ok, Err, IsOk, cond, refl, sym, ap, subst, ◌∙◌, nat_lt, lt-ltb, le-ltb, pos, negsuc, to_z, of_z, w64}
+use Rattle.std.proofs.Common.{◌≡◌, ◌≢◌, ◌+◌, arith, length-append, ℤ, ◌≤◌, ◌++◌, length, Bool, true, false, Option, Some, None, Result, Ok, Err, IsOk, cond, refl, sym, ap, subst, ◌∙◌, nat_lt, lt-ltb, le-ltb, pos, negsuc, to_z, of_z, w64}
 use Rattle.si_semantics.specs.Value as pure
 use Rattle.si_semantics.specs.Tree as tree
 use Rattle.si_semantics.specs.World.{World, Ran}

@@ -1,7 +1,7 @@
 -- How a call goes over an arena, by its definition, which says what it does in a world. The world's objects are those of
 -- the arena, before it and after it.
-use Rattle.std.specs.Prelude.{◌≡◌, ◌++◌, Some, Result, Ok, Err, encode_utf8_all}
-use Rattle.std.specs.String.{string_bytes}
+use Rattle.std.specs.Prelude.{◌≡◌, ◌≤◌, ◌+◌, List, ◌++◌, length, Some, Result, Ok, Err, encode_utf8_all}
+use Rattle.std.specs.String.{string_bytes, string_len, string_capacity}
 use Rattle.std.specs.declared.string.String.{String}
 use Rattle.si_semantics.specs.Value as pure
 use Rattle.si_semantics.specs.World.{World, Ran, Gave}
@@ -13,6 +13,7 @@ use Rattle.si_arena.specs.declared.cause.Fault.{Fault}
 use Rattle.si_arena.specs.declared.cause.Fault.TheVariants.{Raises, NoMemory}
 use Rattle.si_arena.specs.Memory.{Memory, value_of, range_of, Lies, Extends}
 use Rattle.si_ops.specs.Runs.{Throws}
+use Rattle.si_ops.specs.Writing.{line_bytes}
 use Rattle.si_ops.specs.declared.calls.Called.{Called}
 use Rattle.si_ops.specs.declared.calls.Called.TheVariants.{Value, Printed}
 
@@ -42,3 +43,15 @@ Calls f old new line more (Err fault) = Makes f old new (Err fault) × (string_b
 abbrev pub Spans : (World → Ran) → Memory → Result Steps Cause → Type 0
 Spans f m (Ok steps) = (w : World) → f w ≡ gave (range_of steps) w
 Spans f m (Err cause) = Throws f m cause
+
+-- no memory is needed for a call: of what can't be called, and of `print` where the line has room for what it prints
+abbrev pub NeedsNone : {Z : Type 0} → Memory → String Z → pure.Value → List pure.Value → Type 0
+NeedsNone m line (pure.Provided pure.Print) vs = string_len line + length (line_bytes m.store vs) ≤ string_capacity line
+NeedsNone m line (pure.Provided b) vs = ⊥
+NeedsNone m line (pure.Class k) vs = ⊥
+NeedsNone m line v vs = Unit {0}
+
+-- memory was not refused
+abbrev pub IsSaid : Result Called Fault → Type 0
+IsSaid (Err NoMemory) = ⊥
+IsSaid _ = Unit {0}

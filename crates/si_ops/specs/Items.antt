@@ -1,5 +1,5 @@
 -- What items stand for.
-use Rattle.std.specs.Prelude.{◌≡◌, ℕ, drop, length, Option, Some, None}
+use Rattle.std.specs.Prelude.{◌≡◌, drop, length, Option, Some, None}
 use Rattle.si_semantics.specs.World.{World}
 use Rattle.si_semantics.specs.Operations as operations
 use Rattle.si_semantics.specs.Operations.{Iterator, Item, Exhausted, next_item}

@@ -1,5 +1,5 @@
 -- What values are to operators.
-use Rattle.std.specs.Prelude.{◌≡◌, ◌≤◌, ℤ, List, ◌++◌, length, Option, Some, None, Result, Ok, Err}
+use Rattle.std.specs.Prelude.{◌≡◌, ◌≤◌, ◌++◌, length, Option, Some, None, Result, Err}
 use Rattle.si_semantics.specs.Value as pure
 use Rattle.si_semantics.specs.Tree as tree
 use Rattle.si_semantics.specs.Operations.{int_of_truth}

@@ -7,7 +7,7 @@ ghost use Rattle.si_semantics.specs.Value as pure;
 ghost use Rattle.si_semantics.specs.Operations as operations;
 ghost use Rattle.si_arena.specs.Memory.{built_in_of, value_of, all_of, Lies, AllLie, PlacesText};
 ghost use Rattle.si_ops.specs.Runs.{Throws, Runs};
-ghost use Rattle.si_ops.specs.Calls.{Makes, Calls, Spans};
+ghost use Rattle.si_ops.specs.Calls.{Makes, Calls, Spans, NeedsNone, IsSaid};
 
 use crate::line::push_line;
 use crate::operand::integer_in;
@@ -28,7 +28,8 @@ pub enum Called {
 /// Standard Library 3.14, "Built-in Functions" and "Built-in Exceptions"): of `print`, `range`, `str` or `repr`, or of a
 /// kind of exception, which makes one. What `print` prints is added to `line`, where a `str` is also written before it
 /// is placed. `NotCallable` for any other value, `WrongArguments`, `WrongType`, `Arithmetic`, `TooDeep` and `TooLong` as
-/// the definition raises them. Where nothing is given, the arena and the text of `line` are as before.
+/// the definition raises them. Where nothing is given, the arena and the text of `line` are as before. Memory is asked
+/// for neither by `print`, where the line has room, nor where the value can't be called.
 pub fn call(
     arena: &mut Arena,
     line: &mut String,
@@ -37,7 +38,8 @@ pub fn call(
 ) -> Result<Called, Fault>
     requires callee { Lies arena.old callee }
     requires arguments { AllLie arena.old arguments.now }
-    ensures { Calls (λ w. operations.call_provided (value_of arena.old callee) (all_of arena.old arguments.now) w) arena.old arena.new line.old line.new result }
+    ensures calls { Calls (λ w. operations.call_provided (value_of arena.old callee) (all_of arena.old arguments.now) w) arena.old arena.new line.old line.new result }
+    ensures memory { NeedsNone arena.old line.old (value_of arena.old callee) (all_of arena.old arguments.now) → IsSaid result }
 {
     match arena.view(&callee) {
         View::BuiltIn(function) => call_built_in(arena, line, function, arguments),
@@ -71,7 +73,8 @@ fn call_built_in(
     arguments: &[Ref],
 ) -> Result<Called, Fault>
     requires { AllLie arena.old arguments.now }
-    ensures { Calls (λ w. operations.call_built_in (built_in_of function) (all_of arena.old arguments.now) w) arena.old arena.new line.old line.new result }
+    ensures calls { Calls (λ w. operations.call_built_in (built_in_of function) (all_of arena.old arguments.now) w) arena.old arena.new line.old line.new result }
+    ensures memory { NeedsNone arena.old line.old (pure.Provided (built_in_of function)) (all_of arena.old arguments.now) → IsSaid result }
 {
     match function {
         BuiltIn::Print => print(arena, line, arguments),
@@ -93,7 +96,8 @@ fn call_built_in(
 // A call of `print`.
 fn print(arena: &Arena, line: &mut String, arguments: &[Ref]) -> Result<Called, Fault>
     requires { AllLie arena.now arguments.now }
-    ensures { Calls (λ w. operations.call_built_in pure.Print (all_of arena.now arguments.now) w) arena.now arena.now line.old line.new result }
+    ensures calls { Calls (λ w. operations.call_built_in pure.Print (all_of arena.now arguments.now) w) arena.now arena.now line.old line.new result }
+    ensures memory { NeedsNone arena.now line.old (pure.Provided pure.Print) (all_of arena.now arguments.now) → IsSaid result }
 {
     push_line(line, arena, arguments)?;
     Ok(Called::Printed)

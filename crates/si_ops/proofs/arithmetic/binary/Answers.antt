@@ -1,8 +1,6 @@
-use Rattle.std.proofs.Common.{◌≡◌, ap, sym, ◌∙◌, to_z, of_z, w64, rules, refl}
+use Rattle.std.proofs.Common.{◌≡◌, ap, ◌∙◌, to_z, of_z, w64, rules}
 use Rattle.si_semantics.specs.Value as pure
-use Rattle.si_semantics.specs.Operations.{int_of_truth}
 use Rattle.si_arena.specs.Memory.{value_of}
-use Rattle.si_arena.specs.Texts.{text_of}
 use Rattle.si_ops.proofs.Running.{ints_go}
 use Rattle.si_ops.proofs.arithmetic.binary.Goals as goal
 

@@ -1,4 +1,4 @@
-use Rattle.std.proofs.Common.{◌≡◌, ◌≢◌, refl, sym, ap, ◌∙◌, subst}
+use Rattle.std.proofs.Common.{◌≡◌, ◌≢◌, sym, ◌∙◌}
 use Rattle.si_plain.specs.declared.operators.UnaryOperator.{UnaryOperator}
 use Rattle.si_plain.specs.declared.operators.UnaryOperator.TheVariants as unary
 use Rattle.si_arena.specs.Memory.{value_of}

@@ -1,6 +1,5 @@
-use Rattle.std.proofs.Common.{◌≡◌, ap, sym, ◌∙◌, to_z, of_z, w64, rules, refl}
+use Rattle.std.proofs.Common.{◌≡◌, ap, ◌∙◌, to_z, of_z, w64, rules}
 use Rattle.si_semantics.specs.Value as pure
-use Rattle.si_semantics.specs.Operations.{int_of_truth}
 use Rattle.si_arena.specs.Memory.{value_of}
 use Rattle.si_arena.specs.Texts.{text_of}
 use Rattle.si_ops.proofs.Running.{stood, goes_at, ints_go, int_truth_go, truth_int_go, truths_go, text_int_go, text_truth_go, int_text_go, truth_text_go, count_fits}

@@ -1,4 +1,4 @@
-use Rattle.std.proofs.Common.{◌≡◌, ap, sym, ◌∙◌, to_z, of_z, w64}
+use Rattle.std.proofs.Common.{ap, sym, ◌∙◌, to_z, of_z, w64}
 use Rattle.si_semantics.specs.Value as pure
 use Rattle.si_semantics.specs.Operations.{int_of_truth, operate, operate_truths}
 use Rattle.si_ops.proofs.Running.{runs_as, truths_count, count_fits}

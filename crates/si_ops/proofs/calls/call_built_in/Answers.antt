@@ -6,19 +6,19 @@ use Rattle.si_arena.specs.declared.cause.Fault.{Fault}
 use Rattle.si_arena.specs.Memory.{built_in_of, all_of}
 use Rattle.si_ops.specs.declared.calls.Called.{Called}
 use Rattle.si_ops.specs.declared.calls.Called.TheVariants.{Value}
-use Rattle.si_ops.specs.Calls.{Calls}
+use Rattle.si_ops.specs.Calls.{Calls, NeedsNone, IsSaid}
 use Rattle.si_ops.proofs.Ends.{passed}
 use Rattle.si_ops.proofs.Calling.{calls_ok, calls_err}
 use Rattle.si_ops.proofs.calls.call_built_in.Goals as goal
 
-pub returns-in-Print : goal.returns-in-Print
-returns-in-Print c =
+pub returns-in-Print-clause-calls : goal.returns-in-Print-clause-calls
+returns-in-Print-clause-calls c =
     let m = c.args.arena.now in
     let P : BuiltIn → Type 0 = λ b. Calls (λ w. call_built_in (built_in_of b) (all_of m c.args.arguments.now) w) m m c.args.line.now c.print.new.line c.print.result in
-    subst P (sym c.in-Print.is) c.print.ensures
+    subst P (sym c.in-Print.is) c.print.ensures.calls
 
-pub returns-in_err-range-in-Range : goal.returns-in_err-range-in-Range
-returns-in_err-range-in-Range c =
+pub returns-in_err-range-in-Range-clause-calls : goal.returns-in_err-range-in-Range-clause-calls
+returns-in_err-range-in-Range-clause-calls c =
     let m = c.args.arena.now in
     let vs = all_of m c.args.arguments.now in
     let f = c.in_err-range-in-Range.field-0.0 in
@@ -27,16 +27,16 @@ returns-in_err-range-in-Range c =
     subst P (sym c.in-Range.is)
     (passed c.from_residual.result Q f c.from_residual.ensures.1 (calls_err (λ w. call_built_in pure.MakeRange vs w) m c.make_range.new.arena c.args.line.now c.args.line.now f c.in_err-range-in-Range.ensures refl))
 
-pub returns-in_ok-range-in-Range : goal.returns-in_ok-range-in-Range
-returns-in_ok-range-in-Range c =
+pub returns-in_ok-range-in-Range-clause-calls : goal.returns-in_ok-range-in-Range-clause-calls
+returns-in_ok-range-in-Range-clause-calls c =
     let m = c.args.arena.now in
     let vs = all_of m c.args.arguments.now in
     let r = c.in_ok-range-in-Range.range in
     let P : BuiltIn → Type 0 = λ b. Calls (λ w. call_built_in (built_in_of b) vs w) m c.make_range.new.arena c.args.line.now c.args.line.now (Ok (Value r)) in
     subst P (sym c.in-Range.is) (calls_ok (λ w. call_built_in pure.MakeRange vs w) m c.make_range.new.arena c.args.line.now c.args.line.now r c.in_ok-range-in-Range.ensures refl)
 
-pub returns-in_err-text-in-Str : goal.returns-in_err-text-in-Str
-returns-in_err-text-in-Str c =
+pub returns-in_err-text-in-Str-clause-calls : goal.returns-in_err-text-in-Str-clause-calls
+returns-in_err-text-in-Str-clause-calls c =
     let m = c.args.arena.now in
     let vs = all_of m c.args.arguments.now in
     let f = c.in_err-text-in-Str.field-0.0 in
@@ -45,16 +45,16 @@ returns-in_err-text-in-Str c =
     subst P (sym c.in-Str.is)
     (passed c.from_residual-in_err-text-in-Str.result Q f c.from_residual-in_err-text-in-Str.ensures.1 (calls_err (λ w. call_built_in pure.MakeStr vs w) m c.make_str.new.arena c.args.line.now c.make_str.new.line f c.in_err-text-in-Str.ensures.runs c.in_err-text-in-Str.ensures.line))
 
-pub returns-in_ok-text-in-Str : goal.returns-in_ok-text-in-Str
-returns-in_ok-text-in-Str c =
+pub returns-in_ok-text-in-Str-clause-calls : goal.returns-in_ok-text-in-Str-clause-calls
+returns-in_ok-text-in-Str-clause-calls c =
     let m = c.args.arena.now in
     let vs = all_of m c.args.arguments.now in
     let r = c.in_ok-text-in-Str.text in
     let P : BuiltIn → Type 0 = λ b. Calls (λ w. call_built_in (built_in_of b) vs w) m c.make_str.new.arena c.args.line.now c.make_str.new.line (Ok (Value r)) in
     subst P (sym c.in-Str.is) (calls_ok (λ w. call_built_in pure.MakeStr vs w) m c.make_str.new.arena c.args.line.now c.make_str.new.line r c.in_ok-text-in-Str.ensures.runs c.in_ok-text-in-Str.ensures.line)
 
-pub returns-in_err-text-in-Repr : goal.returns-in_err-text-in-Repr
-returns-in_err-text-in-Repr c =
+pub returns-in_err-text-in-Repr-clause-calls : goal.returns-in_err-text-in-Repr-clause-calls
+returns-in_err-text-in-Repr-clause-calls c =
     let m = c.args.arena.now in
     let vs = all_of m c.args.arguments.now in
     let f = c.in_err-text-in-Repr.field-0.0 in
@@ -63,10 +63,34 @@ returns-in_err-text-in-Repr c =
     subst P (sym c.in-Repr.is)
     (passed c.from_residual-in_err-text-in-Repr.result Q f c.from_residual-in_err-text-in-Repr.ensures.1 (calls_err (λ w. call_built_in pure.Repr vs w) m c.make_repr.new.arena c.args.line.now c.make_repr.new.line f c.in_err-text-in-Repr.ensures.runs c.in_err-text-in-Repr.ensures.line))
 
-pub returns-in_ok-text-in-Repr : goal.returns-in_ok-text-in-Repr
-returns-in_ok-text-in-Repr c =
+pub returns-in_ok-text-in-Repr-clause-calls : goal.returns-in_ok-text-in-Repr-clause-calls
+returns-in_ok-text-in-Repr-clause-calls c =
     let m = c.args.arena.now in
     let vs = all_of m c.args.arguments.now in
     let r = c.in_ok-text-in-Repr.text in
     let P : BuiltIn → Type 0 = λ b. Calls (λ w. call_built_in (built_in_of b) vs w) m c.make_repr.new.arena c.args.line.now c.make_repr.new.line (Ok (Value r)) in
     subst P (sym c.in-Repr.is) (calls_ok (λ w. call_built_in pure.Repr vs w) m c.make_repr.new.arena c.args.line.now c.make_repr.new.line r c.in_ok-text-in-Repr.ensures.runs c.in_ok-text-in-Repr.ensures.line)
+
+pub returns-in-Print-clause-memory : goal.returns-in-Print-clause-memory
+returns-in-Print-clause-memory c =
+    let m = c.args.arena.now in
+    let P : BuiltIn → Type 0 = λ b. NeedsNone m c.args.line.now (pure.Provided (built_in_of b)) (all_of m c.args.arguments.now) → IsSaid c.print.result in
+    subst P (sym c.in-Print.is) c.print.ensures.memory
+
+pub returns-in_err-range-in-Range-clause-memory : goal.returns-in_err-range-in-Range-clause-memory
+returns-in_err-range-in-Range-clause-memory c =
+    let m = c.args.arena.now in
+    let P : BuiltIn → Type 0 = λ b. NeedsNone m c.args.line.now (pure.Provided (built_in_of b)) (all_of m c.args.arguments.now) → IsSaid c.from_residual.result in
+    subst P (sym c.in-Range.is) (λ h. absurd h)
+
+pub returns-in_err-text-in-Str-clause-memory : goal.returns-in_err-text-in-Str-clause-memory
+returns-in_err-text-in-Str-clause-memory c =
+    let m = c.args.arena.now in
+    let P : BuiltIn → Type 0 = λ b. NeedsNone m c.args.line.now (pure.Provided (built_in_of b)) (all_of m c.args.arguments.now) → IsSaid c.from_residual-in_err-text-in-Str.result in
+    subst P (sym c.in-Str.is) (λ h. absurd h)
+
+pub returns-in_err-text-in-Repr-clause-memory : goal.returns-in_err-text-in-Repr-clause-memory
+returns-in_err-text-in-Repr-clause-memory c =
+    let m = c.args.arena.now in
+    let P : BuiltIn → Type 0 = λ b. NeedsNone m c.args.line.now (pure.Provided (built_in_of b)) (all_of m c.args.arguments.now) → IsSaid c.from_residual-in_err-text-in-Repr.result in
+    subst P (sym c.in-Repr.is) (λ h. absurd h)

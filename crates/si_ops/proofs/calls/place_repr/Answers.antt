@@ -1,4 +1,4 @@
-use Rattle.std.proofs.Common.{◌≡◌, ◌∷◌, [], List, Result, length, string_bytes, encode_utf8_all, subst, arith}
+use Rattle.std.proofs.Common.{◌≡◌, ◌∷◌, [], Result, length, string_bytes, encode_utf8_all, subst, arith}
 use Rattle.si_semantics.specs.Value as pure
 use Rattle.si_semantics.specs.Text.{repr_of, max_nested}
 use Rattle.si_semantics.specs.Operations.{call_built_in}

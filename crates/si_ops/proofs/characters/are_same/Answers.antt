@@ -1,6 +1,5 @@
-use Rattle.std.proofs.Common.{◌≡◌, ap, sym, ◌∙◌}
+use Rattle.std.proofs.Common.{◌≡◌, sym, ◌∙◌}
 use Rattle.si_semantics.specs.Text.{same_text}
-use Rattle.si_arena.specs.Texts.{characters_in}
 use Rattle.si_ops.proofs.Compared.{same_bytes, same_points, same_parts}
 use Rattle.si_ops.proofs.characters.are_same.Goals as goal
 

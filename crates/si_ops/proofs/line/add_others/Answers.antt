@@ -1,4 +1,4 @@
-use Rattle.std.proofs.Common.{◌≡◌, ◌+◌, ◌∷◌, ◌++◌, Result, Ok, Err, List, suc, length, take, drop, sym, subst}
+use Rattle.std.proofs.Common.{◌+◌, Result, suc, take, drop, sym, subst}
 use Rattle.si_semantics.specs.Text.{str_in, str_of, max_nested}
 use Rattle.si_arena.specs.declared.cause.Fault.{Fault}
 use Rattle.si_arena.specs.declared.cause.Fault.TheVariants.{NoMemory}
