@@ -159,7 +159,7 @@ impl Texts {
 }
 
 impl Texts {
-    // Where a text of a row starts, where nothing stands behind it in the row.
+    // Where a text of a row starts, where nothing stands after it in the row.
     fn last_start(&self, width: Width, text: Ref) -> Option<usize>
         requires { TextLies self.now text }
         ensures is { IfSome result (λ start. (start ≤ length (row_of width self.now)) × (drop start (row_of width self.now) ≡ text_of self.now text)) }

@@ -26,7 +26,7 @@ use Rattle.si_cli.specs.declared.interpreter.Solo.{Solo}
 use Rattle.si_cli.specs.inner.Courses.{HasRun, IsUnderWay}
 use Rattle.si_cli.specs.Runs.{ShowsLife, Stands, one_run}
 
--- a line of a course is the same line from here on, behind what was run and printed before; with the end of a run
+-- a line of a course is the same line from here on, after what was run and printed before; with the end of a run
 -- nothing is printed
 record SameLine (c new other : Course) : Type 0 where
   pub there : from_here new ≡ from_here other
@@ -188,7 +188,7 @@ joined_behind : (ts us : List Text) → joined (ts ++ us) ≡ joined ts ++ joine
 joined_behind [] us = refl
 joined_behind (t ∷ ts) us = ap (λ l. t ++ l) (joined_behind ts us) ∙ sym (append_assoc t (joined ts) (joined us))
 
--- what is printed behind what was printed before
+-- what is printed after what was printed before
 bytes_behind : (a b c : List Text) (old : List ℕ) → old ≡ encode_utf8_all (joined a) → c ≡ a ++ b → old ++ encode_utf8_all (joined b) ≡ encode_utf8_all (joined c)
 bytes_behind a b c old o e =
     ap (λ l. l ++ encode_utf8_all (joined b)) o ∙ sym (encodes-append (joined a) (joined b)) ∙ ap encode_utf8_all (sym (joined_behind a b) ∙ ap joined (sym e))

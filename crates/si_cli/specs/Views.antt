@@ -12,7 +12,7 @@ standing_of Ready = report.Ready
 standing_of (AtEnd outcome) = report.AtEnd (outcome_of outcome)
 standing_of Starved = report.Starved
 
--- what stands after a kind: a message that is not empty, behind a colon
+-- what stands after a kind: a message that is not empty, after a colon
 abbrev pub after_kind : List ℕ → List ℕ
 after_kind [] = []
 after_kind (c ∷ cs) = codes ": " ++ c ∷ cs

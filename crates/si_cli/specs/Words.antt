@@ -55,7 +55,7 @@ path_of (Check path) = option_map (λ p. p.now) path
 abbrev pub turns_among : App → List Text → Option Text
 turns_among command words = first_of (codes "turns") (matches_of command words)
 
--- a text writes a number as Rust's `parse` reads a whole number: decimal digits behind an optional plus
+-- a text writes a number as Rust's `parse` reads a whole number: decimal digits after an optional plus
 abbrev pub Writes : Text → ℕ → Type 0
 Writes text n = IsNumeral 10 (without_leading_plus text) × (digits_value 10 (without_leading_plus text) ≡ n)
 
@@ -107,7 +107,7 @@ abbrev pub is_topic : Option Text → Bool
 is_topic None = true
 is_topic (Some word) = bytes_eq word (codes "serial") || bytes_eq word (codes "check")
 
--- the words ask for help: the second is `-h` or `--help`, or `help` with nothing or a command behind it, or names a
+-- the words ask for help: the second is `-h` or `--help`, or `help` with nothing or a command after it, or names a
 -- command whose help the words from there on ask for
 abbrev pub asks_help : List Text → Bool
 asks_help words =

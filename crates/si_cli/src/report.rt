@@ -47,7 +47,7 @@ fn write_raised<W: Write>(out: &mut W, kind: Kind, message: &Text) -> Result<(),
     write_text(out, "\n")
 }
 
-/// Appends what stands after a kind: a message that is not empty, behind a colon.
+/// Appends what stands after a kind: a message that is not empty, after a colon.
 fn write_message<W: Write>(out: &mut W, message: &Text) -> Result<(), CliFault>
     ensures line { OnOk result (Appends (W.contents out.old) (W.contents out.new)
         (encode_utf8_all (after_kind message.now))) }

@@ -88,7 +88,7 @@ pub enum Instr {
     Call(u32),
     /// `[.., f, a1, .., an] to []`: the same where some of these n arguments are passed by name, which raises TypeError.
     CallByName(u32),
-    /// `[.., value] to [..]`: leaves the function with the value, for the place behind its call.
+    /// `[.., value] to [..]`: leaves the function with the value, for the place after its call.
     Return,
     /// `[.., value] to [..]`: lets a value go.
     Discard,

@@ -22,7 +22,7 @@ use Rattle.si_syntax.proofs.Rows.{rest_is}
 
 -- ---- two ways
 
--- a test, its code and the jump behind that, once the test's jump is aimed
+-- a test, its code and the jump after that, once the test's jump is aimed
 pub branch_gains : {t0 t1 t2 t3 t4 t5 : Contents} (test body : List machine.Instr) (skip : ℕ) → skip ≡ length t1.lines
     → Gains t0 t1 test → Gains t1 t2 (machine.JumpIfFalse 0 ∷ []) → Gains t2 t3 body → Gains t3 t4 (machine.Jump 0 ∷ []) → Aims t4 skip t5
     → Gains t0 t5 (branch_front test body ++ machine.Jump 0 ∷ [])
@@ -34,7 +34,7 @@ branch_gains {t0} {t1} {t2} {t3} {t4} {t5} test body skip here h0 h1 h2 h3 aim =
     subst (Gains t0 t5) (ap (λ k. test ++ machine.JumpIfFalse k ∷ rest) far ∙ sym (append_assoc test (machine.JumpIfFalse (length body + 1) ∷ body) (machine.Jump 0 ∷ [])))
     (aim t0 test rest (machine.JumpIfFalse 0) all place)
 
--- how many lines there are behind that jump, and in front of it
+-- how many lines there are after that jump, and in front of it
 pub branch_at : {t0 t1 t2 t3 t5 : Contents} (test body : List machine.Instr) (end : ℕ) → end ≡ length t3.lines → Gains t0 t1 test → Gains t1 t2 (machine.JumpIfFalse 0 ∷ []) → Gains t2 t3 body
     → Gains t0 t5 (branch_front test body ++ machine.Jump 0 ∷ []) → end + 1 ≡ length t5.lines
 branch_at {t0} {t1} {t2} {t3} {t5} test body end here h0 h1 h2 all =
@@ -43,11 +43,11 @@ branch_at {t0} {t1} {t2} {t3} {t5} test body end here h0 h1 h2 all =
 pub branch_behind : {t0 t1 t2 t3 : Contents} (test body : List machine.Instr) (end : ℕ) → end ≡ length t3.lines → Gains t0 t1 test → Gains t1 t2 (machine.JumpIfFalse 0 ∷ []) → Gains t2 t3 body → length t0.lines ≤ end
 branch_behind {t0} {t1} {t2} {t3} test body end here h0 h1 h2 = omega (arith, here, length_gained h0, length_gained h1, length_gained h2)
 
--- where the jump behind a test's code stands
+-- where the jump after a test's code stands
 pub branch_place : {t0 t1 : Contents} (test body : List machine.Instr) (end : ℕ) → Gains t0 t1 (branch_front test body ++ machine.Jump 0 ∷ []) → end + 1 ≡ length t1.lines → end ≡ length t0.lines + length (branch_front test body)
 branch_place {t0} {t1} test body end h here = omega (arith, length_gained h, length-append (branch_front test body) (machine.Jump 0 ∷ []))
 
--- the other code, and the jump to behind it
+-- the other code, and the jump to after it
 pub branch_ends : {t0 t1 t2 t3 : Contents} (test body last : List machine.Instr) (end : ℕ) → end + 1 ≡ length t1.lines
     → Gains t0 t1 (branch_front test body ++ machine.Jump 0 ∷ []) → Gains t1 t2 last → Aims t2 end t3
     → Gains t0 t3 (branch_code test body last)
@@ -62,7 +62,7 @@ branch_ends {t0} {t1} {t2} {t3} test body last end here h k aim =
 abbrev pub Operands : List Text → tree.BooleanOperator → List Expr → List machine.Instr
 Operands ls o es = operands_code ls o (exprs_of (map expr_of es))
 
--- whatever is due behind, with these jumps it makes all
+-- whatever is due after, with these jumps it makes all
 abbrev pub MakesAll : Contents → List ℕ → List machine.Instr → Contents → List machine.Instr → Type 0
 MakesAll t0 jumps all t1 rest = (end : Contents) (later : List ℕ) → Due t1 later rest end → Due t0 (jumps ++ later) all end
 
@@ -73,7 +73,7 @@ MakesAll-step {t0} {t1} {t2} jumps more all rest others at push step before end 
 pub MakesAll-end : {t0 t1 t2 : Contents} (jumps : List ℕ) (all rest : List machine.Instr) → MakesAll t0 jumps all t1 rest → Gains t1 t2 rest → Due t0 jumps all t2
 MakesAll-end {t0} {t1} {t2} jumps all rest before h = subst (λ js. Due t0 js all t2) (append-nil jumps) (before t2 [] (Due-nil h))
 
--- one jump more stands behind what stood in front
+-- one jump more stands after what stood in front
 pub behind_more : {t0 t1 : Contents} {more : List ℕ} (jumps : List ℕ) (at : ℕ) → more ≡ jumps ++ at ∷ [] → at ≡ length t1.lines → Extends t0 t1 → AllByRecursion (λ k. length t0.lines ≤ k) jumps → AllByRecursion (λ k. length t0.lines ≤ k) more
 behind_more {t0} {t1} {more} jumps at push here before all =
     let behind : length t0.lines ≤ at = omega (arith, length-Begins t0.lines t1.lines before.lines) in
@@ -103,7 +103,7 @@ Linked = ComparisonOperator × Expr
 abbrev pub Chain : List Text → List Linked → Linked → List machine.Instr
 Chain ls links last = chain_code ls (chain_of (map link_of links ++ link_of last ∷ []))
 
--- a comparison and its operand, with more of the chain behind it
+-- a comparison and its operand, with more of the chain after it
 abbrev link_front : List Text → Link → List machine.Instr
 link_front ls l = expr_code ls l.1 ++ (machine.KeepRight ∷ (machine.Compare l.0 ∷ []))
 
@@ -126,7 +126,7 @@ chain_end {t0} {t1} {t2} {t3} ls links last i jumps le before h k =
     MakesAll-end jumps (Chain ls links last) (Chain ls (drop i links) last) before
     (subst (λ l. Gains t1 t3 (Chain ls l last)) (sym (drop_all i links le)) (Gains-append t1 t2 t3 (expr_code ls (link_of last).1) (machine.Compare (link_of last).0 ∷ []) h k))
 
--- the last link stands behind the others
+-- the last link stands after the others
 pub chain_all : (ls : List Text) (all links : List Linked) (last : Linked) → all ≡ links ++ last ∷ [] → chain_code ls (chain_of (map link_of all)) ≡ Chain ls links last
 chain_all ls all links last is = ap (λ l. chain_code ls (chain_of (map link_of l))) is ∙ ap (λ l. chain_code ls (chain_of l)) (map-append link_of links (last ∷ []))
 
@@ -135,7 +135,7 @@ chain_all ls all links last is = ap (λ l. chain_code ls (chain_of (map link_of 
 abbrev pub Elifs : List Text → ℕ → List Branch → tree.Stmts → List machine.Instr
 Elifs ls first branches last = stmts_code ls first (elifs_of branches last)
 
--- the functions of those behind a branch are numbered behind its own
+-- the functions of those after a branch are numbered after its own
 pub elif_due : {t1 t2 : Contents} (ls : List Text) (first : ℕ) (b : Branch) (more : List Branch) (last : tree.Stmts) (at : ℕ) → at + 1 ≡ length t2.lines
     → Gains t1 t2 (branch_front (expr_code ls b.0) (stmts_code ls first b.1) ++ machine.Jump 0 ∷ [])
     → (end : Contents) (later : List ℕ) → Due t2 later (Elifs ls (first + length (functions_in b.1)) more last) end → Due t1 (at ∷ later) (Elifs ls first (b ∷ more) last) end

@@ -41,7 +41,7 @@ call_is : (f : Box Expr Global) (args : Vec Expr Global) (names : Vec (String Gl
 call_is f args names = ap expr_of (sym (rolls-Call f args names)) ∙ fold-roll-Expr tree.Expr view_step (Expr-F.Call f args names)
 
 module _ (ls : List Text) where
-  -- the parts are seen behind their boxes
+  -- the parts are seen within their boxes
   pub at_value : {a b : Contents} (x y : Expr) → x ≡ y → Gains a b (Code ls x) → Gains a b (Code ls y)
   at_value {a} {b} x y e h = subst (λ z. Gains a b (Code ls z)) e h
 
@@ -85,7 +85,7 @@ module _ (ls : List Text) where
 -- ---- statements
 
 module _ (ls : List Text) where
-  -- one of several, and then the rest, whose functions are numbered behind its own
+  -- one of several, and then the rest, whose functions are numbered after its own
   pub next_stmt : {t0 t1 t2 : Contents} (ss : List Stmt) (i : ℕ) (s : Stmt) (first now then : ℕ) → i < length ss → get_or ss i s ≡ s → then ≡ now + length (functions_of (stmt_of s))
       → ((end : Contents) → Gains t1 end (stmts_code ls now (body_of (drop i ss))) → Gains t0 end (stmts_code ls first (body_of ss)))
       → Gains t1 t2 (stmt_code ls now (stmt_of s))

@@ -70,12 +70,12 @@ module _ (ls : List Text) where
 
 -- ---- statements
 
--- those behind an `if` are those of the next `elif`, and of what stands behind that
+-- those after an `if` are those of the next `elif`, and of what stands after that
 pub elif_defines : (b : Branch) (more : List Branch) (last : tree.Stmts) → functions_in (elifs_of (b ∷ more) last) ≡ functions_in b.1 ++ functions_in (elifs_of more last)
 elif_defines b more last = append-nil (functions_in b.1 ++ functions_in (elifs_of more last))
 
 module _ (ls : List Text) where
-  -- an `if`, once the jump behind its suite is aimed; the functions of what follows are numbered behind those of the suite
+  -- an `if`, once the jump after its suite is aimed; the functions of what follows are numbered after those of the suite
   pub if_gains : {t0 t1 t2 t3 : Contents} (first then : ℕ) (b : Branch) (others : tree.Stmts) (end : ℕ) → then ≡ first + length (functions_in b.1) → end + 1 ≡ length t1.lines
       → Gains t0 t1 (branch_front (expr_code ls b.0) (stmts_code ls first b.1) ++ machine.Jump 0 ∷ []) → Gains t1 t2 (stmts_code ls then others) → Aims t2 end t3
       → Gains t0 t3 (stmt_code ls first (tree.If b.0 b.1 others))
@@ -83,11 +83,11 @@ module _ (ls : List Text) where
       let numbered = subst (λ n. Gains t1 t2 (stmts_code ls n others)) goes behind in
       branch_ends (expr_code ls b.0) (stmts_code ls first b.1) (stmts_code ls (first + length (functions_in b.1)) others) end here front numbered aim
 
-  -- what stands behind its suite, by the list of its `elif`s
+  -- what stands after its suite, by the list of its `elif`s
   pub others_gains : {t0 t1 : Contents} (first : ℕ) (i : If) (bs : List BranchParts) → bs ≡ (out-If i).elifs.items → Gains t0 t1 (Elifs ls first (map branch_of bs) (body_of (out-If i).last.items)) → Gains t0 t1 (stmts_code ls first (others_of i))
   others_gains {t0} {t1} first i bs all h = subst (λ l. Gains t0 t1 (Elifs ls first (map branch_of l) (body_of (out-If i).last.items))) all h
 
-  -- a loop, of its parts; the functions of the else suite are numbered behind those of the suite
+  -- a loop, of its parts; the functions of the else suite are numbered after those of the suite
   pub while_gains : {t0 t1 t2 t3 : Contents} (first then : ℕ) (test : Expr) (ss ends : List Stmt) (t : tree.Stmt) (enter : ℕ) → t ≡ tree.While (expr_of test) (body_of ss) (body_of ends)
       → then ≡ first + length (functions_in (body_of ss)) → enter ≡ length t0.lines + length (Code ls test) + 1
       → Gains t0 t1 (turn_front (Code ls test) (stmts_code ls first (body_of ss))) → Gains t1 t2 (stmts_code ls then (body_of ends)) → Aims t2 enter t3
@@ -114,14 +114,14 @@ module _ (ls : List Text) where
       let others = subst (λ n. Due t2 later (Elifs ls n (map branch_of (drop (i + 1) bs)) last) end) goes d in
       subst (λ x. Due t1 (at ∷ later) (Elifs ls now (map branch_of x) last) end) (sym (rest_is bs i b lt is)) (elif_due ls now (branch_of b) (map branch_of (drop (i + 1) bs)) last at here h end later others)
 
-  -- behind the last one
+  -- after the last one
   pub elifs_end : {t0 t1 t2 : Contents} (bs : List BranchParts) (i : ℕ) (ends ss : List Stmt) (jumps : List ℕ) (first now : ℕ) → length bs ≤ i → ss ≡ ends → MakesAll t0 jumps (Elifs ls first (map branch_of bs) (body_of ends)) t1 (Elifs ls now (map branch_of (drop i bs)) (body_of ends)) → Gains t1 t2 (stmts_code ls now (body_of ss))
       → Due t0 jumps (Elifs ls first (map branch_of bs) (body_of ends)) t2
   elifs_end {t0} {t1} {t2} bs i ends ss jumps first now le same before h =
       MakesAll-end jumps (Elifs ls first (map branch_of bs) (body_of ends)) (Elifs ls now (map branch_of (drop i bs)) (body_of ends)) before
       (subst (λ x. Gains t1 t2 (Elifs ls now (map branch_of x) (body_of ends))) (sym (drop_all i bs le)) (subst (λ x. Gains t1 t2 (stmts_code ls now (body_of x))) same h))
 
--- the number moves on over an `elif`, and over the suite behind the last
+-- the number moves on over an `elif`, and over the suite after the last
 pub next_elif_number : (bs : List BranchParts) (i : ℕ) (b : BranchParts) (last : tree.Stmts) (now then all : ℕ) → i < length bs → get_or bs i b ≡ b → then ≡ now + length (functions_in (branch_of b).1)
     → now + length (functions_in (elifs_of (map branch_of (drop i bs)) last)) ≡ all → then + length (functions_in (elifs_of (map branch_of (drop (i + 1) bs)) last)) ≡ all
 next_elif_number bs i b last now then all lt is goes before =
@@ -156,13 +156,13 @@ for_number first then now target items ss ends t seen goes on = tree_number now 
 
 -- ---- what stood in front
 
--- a jump behind what stood in front is aimed
+-- a jump after what stood in front is aimed
 pub front_stays : {front old new : Contents} {at : ℕ} → ((c : Contents) → length c.lines ≤ at → Extends c old → Extends c new) → (seen : Contents) → at ≡ length seen.lines → Extends front seen → Extends front old → Extends front new
 front_stays {front} {old} {new} {at} keeps seen here before all =
     let behind : length front.lines ≤ at = omega (arith, length-Begins front.lines seen.lines before.lines) in
     keeps front behind all
 
--- one jump more stands behind what stood in front
+-- one jump more stands after what stood in front
 pub branch_more : {t0 t1 : Contents} {more : List ℕ} (jumps : List ℕ) (at : ℕ) → more ≡ jumps ++ at ∷ [] → length t1.lines ≤ at → Extends t0 t1 → AllByRecursion (λ k. length t0.lines ≤ k) jumps → AllByRecursion (λ k. length t0.lines ≤ k) more
 branch_more {t0} {t1} {more} jumps at push here before all =
     let behind : length t0.lines ≤ at = omega (arith, length-Begins t0.lines t1.lines before.lines, here) in

@@ -145,7 +145,7 @@ rest_stands all n then whole fs gs is goes h = stand_behind all n then fs gs goe
 pub all_stand : (all : List Function) (n : ℕ) (whole fs : List Function) → whole ≡ fs → StandAt all n whole → StandAt all n fs
 all_stand all n whole fs is h = subst (StandAt all n) is h
 
--- two parts, one behind the other
+-- two parts, one after the other
 pub both_gain : {a b c : Contents} (whole fs gs : List Function) → whole ≡ fs ++ gs → GainsFunctions a b fs → GainsFunctions b c gs → GainsFunctions a c whole
 both_gain {a} {b} {c} whole fs gs is h k = subst (GainsFunctions a c) (sym is) (functions_more a b c fs gs h k)
 

@@ -26,7 +26,7 @@ use Rattle.si_compile.proofs.Seen.{tree_gains, tree_number}
 abbrev pub Handlers : List Text → ℕ → List ClauseParts → List Instr
 Handlers ls first cs = clauses_code ls first (clauses_of (map clause_of cs))
 
--- the number that the functions of a suite begin with, behind those of others
+-- the number that the functions of a suite begin with, after those of others
 pub number_behind : {A : Type 0} (first now then : ℕ) (fs gs : List A) → now ≡ first + length fs → then ≡ now + length gs → then ≡ first + length (fs ++ gs)
 number_behind first now then fs gs goes on = omega (arith, goes, on, length-append fs gs)
 
@@ -50,7 +50,7 @@ finally_gains {t0} {t1} {t2} {t3} body last h k l =
     subst (Gains t0 t3) (ap (λ x. machine.EnterFinally (length body + 1) ∷ x) (append_assoc body (machine.StartFinally ∷ []) behind))
     (Gains-append t0 t1 t3 (machine.EnterFinally (length body + 1) ∷ (body ++ machine.StartFinally ∷ [])) behind h (Gains-append t1 t2 t3 last (machine.EndFinally ∷ []) k l))
 
--- what unbinds a name behind a suite
+-- what unbinds a name after a suite
 abbrev pub Leaves : Contents → ℕ → Instr → Contents → Type 0
 Leaves old enter unbind new =
     (front : Contents) (before body : List Instr) → Gains front old (before ++ machine.EnterFinally 0 ∷ body) → enter ≡ length front.lines + length before
@@ -122,7 +122,7 @@ skips_gains {t0} {t1} {t2} {t3} enter h k aim front before rest g here =
     let far : length more ≡ length rest + 2 = omega (arith, length-append rest end) in
     subst (Gains front t3) (ap (λ n. before ++ (machine.EnterTry n ∷ more)) far) (aim front before more (machine.EnterTry 0) all here)
 
--- the clauses behind that, and the else suite, to which the suite leads
+-- the clauses after that, and the else suite, to which the suite leads
 pub tried_gains : {t0 t1 t2 t3 t4 t5 t6 t7 t8 : Contents} (body handlers last : List Instr) (enter skip end : ℕ) → enter ≡ length t0.lines → skip ≡ length t2.lines + 1 → end ≡ length t4.lines
     → Gains t0 t1 (machine.EnterTry 0 ∷ []) → Gains t1 t2 body → Skips t2 enter t3 → Gains t3 t4 handlers → Gains t4 t5 (machine.Jump 0 ∷ []) → Aims t5 skip t6 → Gains t6 t7 last → Aims t7 end t8
     → Gains t0 t8 (machine.EnterTry (length body + 2) ∷ (body ++ (machine.LeaveBlock ∷ (machine.Jump (length handlers + 1) ∷ (handlers ++ (machine.Jump (length last) ∷ last))))))
@@ -146,7 +146,7 @@ tried_gains {t0} {t1} {t2} {t3} {t4} {t5} {t6} {t7} {t8} body handlers last ente
     subst (Gains t0 t8) (append_assoc front (jump ∷ handlers) (machine.Jump (length last) ∷ last) ∙ ap (λ l. first ∷ l) (append_assoc body (machine.LeaveBlock ∷ []) (jump ∷ others)))
     (aim_end t0 before last (machine.Jump 0) whole at_end)
 
--- a `try` of its parts; the functions of each are numbered behind those of the parts in front
+-- a `try` of its parts; the functions of each are numbered after those of the parts in front
 pub tried_stmt : {t0 t1 : Contents} (ls : List Text) (first then now : ℕ) (t : tree.Stmt) (ss ends : List Stmt) (cs : List ClauseParts) → t ≡ tree.Try (body_of ss) (clauses_of (map clause_of cs)) (body_of ends)
     → then ≡ first + length (functions_in (body_of ss)) → now ≡ then + length (functions_in_clauses (clauses_of (map clause_of cs)))
     → Gains t0 t1 (try_code (stmts_code ls first (body_of ss)) (clauses_of (map clause_of cs)) (Handlers ls then cs) (stmts_code ls now (body_of ends))) → Gains t0 t1 (stmt_code ls first t)
@@ -201,12 +201,12 @@ clause_whole ls (Some a) body rest =
     append_assoc (expr_code ls a) (machine.TestClause ∷ (machine.JumpIfFalse (length body + 2) ∷ (body ++ machine.LeaveBlock ∷ []))) (machine.Jump (length rest) ∷ rest)
     ∙ ap (λ l. expr_code ls a ++ (machine.TestClause ∷ (machine.JumpIfFalse (length body + 2) ∷ l))) (append_assoc body (machine.LeaveBlock ∷ []) (machine.Jump (length rest) ∷ rest))
 
--- behind no expression
+-- after no expression
 pub bare_clause : {t0 t1 : Contents} (ls : List Text) (a : Option Expr) (body : List Instr) → a ≡ None → Gains t0 t1 (body ++ (machine.LeaveBlock ∷ (machine.Jump 0 ∷ []))) → Gains t0 t1 (clause_front ls a body ++ machine.Jump 0 ∷ [])
 bare_clause {t0} {t1} ls a body none h =
     subst (λ x. Gains t0 t1 (clause_front ls x body ++ machine.Jump 0 ∷ [])) (sym none) (subst (Gains t0 t1) (sym (append_assoc body (machine.LeaveBlock ∷ []) (machine.Jump 0 ∷ []))) h)
 
--- behind one
+-- after one
 pub tested_clause : {t0 t1 t2 t3 t4 t5 : Contents} (ls : List Text) (a : Option Expr) (e : Expr) (body : List Instr) (skip : ℕ) → a ≡ Some e → skip ≡ length t2.lines
     → Gains t0 t1 (expr_code ls e) → Gains t1 t2 (machine.TestClause ∷ []) → Gains t2 t3 (machine.JumpIfFalse 0 ∷ []) → Gains t3 t4 (body ++ (machine.LeaveBlock ∷ (machine.Jump 0 ∷ []))) → Aims t4 skip t5
     → Gains t0 t5 (clause_front ls a body ++ machine.Jump 0 ∷ [])
@@ -222,7 +222,7 @@ tested_clause {t0} {t1} {t2} {t3} {t4} {t5} ls a e body skip some e2 h0 h1 h2 h3
     ∙ sym (append_assoc (expr_code ls e) (machine.TestClause ∷ (first ∷ (body ++ machine.LeaveBlock ∷ []))) (machine.Jump 0 ∷ [])) in
     subst (λ x. Gains t0 t5 (clause_front ls x body ++ machine.Jump 0 ∷ [])) (sym some) (subst (Gains t0 t5) joins all)
 
--- where the jump behind it stands
+-- where the jump after it stands
 pub tested_at : {t0 t1 t2 t3 t4 t5 : Contents} (ls : List Text) (a : Option Expr) (e : Expr) (body : List Instr) (end : ℕ) → a ≡ Some e → end + 1 ≡ length t4.lines
     → Gains t0 t1 (expr_code ls e) → Gains t1 t2 (machine.TestClause ∷ []) → Gains t2 t3 (machine.JumpIfFalse 0 ∷ []) → Gains t3 t4 (body ++ (machine.LeaveBlock ∷ (machine.Jump 0 ∷ []))) → Gains t0 t5 (clause_front ls a body ++ machine.Jump 0 ∷ [])
     → end + 1 ≡ length t5.lines
@@ -242,7 +242,7 @@ tested_at {t0} {t1} {t2} {t3} {t4} {t5} ls a e body end some here h0 h1 h2 h3 al
       length-append body (machine.LeaveBlock ∷ (machine.Jump 0 ∷ [])),
     )
 
--- one clause of several, whose jump is due; the functions of those behind it are numbered behind its own
+-- one clause of several, whose jump is due; the functions of those after it are numbered after its own
 pub next_clause : {t1 t2 : Contents} (ls : List Text) (cs : List ClauseParts) (i : ℕ) (c : ClauseParts) (at now then : ℕ) → i < length cs → get_or cs i c ≡ c → then ≡ now + length (functions_in (clause_of c).2) → at + 1 ≡ length t2.lines
     → Gains t1 t2 (clause_front ls (clause_of c).0 (named_code ls (clause_of c).1 (stmts_code ls now (clause_of c).2)) ++ machine.Jump 0 ∷ [])
     → (end : Contents) (later : List ℕ) → Due t2 later (Handlers ls then (drop (i + 1) cs)) end → Due t1 (at ∷ later) (Handlers ls now (drop i cs)) end
@@ -273,7 +273,7 @@ next_clause_number cs i c now then all lt is goes before =
 pub last_clause_number : (cs : List ClauseParts) (i now all : ℕ) → length cs ≤ i → now + length (functions_in_clauses (clauses_of (map clause_of (drop i cs)))) ≡ all → now ≡ all
 last_clause_number cs i now all le before = omega (arith, ap (λ l. length (functions_in_clauses (clauses_of (map clause_of l)))) (drop_all i cs le))
 
--- behind the last one
+-- after the last one
 pub clauses_end : {t0 t1 t2 : Contents} (ls : List Text) (cs : List ClauseParts) (i : ℕ) (jumps : List ℕ) (first now : ℕ) → length cs ≤ i → MakesAll t0 jumps (Handlers ls first cs) t1 (Handlers ls now (drop i cs)) → Gains t1 t2 (machine.RaiseAgain ∷ [])
     → Due t0 jumps (Handlers ls first cs) t2
 clauses_end {t0} {t1} {t2} ls cs i jumps first now le before h =

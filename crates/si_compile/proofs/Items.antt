@@ -11,7 +11,7 @@ use Rattle.si_compile.specs.Correct.{Meets, Runs, end_at}
 use Rattle.si_compile.proofs.Steps.{go, quiet, spare, moved, visited, now, step, Line_is, line_at, later, called_less, both, to_end, weaker}
 use Rattle.si_compile.proofs.Blocks.{popped, each_passes}
 
--- a loop over items, from what is known of its parts: an item at start, its block from enter on, the body up to back, the else suite behind that, and `break` leads to out
+-- a loop over items, from what is known of its parts: an item at start, its block from enter on, the body up to back, the else suite after that, and `break` leads to out
 module _ (t : Table) (n : ℕ) (put : Value → Meaning (Unit {0})) (body last : Meaning (Unit {0})) (start enter back out end : ℕ) (bs : List Block)
     (skip : ℕ) (items : slice_get t.lines start ≡ Some (machine.NextItem skip)) (past : start + 1 + skip ≡ back + 1)
     (puts : (v : Value) (it : Iterator) (low q : ℕ) (s : State) (c : Course) → Meets t (At (start + 1) (v ∷ []) s.slots (Each it ∷ bs)) low (q + 1) s c → Runs t n (end_at (Each it ∷ bs) enter) (Each it ∷ bs) low q (put v s) c)

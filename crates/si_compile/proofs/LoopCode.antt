@@ -104,7 +104,7 @@ for_gains {t0} {t1} {t2} {t3} {t4} items put body last enter here h0 h1 h2 ends 
 
 -- ---- what stood in front
 
--- a jump behind what stood in front is aimed
+-- a jump after what stood in front is aimed
 pub kept_from : {front seen old new : Contents} {at : ℕ} (n : ℕ) → ((c : Contents) → length c.lines ≤ at → Extends c old → Extends c new) → at ≡ length seen.lines + n → Extends front seen → Extends front old → Extends front new
 kept_from {front} {seen} {old} {new} {at} n keeps here before all =
     let behind : length front.lines ≤ at = omega (arith, here, length-Begins front.lines seen.lines before.lines) in

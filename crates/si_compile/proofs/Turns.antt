@@ -10,7 +10,7 @@ use Rattle.si_compile.specs.Code.{compiled}
 use Rattle.si_compile.specs.Correct.{Meets, Runs, value_at, end_at}
 use Rattle.si_compile.proofs.Steps.{go, quiet, spare, moved, visited, now, step, line_at, later, called_less, both, choice, weaker}
 
--- a loop, from what is known of its parts: the test from start to middle, the body up to back, the else suite from behind that to end
+-- a loop, from what is known of its parts: the test from start to middle, the body up to back, the else suite from after that to end
 module _ (t : Table) (n : ℕ) (test : Meaning Value) (body last : Meaning (Unit {0})) (start middle back end : ℕ) (bs : List Block)
     (tests : (low q : ℕ) (s : State) (c : Course) → Meets t (At start [] s.slots bs) low q s c → Runs t n (value_at [] bs middle) bs low (q + 12) (test s) c)
     (skip : ℕ) (jump : slice_get t.lines middle ≡ Some (machine.JumpIfFalse skip)) (past : middle + 1 + skip ≡ back + 1)

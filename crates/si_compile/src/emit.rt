@@ -20,7 +20,7 @@ use si_syntax::{Assign, Augment, Branch, Expr, If, Stmt, Target};
 use std::alloc::AllocError;
 
 /// Statements one after another, where these names are local. The functions that they define are numbered from `next`
-/// on, which moves behind the last of them.
+/// on, which moves past the last of them.
 #[cycle(stmts)]
 pub(crate) fn emit_suite(
     table: &mut CodeTable,
@@ -166,7 +166,7 @@ fn emit_others(
     table.aim_all(&ends)
 }
 
-// A test, the suite that is passed over where its value isn't true, and the jump behind that. It isn't aimed yet: it leads
+// A test, the suite that is passed over where its value isn't true, and the jump after that. It isn't aimed yet: it leads
 // past what follows. Says where it is.
 #[cycle(stmts)]
 fn emit_branch(

@@ -96,7 +96,7 @@ fn emit_exprs(table: &mut CodeTable, locals: &Names, exprs: &[Expr]) -> Result<(
     Ok(())
 }
 
-// The operands of `and` or `or` behind the first.
+// The operands of `and` or `or` after the first.
 #[cycle(exprs)]
 fn emit_operands(
     table: &mut CodeTable,
@@ -116,7 +116,7 @@ fn emit_operands(
     table.aim_all(&jumps)
 }
 
-// The operators and operands of a chain of comparisons behind the first operand.
+// The operators and operands of a chain of comparisons after the first operand.
 #[cycle(exprs)]
 fn emit_chain(
     table: &mut CodeTable,

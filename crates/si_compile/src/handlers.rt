@@ -101,7 +101,7 @@ fn emit_clauses(
     table.aim_all(&ends)
 }
 
-// An except clause: its test where it has an expression, its suite, and the jump behind that, which isn't aimed yet: it
+// An except clause: its test where it has an expression, its suite, and the jump after that, which isn't aimed yet: it
 // leads past the clauses that follow. Says where it is.
 #[cycle(stmts)]
 fn emit_clause(
@@ -128,7 +128,7 @@ fn emit_clause(
     Ok(end)
 }
 
-// The suite of an except clause, with a name for the exception or with none, and the jump behind it, which isn't aimed
+// The suite of an except clause, with a name for the exception or with none, and the jump after it, which isn't aimed
 // yet. Says where that is.
 #[cycle(stmts)]
 fn emit_handler(
@@ -154,7 +154,7 @@ fn emit_handler(
     leave_handler(table)
 }
 
-// The end of an except clause's suite, and the jump behind it, which isn't aimed yet. Says where that is.
+// The end of an except clause's suite, and the jump after it, which isn't aimed yet. Says where that is.
 fn leave_handler(table: &mut CodeTable) -> Result<usize, NoMemory>
     ensures ok { OnOk result (Gains table.old table.new (machine.LeaveBlock ∷ (machine.Jump 0 ∷ []))) }
     ensures at { IfOk result (λ at. at + 1 ≡ length table.new.lines) }
@@ -166,7 +166,7 @@ fn leave_handler(table: &mut CodeTable) -> Result<usize, NoMemory>
     Ok(end)
 }
 
-// A name is bound to the exception, and a suite entered behind which it is unbound. Says where.
+// A name is bound to the exception, and a suite entered after which it is unbound. Says where.
 fn enter_named(table: &mut CodeTable, locals: &Names, name: &str) -> Result<usize, NoMemory>
     ensures ok { OnOk result (Gains table.old table.new (machine.PushException ∷ (store_code name.now (place_of name.now locals.now) ∷ (machine.EnterFinally 0 ∷ [])))) }
     ensures at { IfOk result (λ at. at ≡ length table.old.lines + 2) }
@@ -179,7 +179,7 @@ fn enter_named(table: &mut CodeTable, locals: &Names, name: &str) -> Result<usiz
     Ok(enter)
 }
 
-// The name is unbound behind the suite that was entered at this place, however that is left.
+// The name is unbound after the suite that was entered at this place, however that is left.
 fn leave_named(
     table: &mut CodeTable,
     locals: &Names,

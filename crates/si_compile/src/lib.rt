@@ -1,7 +1,7 @@
 // From scripts to instructions.
 //
 // `compile` adds the code of a script to a `si_code::CodeTable`: the table then stands for what it stood for, with the
-// code and the functions that specs/Code.antt gives the tree behind it; or memory was refused, and the table is as it
+// code and the functions that specs/Code.antt gives the script's tree; or memory was refused, and the table is as it
 // was. What such code does when a machine runs it, `laws` says: what the script means.
 //
 // In reading order: `emit`, the code of each statement; `expression`, `loops` and `handlers`, that of expressions, of loops

@@ -68,7 +68,7 @@ fn emit_body(table: &mut CodeTable, first: u32, body: &[Stmt]) -> Result<(), NoM
 }
 
 // The functions that statements of a script define, in order. `number` counts them in the script: it is that of the first
-// of them, and moves behind the last.
+// of them, and moves past the last.
 #[cycle(functions)]
 fn emit_functions(
     table: &mut CodeTable,

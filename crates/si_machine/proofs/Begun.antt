@@ -87,7 +87,7 @@ counted : (place : ℕ) (names : List pure.Text) → length (map (first_of place
 counted place [] = refl
 counted place (x ∷ names) = ap suc (counted place names)
 
--- with the text `__main__` behind the literals
+-- with the text `__main__` after the literals
 pub all_known : (table : Contents) (texts : List pure.Text) (globals built_ins : List (Option Value)) → texts ≡ table.literals ++ codes "__main__" ∷ [] → globals ≡ map (first_of (length table.literals)) table.names → AreBuiltIn table.names built_ins → length table.lines < 2 ^ 63 → IsKnown table texts globals built_ins
 all_known table texts globals built_ins t g b few =
     let place = length table.literals in

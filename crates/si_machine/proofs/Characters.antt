@@ -20,13 +20,13 @@ scalars_drop zero t e = e
 scalars_drop (suc g) [] e = e
 scalars_drop (suc g) (c ∷ t) e = scalars_drop g t (and_right _ (scalars t) e)
 
--- a text may be cut behind the characters that were given
+-- a text may be cut after the characters that were given
 pub boundary : (t s : List ℕ) (g i : ℕ) → s ≡ encode_utf8_all t → scalars t ≡ true → i ≡ length (encode_utf8_all (take g t)) → IsCharBoundary s i
 boundary t s g i e u h =
     let P : ℕ → Type 0 = λ k. IsCharBoundary s k in
     subst P (sym h) (IsCharBoundary-at_seam s (encode_utf8_all (take g t)) (encode_utf8_all (drop g t)) (e ∙ cut t g) (drop g t, (scalars_drop g t u, refl)))
 
--- the bytes behind them are those of the others
+-- the bytes after them are those of the others
 pub behind : (t s : List ℕ) (g i : ℕ) → s ≡ encode_utf8_all t → i ≡ length (encode_utf8_all (take g t)) → drop i s ≡ encode_utf8_all (drop g t)
 behind t s g i e h =
     ap (λ k. drop k s) h ∙ ap (drop (length (encode_utf8_all (take g t)))) (e ∙ cut t g)
@@ -53,6 +53,6 @@ one_more t g c i j n l e h k s =
 pub text_scalars : (t s : List ℕ) → s ≡ encode_utf8_all t → IsUtf8 s → scalars t ≡ true
 text_scalars t s e u = sym (ap scalars (encodes_same u.0 t (u.1.1 ∙ e))) ∙ u.1.0
 
--- there are bytes behind a character that is not the last
+-- there are bytes after a character that is not the last
 pub some_behind : (t rest : List ℕ) (g : ℕ) → g < length t → rest ≡ encode_utf8_all (drop g t) → length rest ≡ 0 → ⊥
 some_behind t rest g l e none = omega (arith, length-le-encodes (drop g t), length-drop g t, ap length e)

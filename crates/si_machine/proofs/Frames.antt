@@ -171,7 +171,7 @@ named_raises cause n f old new r top gives e =
 
 -- ---- returns
 
--- the callers that are there, behind the innermost
+-- the callers that are there, after the innermost
 pub callers_left : {A : Type 0} (n : ℕ) (lists : List (List A)) → length lists ≡ n + 1 → (0 < length lists) × (length (drop 1 lists) ≡ n)
 callers_left n [] e = absurd (let no : ⊥ = omega (arith, e) in no)
 callers_left n (xs ∷ lists) e = (omega arith, omega (arith, e))

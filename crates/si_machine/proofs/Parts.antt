@@ -18,7 +18,7 @@ pub length-parts : {A : Type 0} (gap : ℕ) (xs : List A) (base : ℕ) (bases : 
 length-parts gap xs base [] = refl
 length-parts gap xs base (b ∷ bases) = ap suc (length-parts gap xs b bases)
 
--- the list behind a base, cut at k
+-- the list after a base, cut at k
 pub behind_base : {A : Type 0} (xs : List A) (base k : ℕ) → base ≤ k → drop base (take k xs) ≡ take (k - base) (drop base xs)
 behind_base xs base k h =
     let sum : k ≡ base + (k - base) = omega arith in

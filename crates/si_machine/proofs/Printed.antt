@@ -20,7 +20,7 @@ joined (Err k) q = Err k
 joined (Ok s) (Err k) = Err k
 joined (Ok s) (Ok t) = Ok (s ++ t)
 
--- a text with a space before it, and what is behind
+-- a text with a space before it, and what is after
 abbrev spaced_by : (r p : Result pure.Text Kind) → Result pure.Text Kind
 spaced_by r p = elim r [ Err k ↦ Err k | Ok t ↦ elim p [ Err k ↦ Err k | Ok rest ↦ Ok (32 ∷ (t ++ rest)) ] ]
 
@@ -75,7 +75,7 @@ none_before : (q : Result pure.Text Kind) → q ≡ joined (Ok []) q
 none_before (Err k) = refl
 none_before (Ok s) = refl
 
--- values, and others behind them
+-- values, and others after them
 spaced_joined : (store : List pure.Object) (vs ws : List pure.Value) → spaced_in store (vs ++ ws) ≡ joined (spaced_in store vs) (spaced_in store ws)
 spaced_joined store [] ws = none_before (spaced_in store ws)
 spaced_joined store (v ∷ vs) ws =

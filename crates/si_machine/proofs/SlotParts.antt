@@ -65,7 +65,7 @@ bound_more vs slots i d h within =
     ∙ set_at first (get_or slots i None) rest (Some v) i size
     ∙ sym (ap (λ l. l ++ rest) more ∙ append_assoc first (Some v ∷ []) rest)
 
--- all are bound, and those behind them are without a value
+-- all are bound, and those after them are without a value
 pub entered_is : (vs : List Value) (locals count : ℕ) → count - length vs ≡ locals - length vs → passed vs ++ drop (length vs) (replicate count None) ≡ entered locals vs
 entered_is vs locals count e =
     ap (λ l. passed vs ++ l) (drop-replicate (length vs) count None ∙ ap (λ n. replicate n None) e ∙ unbound_is (locals - length vs))

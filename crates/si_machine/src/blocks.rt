@@ -66,7 +66,7 @@ pub enum Block {
     Loop {
         /// The place of the loop's first instruction.
         start: usize,
-        /// The place of the instruction behind the loop.
+        /// The place of the instruction after the loop.
         after: usize,
     },
     /// What a `for` still has to give.
@@ -81,7 +81,7 @@ pub enum Block {
     Handling(usize),
     /// The body of a function.
     Frame {
-        /// The place of the instruction behind the call.
+        /// The place of the instruction after the call.
         after: usize,
     },
 }

@@ -245,7 +245,7 @@ impl State {
         Step::Local
     }
 
-    // The caller's operands, and the place behind the call, are kept for the return.
+    // The caller's operands, and the place after the call, are kept for the return.
     fn keep_caller(&mut self, count: usize) -> Result<(), NoMemory>
         requires next { self.old.pc + 1 < 2 ^ 64 }
         requires callee { count < length self.old.operands.here }

@@ -15,7 +15,7 @@ use std::alloc::{AllocError, Global};
 /// The texts, the globals and the built-in values of a run.
 #[derive(Drop)]
 pub struct Known {
-    /// The table's literals, and behind them the texts that the run has made.
+    /// The table's literals, and after them the texts that the run has made.
     pub texts: Texts,
     /// What is bound, by slot.
     pub globals: Vec<Option<Value>>,

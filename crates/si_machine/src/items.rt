@@ -113,7 +113,7 @@ fn next_character(
     Ok(Some((Value::Str(item), rest)))
 }
 
-// The character of a text behind so many, which take so many bytes, and how many bytes it and they take.
+// The character of a text after so many, which take so many bytes, and how many bytes it and they take.
 fn character_at(text: &Text, given: usize, bytes: usize) -> (char, usize)
     requires given { given < length text.now }
     requires bytes { bytes ≡ length (encode_utf8_all (take given text.now)) }

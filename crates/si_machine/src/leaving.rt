@@ -174,7 +174,7 @@ impl State {
         Step::Local
     }
 
-    /// Back in the caller, behind the call, with its value.
+    /// Back in the caller, after the call, with its value.
     pub fn back(&mut self, after: usize, value: Value) -> Step
         requires operands { 0 < length self.old.operands.below }
         requires slots { 0 < length self.old.slots.below }

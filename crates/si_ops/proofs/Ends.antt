@@ -1,4 +1,4 @@
--- What stands behind a text in a String, and where that may be cut.
+-- What stands after a text in a String, and where that may be cut.
 use Rattle.std.proofs.Common.{◌≡◌, ℕ, ◌≤◌, Bool, true, false, cond, List, [], ◌∷◌, ◌++◌, length, take, drop, encode_utf8, encode_utf8_all, Option, Some, None, Result, Ok, Err, refl, sym, ap, subst, ◌∙◌, arith, append_assoc, append-nil, length-drop, le-ltb, ◌-◌}
 use Rattle.std.specs.Prelude.{◌&&◌, is_some, not, nat_lt, IsErrAnd}
 use Rattle.std.specs.Str.{IsUtf8, IsCharBoundary}
@@ -19,9 +19,9 @@ use Rattle.si_arena.specs.declared.cause.Fault.{Fault}
 use Rattle.si_arena.specs.declared.cause.Fault.TheVariants.{Raises, NoMemory}
 use Rattle.si_ops.specs.Writing.{Adds, Begins, Writes, Appends, spelled}
 
--- ---- characters behind characters
+-- ---- characters after characters
 
--- what stands behind characters in UTF-8 is characters too
+-- what stands after characters in UTF-8 is characters too
 front_of : (fs ws more : List ℕ) → encode_utf8_all ws ≡ encode_utf8_all fs ++ more → (rest : List ℕ) × (ws ≡ fs ++ rest) × (encode_utf8_all rest ≡ more)
 front_of [] ws more e = (ws, refl, e)
 front_of (f ∷ fs) ws more e =

@@ -42,7 +42,7 @@ joined (Err k) q = Err k
 joined (Ok s) (Err k) = Err k
 joined (Ok s) (Ok t) = Ok (s ++ t)
 
--- a text with a space before it, and what is behind
+-- a text with a space before it, and what is after
 abbrev spaced_by : (r p : Result Text Kind) → Result Text Kind
 spaced_by r p = elim r [ Err k ↦ Err k | Ok t ↦ elim p [ Err k ↦ Err k | Ok rest ↦ Ok (32 ∷ (t ++ rest)) ] ]
 
@@ -78,7 +78,7 @@ none_before : (q : Result Text Kind) → q ≡ joined (Ok []) q
 none_before (Err k) = refl
 none_before (Ok s) = refl
 
--- values, and others behind them
+-- values, and others after them
 spaced_joined : (store : List Object) (vs ws : List Value) → spaced_in store (vs ++ ws) ≡ joined (spaced_in store vs) (spaced_in store ws)
 spaced_joined store [] ws = none_before (spaced_in store ws)
 spaced_joined store (v ∷ vs) ws =
@@ -129,7 +129,7 @@ begins_next {a = a} {s = s} u p b = (a ++ b.0, b.1 ∙ ap (λ x. x ++ b.0) p.byt
 
 -- ---- the next value
 
--- values up to one, that one, and those behind
+-- values up to one, that one, and those after
 pub all_parts : (m : Memory) (rs : List Ref) (i : ℕ) (r : Ref) → i < length rs → r ≡ get_or rs i r → all_of m rs ≡ all_of m (take i rs) ++ value_of m r ∷ all_of m (drop (suc i) rs)
 all_parts m rs i r l e =
     ap (map (value_of m)) (sym (take-append-drop i rs)) ∙ map-append (value_of m) (take i rs) (drop i rs)

@@ -25,7 +25,7 @@ abbrev pub items_of : Trees → List Tree
 items_of NoTrees = []
 items_of (MoreTrees t ts) = t ∷ items_of ts
 
--- the first n trees, and those behind them
+-- the first n trees, and those after them
 abbrev pub first_trees : ℕ → List Tree → Trees
 first_trees zero ts = NoTrees
 first_trees (suc n) [] = NoTrees

@@ -71,7 +71,7 @@ impl Atom {
         }
     }
 
-    /// Its `repr`, behind what was written.
+    /// Its `repr`, after what was written.
     pub(crate) fn show_into(&self, alloc: Global, out: &mut String) -> Result<(), AllocError>
         ensures { OnOk result (string_bytes out.new ≡ string_bytes out.old ++ encode_utf8_all (shown_atom (atom_of self.now))) }
     {

@@ -256,7 +256,7 @@ impl Parcel {
         Ok(out)
     }
 
-    // Its `repr`, behind what was written.
+    // Its `repr`, after what was written.
     fn show_into(&self, alloc: Global, out: &mut String) -> Result<(), AllocError>
         ensures { OnOk result (string_bytes out.new ≡ string_bytes out.old ++ encode_utf8_all (shown self.now)) }
     {
@@ -302,7 +302,7 @@ fn separate(out: &mut String, at: usize) -> Result<(), AllocError>
     }
 }
 
-// What stands behind so many items.
+// What stands after so many items.
 fn close(out: &mut String, count: usize) -> Result<(), AllocError>
     ensures { OnOk result (string_bytes out.new ≡ string_bytes out.old ++ encode_utf8_all (closing count)) }
 {

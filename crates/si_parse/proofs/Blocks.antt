@@ -254,7 +254,7 @@ block_sound (suc n) body ts r h = block_reads (Nests n) (block_at n) (block_soun
 
 -- ---- what is in the grammar is read
 
--- what may stand behind a line, and how one begins
+-- what may stand after a line, and how one begins
 pub record Ends (ts : List Terminal) : Type 0 where
   pub elifs : (after (Word token.ElifWord)) ts ≡ None
   pub elses : (after (Word token.ElseWord)) ts ≡ None

@@ -105,7 +105,7 @@ module _ (n : ℕ) (sub : Parser) (complete : IsComplete n sub) where
     abbrev Follows : List Terminal → Type 0
     Follows more = (strength_at more < 1) × (begins_str more ≡ false) × (after (Sign token.Equal) more ≡ None)
 
-    -- no `=` stands behind the name with which an expression begins, as this would be read up to it
+    -- no `=` stands after the name with which an expression begins, as this would be read up to it
     not_named : (e : Expr) (f more : List Terminal) → Spells m 1 e f → Follows more → named_at (f ++ more) ≡ None
     not_named e f more h ends = by (named_at (f ++ more)) refl
       where
@@ -246,7 +246,7 @@ module _ (n : ℕ) (sub : Parser) (complete : IsComplete n sub) where
       (x.0, h.0 ++ more, x.1, c.0, ap comparison_at split ∙ c.2, c.3, refl, c.1)
 
   module _ (l : ℕ) (low : l ≤ 16) where
-    -- Reading begins with the tree, and goes on behind it.
+    -- Reading begins with the tree, and goes on after it.
     abbrev Run : ℕ → List Terminal → Parsed
     Run k ts = then_read (operand_by sub l ts) (λ r. continued_by sub (n + 1) l k r.0 r.1 r.2)
 
@@ -265,7 +265,7 @@ module _ (n : ℕ) (sub : Parser) (complete : IsComplete n sub) where
         ∙ ap (λ o. then_read o (λ r. continued_by sub (n + 1) l (k + 1 - 1) r.0 r.1 r.2)) h
         ∙ ap (λ i. continued_by sub (n + 1) l i e' d' ts') same
 
-    -- one operator or call behind what was reached
+    -- one operator or call after what was reached
     extends : (m : ℕ) (a e : Expr) (f tail rest : List Terminal) (d : ℕ) → (r : Reaches m a f (tail ++ rest)) → l ≤ strength_at (tail ++ rest) → d ≤ m + 1 → r.0 < d
         → extended_by sub (n + 1) a r.0 (tail ++ rest) (continuation_at (tail ++ rest)) ≡ Some (e, d, rest)
         → Reaches (suc m) e (f ++ tail) rest

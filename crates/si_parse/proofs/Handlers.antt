@@ -53,7 +53,7 @@ module _ (L : Lines) where
   uncaught [] f h = h
   uncaught (x ∷ xs) f h = (h.0, h.1, h.2, h.3.0, uncaught xs h.1 h.4)
 
-  -- behind clauses with expressions any clause may stand
+  -- after clauses with expressions any clause may stand
   caught_last : (xs : List Clause) (f : List Terminal) → Many Catches xs f → bare_is_last xs ≡ true
   caught_last [] f h = refl
   caught_last (x ∷ []) f h = refl
@@ -275,7 +275,7 @@ module _ (L : Lines) (line : LineParser) (suite_reads : SuiteSound L line) where
 
 -- ---- what is in the grammar is read
 
--- a clause that begins with an expression has no colon behind its `except`
+-- a clause that begins with an expression has no colon after its `except`
 catch_is : (rest : List Terminal) → after (Sign token.Colon) rest ≡ None → after_catch (Word token.ExceptWord ∷ rest) ≡ Some rest
 catch_is rest h = ap (λ o. if is_none o then Some rest else None) h
 
@@ -294,7 +294,7 @@ caught_complete e (Some y) f g more k he hy colon =
     let c = expression_complete max_depth max_depth 1 e f (Word token.AsWord ∷ (NAME y ∷ more)) (omega arith) (omega arith) he (omega arith) refl in
     ap (λ t. caught_by (f ++ (t ++ more))) hy ∙ ap (λ o. then_read o (λ t. caught_from t.0 t.2 (after (Word token.AsWord) t.2))) c.3
 
--- what stands behind the clauses and their `else`
+-- what stands after the clauses and their `else`
 pub record Closes (ts : List Terminal) : Type 0 where
   pub no_except : (after (Word token.ExceptWord)) ts ≡ None
   pub no_else : (after (Word token.ElseWord)) ts ≡ None
@@ -345,7 +345,7 @@ module _ (L : Lines) (line : LineParser) (suite_complete : SuiteComplete L line)
       let fuel : length f < length (f ++ more) = omega (arith, length-append f more) in
       many_complete and_clause (catch_by line) no_catch (Catches L) Any (λ c f more h any. tt) next_catch (length (f ++ more)) [] cs f more fuel h tt over ∙ ap (λ b. Some (b, more)) (added_clauses [] cs)
 
-  -- no clause with an expression stands where the bare one does, or behind it
+  -- no clause with an expression stands where the bare one does, or after it
   bare_begins : (o : Option Stmts) (k more : List Terminal) → Last L o k → after (Word token.ExceptWord) more ≡ None → no_catch (k ++ more) ≡ true
   bare_begins None k more h not_except = ap (λ t. no_catch (t ++ more)) h ∙ uncatching more not_except
   bare_begins (Some b) k more h not_except =

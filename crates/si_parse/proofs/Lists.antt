@@ -49,7 +49,7 @@ module _ {R B : Type 0} (add : B → R → B) (rest : R → List Terminal) (item
     abbrev Spelled : B → List Terminal → B × List Terminal → Type 0
     Spelled b ts r = (xs : List R) × (f : List Terminal) × (r.0 ≡ added add b xs) × (0 < length xs) × (ts ≡ f ++ closer ∷ r.1) × Separated J s xs f
 
-    -- items behind a separator are following ones
+    -- items after a separator are following ones
     to_following : (xs : List R) (f : List Terminal) → 0 < length xs → Separated J s xs f → Following J s xs (Sign s ∷ f)
     to_following [] f some h = absurd (omega arith)
     to_following (x ∷ xs) f some h = (h.0, h.1, ap (λ l. Sign s ∷ l) h.2, h.3, h.4)

@@ -1,4 +1,4 @@
--- The expressions and the names of arguments: what is passed by name stands behind the others, and no name comes twice.
+-- The expressions and the names of arguments: what is passed by name stands after the others, and no name comes twice.
 use Rattle.std.proofs.Common.{◌≡◌, Bool, true, false, ℕ, ◌+◌, ◌<◌, List, [], ◌∷◌, ◌++◌, length, Option, Some, None, refl, sym, ap, ◌∙◌, subst, map, append_assoc, arith, ◌⊎◌, inl, inr, ⊎_elim, if◌then◌else◌}
 use Rattle.std.specs.Prelude.{nat_eq, not, ◌&&◌, ◌||◌}
 use Rattle.std.specs.Option.{option_map, is_some}
@@ -122,7 +122,7 @@ distinct_end (y ∷ ys) x d h =
     let q = either (same_text x y) (is_in x ys) h in
     ap (λ b. not b && are_distinct (ys ++ x ∷ [])) (in_end y ys x (same_turned x y q.0) (opposite (is_in y ys) p.0)) ∙ distinct_end ys x p.1 q.1
 
--- an argument is behind those before
+-- an argument is after those before
 abbrev Kept : Passed → List Argument → Passed → Type 0
 Kept b arguments r =
     (positional : List Expr) × (named : List (Text × Expr)) × (arguments ≡ map Positional positional ++ map by_name named) × (r.0 ≡ b.0 ++ (positional ++ map value_in named)) × (r.1 ≡ b.1 ++ map name_in named)
@@ -183,7 +183,7 @@ passed_sound arguments r h =
 
 -- ---- what is passed is kept
 
--- a name with others behind it, and no name twice, is not one of those before
+-- a name with others after it, and no name twice, is not one of those before
 not_before : (xs more : List Text) (x : Text) → are_distinct (xs ++ x ∷ more) ≡ true → is_in x xs ≡ false
 not_before [] more x d = refl
 not_before (y ∷ ys) more x d =

@@ -181,7 +181,7 @@ small_reads ts None None None None is also too last r h = spelled_reads ts r h
 statement_reads : (ts : List Terminal) (r : Stmt × List Terminal) → statement_by (expression_at max_depth) ts ≡ Some r → SmallRead ts r
 statement_reads ts r h = small_reads ts (word_statement ts) (after (Word token.ReturnWord) ts) (after (Word token.GlobalWord) ts) (after (Word token.RaiseWord) ts) refl refl refl refl r h
 
--- what may stand behind a statement
+-- what may stand after a statement
 abbrev Follows : List Terminal → Type 0
 Follows more = (strength_at more < 1) × (begins_str more ≡ false) × (assignment_at more ≡ None) × (ends_small more ≡ true)
 

@@ -99,7 +99,7 @@ module _ {R B : Type 0} (add : B → R → B) (rest : R → List Terminal) (item
         ∙ ap (λ o. behind_item (separated_by add rest item separator close j) (add b r) o (separator (rest r))) h
         ∙ ap (λ o. behind_item (separated_by add rest item separator close j) (add b r) None o) i
 
--- a compound statement behind its word
+-- a compound statement after its word
 pub block_compound : (n : ℕ) (body : List Stmt) (ts rest : List Terminal) (word : Header) (s : Stmt) (more : List Terminal) → 0 < n → header_at ts ≡ Some (word, rest) → compound_by (block_at (n - 1)) word rest ≡ Some (s, more)
     → block_at n body ts ≡ Some (body ++ s ∷ [], more)
 block_compound n body ts rest word s more positive is h =
@@ -114,7 +114,7 @@ elif_read line bs ts rest b more is h = ap (λ o. then_read o (λ rest. then_rea
 pub catch_read : (line : LineParser) (cs : List Clause) (ts rest : List Terminal) (c : Clause) (more : List Terminal) → after_catch ts ≡ Some rest → clause_by line rest ≡ Some (c, more) → catch_by line cs ts ≡ Some (cs ++ c ∷ [], more)
 catch_read line cs ts rest c more is h = ap (λ o. then_read o (λ rest. then_read (clause_by line rest) (with_clause cs))) is ∙ ap (λ o. then_read o (with_clause cs)) h
 
--- the other compound statements behind their words
+-- the other compound statements after their words
 pub while_read : (line : LineParser) (ts : List Terminal) (b : Branch) (behind : List Terminal) (last : List Stmt) (more : List Terminal) → branch_by line ts ≡ Some (b, behind) → otherwise_by line behind ≡ Some (last, more)
     → while_by line ts ≡ Some (tree.While b.0 b.1 (stmts_of last), more)
 while_read line ts b behind last more h i = ap (λ o. then_read o (λ b. then_read (otherwise_by line b.1) (joined_while b.0))) h ∙ ap (λ o. then_read o (joined_while b)) i

@@ -20,7 +20,7 @@ pub(crate) enum Argument {
     ByName(String, Expr),
 }
 
-// The name by which an argument is passed, where one with an `=` behind it stands at the place, and the place behind
+// The name by which an argument is passed, where one with an `=` after it stands at the place, and the place after
 // both.
 pub(crate) fn named_at<'a>(tokens: &[Token<'a>], at: usize) -> Option<(&'a str, usize)>
     ensures { option_map (λ x. (x.0.now, from tokens.now x.1)) result ≡ named_at (from tokens.now at) }
@@ -35,7 +35,7 @@ pub(crate) fn named_at<'a>(tokens: &[Token<'a>], at: usize) -> Option<(&'a str, 
     }
 }
 
-// The expressions of arguments, and the names of those that are passed by name. These stand behind the others, and no
+// The expressions of arguments, and the names of those that are passed by name. These stand after the others, and no
 // name comes twice; the line is that of the fault where it is not so.
 pub(crate) fn passed(
     alloc: Global,

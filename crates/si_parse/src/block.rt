@@ -20,7 +20,7 @@ use si_syntax::{Branch, Define, For, If, Stmt, While};
 use si_token::{Keyword, Symbol, Token};
 use std::alloc::Global;
 
-// Statements, and the place behind them.
+// Statements, and the place after them.
 type Suite = Result<(Vec<Stmt>, usize), ParseFault>;
 
 // The statements before with those of a line, or with a compound statement; so many of these are nested at most.
@@ -49,7 +49,7 @@ pub(crate) fn block(
     Ok((body, end))
 }
 
-// The statement from behind its word, which stands in the line.
+// The statement from after its word, which stands in the line.
 #[cycle(blocks)]
 fn compound(
     alloc: Global,
@@ -71,7 +71,7 @@ fn compound(
     }
 }
 
-// The statement from behind its `if`.
+// The statement from after its `if`.
 #[cycle(blocks)]
 #[tactic(auto, using(si_syntax::proofs::Forms::if_is))]
 fn if_statement(
@@ -89,7 +89,7 @@ fn if_statement(
     Ok((Stmt::If(If { first, elifs, last }), end))
 }
 
-// The statement from behind its `while`.
+// The statement from after its `while`.
 #[cycle(blocks)]
 fn while_statement(
     alloc: Global,
@@ -106,7 +106,7 @@ fn while_statement(
     Ok((Stmt::While(While { test, body, last }), end))
 }
 
-// The statement from behind its `for`.
+// The statement from after its `for`.
 #[cycle(blocks)]
 fn for_statement(
     alloc: Global,
@@ -130,7 +130,7 @@ fn for_statement(
     Ok((Stmt::For(statement), end))
 }
 
-// The statement from behind its `def`, which stands in the line.
+// The statement from after its `def`, which stands in the line.
 #[cycle(blocks)]
 fn definition(
     alloc: Global,
@@ -157,7 +157,7 @@ fn definition(
     Ok((Stmt::Define(statement), end))
 }
 
-// A test and its suite, and the place behind them.
+// A test and its suite, and the place after them.
 #[cycle(blocks)]
 fn branch(
     alloc: Global,
@@ -173,7 +173,7 @@ fn branch(
     Ok((Branch { test, body }, end))
 }
 
-// The test and the suite of each `elif`, and the place behind them.
+// The test and the suite of each `elif`, and the place after them.
 #[cycle(blocks)]
 #[tactic(auto, using(crate::proofs::Steps::many_by_zero, crate::proofs::Steps::many_by_step))]
 fn elifs(
@@ -210,7 +210,7 @@ pub(crate) fn otherwise(alloc: Global, parts: u32, tokens: &[Token], at: usize) 
     }
 }
 
-// A colon with a line behind it, or with indented lines.
+// A colon with a line after it, or with indented lines.
 #[cycle(blocks)]
 pub(crate) fn suite(alloc: Global, parts: u32, tokens: &[Token], at: usize) -> Suite
     requires { parts < 999 }
@@ -228,7 +228,7 @@ pub(crate) fn suite(alloc: Global, parts: u32, tokens: &[Token], at: usize) -> S
     }
 }
 
-// The lines from behind an indent up to the dedent, of which there is one at least.
+// The lines from after an indent up to the dedent, of which there is one at least.
 #[cycle(blocks)]
 #[tactic(auto, using(crate::proofs::Steps::many_by_zero, crate::proofs::Steps::many_by_step))]
 fn indented(alloc: Global, parts: u32, tokens: &[Token], start: usize) -> Suite

@@ -20,7 +20,7 @@ use si_syntax::Expr;
 use si_token::{Keyword, Symbol, Token, TokenKind, int_value};
 use std::alloc::Global;
 
-// An expression with its depth, and the place behind it.
+// An expression with its depth, and the place after it.
 pub(crate) type Read = Result<(Expr, u32, usize), ParseFault>;
 
 // The tree, where it is no deeper than the limit.
@@ -35,7 +35,7 @@ fn within(limit: u32, tree: Expr, depth: u32, tokens: &[Token], at: usize) -> Re
     }
 }
 
-// The value of the str literals from the place on, and the place behind them.
+// The value of the str literals from the place on, and the place after them.
 fn strings(alloc: Global, tokens: &[Token], at: usize) -> Result<(Text, usize), ParseFault>
     ensures { Gives (λ x. (x.0, from tokens.now x.1)) result (strings_by [] (from tokens.now at)) }
 {
@@ -151,7 +151,7 @@ fn unary(
     ))
 }
 
-// The expression behind an open bracket, up to the closed one.
+// The expression after an open bracket, up to the closed one.
 #[cycle(expressions)]
 fn bracketed(alloc: Global, parts: u32, tokens: &[Token], at: usize) -> Read
     requires { parts < 999 }
@@ -165,7 +165,7 @@ fn bracketed(alloc: Global, parts: u32, tokens: &[Token], at: usize) -> Read
     }
 }
 
-// The operand with the operators and calls behind it, as far as they are of the level.
+// The operand with the operators and calls after it, as far as they are of the level.
 #[cycle(expressions)]
 #[tactic(auto, using(crate::proofs::Steps::continued_by_zero, crate::proofs::Steps::continued_by_step))]
 fn continued(
@@ -200,7 +200,7 @@ fn continued(
     Err(ParseFault::Syntax(line_at(tokens, at)))
 }
 
-// The operand with what continues it; `at` is the place of the token that does, and `behind` the one behind it.
+// The operand with what continues it; `at` is the place of the token that does, and `behind` the one after it.
 #[cycle(expressions)]
 fn extended(
     alloc: Global,
@@ -251,7 +251,7 @@ fn binary(
     within(parts + 1, tree, depth.max(right_depth) + 1, tokens, at)
 }
 
-// The callee with its arguments, from behind the open bracket.
+// The callee with its arguments, from after the open bracket.
 #[cycle(expressions)]
 fn call(alloc: Global, parts: u32, left: Expr, depth: u32, tokens: &[Token], at: usize) -> Read
     requires limit { parts < 999 }
@@ -279,7 +279,7 @@ fn compare(alloc: Global, parts: u32, left: Expr, depth: u32, tokens: &[Token], 
     within(parts + 1, tree, depth.max(links_depth) + 1, tokens, at)
 }
 
-// The operand with others behind it, each behind the word of the operator, whose first one stands at the place.
+// The operand with others after it, each after the word of the operator, whose first one stands at the place.
 #[cycle(expressions)]
 fn boolean(
     alloc: Global,
@@ -300,7 +300,7 @@ fn boolean(
     within(parts + 1, tree, depth.max(others_depth) + 1, tokens, at)
 }
 
-// The value with its test, which begins at the place, behind an `if`, and the other value.
+// The value with its test, which begins at the place, after an `if`, and the other value.
 #[cycle(expressions)]
 fn conditional(
     alloc: Global,
@@ -334,7 +334,7 @@ fn conditional(
     )
 }
 
-// An argument that begins at the place, its depth, and the place behind it.
+// An argument that begins at the place, its depth, and the place after it.
 #[cycle(expressions)]
 fn argument(
     alloc: Global,
@@ -362,7 +362,7 @@ fn argument(
     }
 }
 
-// The arguments behind an open bracket, up to the closed one, and the greatest depth among them.
+// The arguments after an open bracket, up to the closed one, and the greatest depth among them.
 #[cycle(expressions)]
 #[tactic(auto, using(crate::proofs::Steps::separated_by_zero))]
 fn arguments(
@@ -396,7 +396,7 @@ fn arguments(
     Err(ParseFault::Syntax(line_at(tokens, at)))
 }
 
-// The operands behind the first one, each behind the word of the operator, and the greatest depth among them.
+// The operands after the first one, each after the word of the operator, and the greatest depth among them.
 #[cycle(expressions)]
 #[tactic(auto, using(crate::proofs::Steps::chain_by_zero))]
 fn operands(
@@ -441,7 +441,7 @@ fn is_singleton(tree: &Expr, depth: u32) -> bool
     }
 }
 
-// The operand of a comparison, which begins at the place. Behind `is` it is one word.
+// The operand of a comparison, which begins at the place. After `is` it is one word.
 #[cycle(expressions)]
 fn compared(
     alloc: Global,

@@ -17,10 +17,10 @@ use si_syntax::{Clause, Expr, Finally, Stmt, Try};
 use si_token::{Keyword, Token};
 use std::alloc::Global;
 
-// Except clauses, and the place behind them.
+// Except clauses, and the place after them.
 type Clauses = Result<(Vec<Clause>, usize), ParseFault>;
 
-// The statement from behind its `try`.
+// The statement from after its `try`.
 #[cycle(blocks)]
 #[tactic(auto, using(crate::proofs::Turns::tried_none))]
 pub(crate) fn try_statement(
@@ -58,7 +58,7 @@ pub(crate) fn try_statement(
     Ok((Stmt::Try(statement), at))
 }
 
-// The except clauses, the suite of the `else` behind them, and the place behind it. Without a clause no `else` is read.
+// The except clauses, the suite of the `else` after them, and the place after it. Without a clause no `else` is read.
 #[cycle(blocks)]
 #[tactic(auto, using(crate::proofs::Turns::handled_some, crate::proofs::Turns::handled_none))]
 fn handlers(
@@ -99,7 +99,7 @@ fn catches(alloc: Global, parts: u32, tokens: &[Token], start: usize) -> Clauses
     Err(ParseFault::Syntax(line_at(tokens, at)))
 }
 
-// The clauses with a bare one behind them, where an `except` stands at the place.
+// The clauses with a bare one after them, where an `except` stands at the place.
 #[cycle(blocks)]
 fn bare(alloc: Global, parts: u32, before: Vec<Clause>, tokens: &[Token], at: usize) -> Clauses
     requires { parts < 999 }
@@ -118,7 +118,7 @@ fn bare(alloc: Global, parts: u32, before: Vec<Clause>, tokens: &[Token], at: us
     Ok((clauses, end))
 }
 
-// An except clause from behind its `except`, with an expression.
+// An except clause from after its `except`, with an expression.
 #[cycle(blocks)]
 fn clause(
     alloc: Global,
@@ -139,7 +139,7 @@ fn clause(
     Ok((clause, end))
 }
 
-// The expression of an except clause, the name behind its `as` where there is one, and the place behind them.
+// The expression of an except clause, the name after its `as` where there is one, and the place after them.
 fn caught(
     alloc: Global,
     tokens: &[Token],

@@ -10,7 +10,7 @@ use si_plain::Text;
 use si_token::{begins_raw, between_quotes, escape, next_character, unprefixed};
 use std::alloc::{AllocError, Global};
 
-// Puts the character behind the others, where there is one.
+// Puts the character after the others, where there is one.
 fn keep(text: &mut Text, written: Option<char>) -> Result<(), AllocError>
     ensures { OnOk result (text.new ≡ text.old ++ option_to_list written) }
 {

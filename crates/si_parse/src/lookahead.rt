@@ -1,4 +1,4 @@
-// One token of look-ahead: the token at a place, and the place behind it.
+// One token of look-ahead: the token at a place, and the place after it.
 
 ghost use Rattle.std.specs.Prelude.{◌≡◌, ℕ, ◌+◌, ◌<◌, ◌≤◌, length, [], ◌∷◌, option_map, MatchOption, OnSome};
 ghost use Rattle.si_semantics.specs.Grammar.{terminal_of, Sign, Word, NEWLINE, INDENT, DEDENT};
@@ -40,7 +40,7 @@ pub(crate) fn line_at(tokens: &[Token], at: usize) -> usize {
     }
 }
 
-// The place behind the symbol, where it stands at the place.
+// The place after the symbol, where it stands at the place.
 #[tactic(auto, using(crate::proofs::Numbers::symbols_same, crate::proofs::Numbers::symbols_differ))]
 pub(crate) fn after(tokens: &[Token], at: usize, symbol: Symbol) -> Option<usize>
     ensures { option_map (from tokens.now) result ≡ after (Sign (symbol_of symbol)) (from tokens.now at) }
@@ -52,7 +52,7 @@ pub(crate) fn after(tokens: &[Token], at: usize, symbol: Symbol) -> Option<usize
     }
 }
 
-// The place behind the keyword, where it stands at the place.
+// The place after the keyword, where it stands at the place.
 #[tactic(auto, using(crate::proofs::Numbers::keywords_same, crate::proofs::Numbers::keywords_differ))]
 pub(crate) fn after_word(tokens: &[Token], at: usize, keyword: Keyword) -> Option<usize>
     ensures { option_map (from tokens.now) result ≡ after (Word (keyword_of keyword)) (from tokens.now at) }
@@ -64,7 +64,7 @@ pub(crate) fn after_word(tokens: &[Token], at: usize, keyword: Keyword) -> Optio
     }
 }
 
-// The place behind the end of a line, where it stands at the place.
+// The place after the end of a line, where it stands at the place.
 pub(crate) fn after_newline(tokens: &[Token], at: usize) -> Option<usize>
     ensures { option_map (from tokens.now) result ≡ after NEWLINE (from tokens.now at) }
 {
@@ -75,7 +75,7 @@ pub(crate) fn after_newline(tokens: &[Token], at: usize) -> Option<usize>
     }
 }
 
-// The place behind an indent, where one stands at the place.
+// The place after an indent, where one stands at the place.
 pub(crate) fn after_indent(tokens: &[Token], at: usize) -> Option<usize>
     ensures { option_map (from tokens.now) result ≡ after INDENT (from tokens.now at) }
 {
@@ -86,7 +86,7 @@ pub(crate) fn after_indent(tokens: &[Token], at: usize) -> Option<usize>
     }
 }
 
-// The place behind a dedent, where one stands at the place.
+// The place after a dedent, where one stands at the place.
 pub(crate) fn after_dedent(tokens: &[Token], at: usize) -> Option<usize>
     ensures { option_map (from tokens.now) result ≡ after DEDENT (from tokens.now at) }
 {
@@ -97,7 +97,7 @@ pub(crate) fn after_dedent(tokens: &[Token], at: usize) -> Option<usize>
     }
 }
 
-// The place behind the word of the operator, where it stands at the place.
+// The place after the word of the operator, where it stands at the place.
 pub(crate) fn after_boolean(operator: BooleanOperator, tokens: &[Token], at: usize) -> Option<usize>
     ensures { option_map (from tokens.now) result ≡ after_boolean operator (from tokens.now at) }
 {
@@ -107,7 +107,7 @@ pub(crate) fn after_boolean(operator: BooleanOperator, tokens: &[Token], at: usi
     }
 }
 
-// The place behind a closed bracket, before which a comma may stand.
+// The place after a closed bracket, before which a comma may stand.
 pub(crate) fn after_arguments(tokens: &[Token], at: usize) -> Option<usize>
     ensures { option_map (from tokens.now) result ≡ closing (after (Sign token.Comma)) (after (Sign token.RightParenthesis)) (from tokens.now at) }
 {
@@ -117,7 +117,7 @@ pub(crate) fn after_arguments(tokens: &[Token], at: usize) -> Option<usize>
     }
 }
 
-// The place behind the end of a line, before which a semicolon may stand.
+// The place after the end of a line, before which a semicolon may stand.
 pub(crate) fn after_line(tokens: &[Token], at: usize) -> Option<usize>
     ensures { option_map (from tokens.now) result ≡ closing (after (Sign token.Semicolon)) (after NEWLINE) (from tokens.now at) }
 {
@@ -127,7 +127,7 @@ pub(crate) fn after_line(tokens: &[Token], at: usize) -> Option<usize>
     }
 }
 
-// The place behind an `except` that no colon follows, where one stands at the place.
+// The place after an `except` that no colon follows, where one stands at the place.
 pub(crate) fn after_catch(tokens: &[Token], at: usize) -> Option<usize>
     ensures { option_map (from tokens.now) result ≡ after_catch (from tokens.now at) }
 {
@@ -151,7 +151,7 @@ pub(crate) fn ends_small(tokens: &[Token], at: usize) -> bool
     }
 }
 
-// The word of a compound statement, where one stands at the place, and the place behind it.
+// The word of a compound statement, where one stands at the place, and the place after it.
 pub(crate) fn header_at(tokens: &[Token], at: usize) -> Option<(Header, usize)>
     ensures { option_map (λ x. (header_view x.0, from tokens.now x.1)) result ≡ header_at (from tokens.now at) }
 {

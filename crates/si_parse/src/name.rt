@@ -10,10 +10,10 @@ use si_plain::limits::MAX_PARAMETERS;
 use si_token::{Symbol, Token, TokenKind};
 use std::alloc::Global;
 
-// Names, and the place behind them.
+// Names, and the place after them.
 type Names = Result<(Vec<String>, usize), ParseFault>;
 
-// The name that stands at the place, and the place behind it.
+// The name that stands at the place, and the place after it.
 pub(crate) fn name(
     alloc: Global,
     tokens: &[Token],
@@ -50,7 +50,7 @@ pub(crate) fn names(alloc: Global, tokens: &[Token], start: usize) -> Names
     Err(ParseFault::Syntax(line_at(tokens, at)))
 }
 
-// The names behind an open bracket, up to the closed one.
+// The names after an open bracket, up to the closed one.
 #[tactic(auto, using(crate::proofs::Steps::separated_by_zero))]
 fn listed(alloc: Global, tokens: &[Token], start: usize) -> Names
     ensures { Gives (λ x. (map string_bytes x.0.items, from tokens.now x.1)) result (listed_by (from tokens.now start)) }

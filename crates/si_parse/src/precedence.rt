@@ -35,7 +35,7 @@ pub(crate) const FACTOR: u32 = 16;
 
 const PRIMARY: u32 = 18;
 
-// What a token does behind an operand.
+// What a token does after an operand.
 #[derive(Clone, Copy)]
 pub(crate) enum Continuation {
     Operator(BinaryOperator),
@@ -97,7 +97,7 @@ pub(crate) fn item_level(operator: BooleanOperator) -> u32
     }
 }
 
-// What a symbol does behind an operand.
+// What a symbol does after an operand.
 fn role_of(symbol: Symbol) -> Continuation
     ensures { continuation_view result ≡ role_of (symbol_of symbol) }
 {
@@ -121,7 +121,7 @@ fn role_of(symbol: Symbol) -> Continuation
     }
 }
 
-// What a keyword does behind an operand.
+// What a keyword does after an operand.
 fn word_role(keyword: Keyword) -> Continuation
     ensures { continuation_view result ≡ word_role (keyword_of keyword) }
 {
@@ -134,7 +134,7 @@ fn word_role(keyword: Keyword) -> Continuation
     }
 }
 
-// What the token at the place does behind an operand, and the place behind it.
+// What the token at the place does after an operand, and the place after it.
 pub(crate) fn what_follows(tokens: &[Token], at: usize) -> (Continuation, usize)
     ensures role { continuation_view result.0 ≡ continuation_at (from tokens.now at) }
     ensures behind { from tokens.now result.1 ≡ rest_of (from tokens.now at) }
@@ -164,7 +164,7 @@ pub(crate) fn strength(continuation: Continuation) -> u32
     }
 }
 
-// The operator before an operand, where one stands at the place, and the place behind it.
+// The operator before an operand, where one stands at the place, and the place after it.
 pub(crate) fn prefix_at(tokens: &[Token], at: usize) -> Option<(UnaryOperator, usize)>
     ensures operator { option_map (λ x. x.0) result ≡ prefix_at (from tokens.now at) }
     ensures behind { IfSome result (λ x. from tokens.now x.1 ≡ rest_of (from tokens.now at)) }
@@ -194,7 +194,7 @@ fn comparison_symbol(symbol: Symbol) -> Option<ComparisonOperator>
     }
 }
 
-// The operator of a comparison, where one stands at the place, and the place behind it.
+// The operator of a comparison, where one stands at the place, and the place after it.
 pub(crate) fn comparison_at(tokens: &[Token], at: usize) -> Option<(ComparisonOperator, usize)>
     ensures { option_map (λ x. (x.0, from tokens.now x.1)) result ≡ comparison_at (from tokens.now at) }
 {

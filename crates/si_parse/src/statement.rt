@@ -41,7 +41,7 @@ fn assignment_symbol(symbol: Symbol) -> Option<Option<BinaryOperator>>
     }
 }
 
-// The assignment whose sign stands at the place, and the place behind it.
+// The assignment whose sign stands at the place, and the place after it.
 fn assignment_at(tokens: &[Token], at: usize) -> Option<(Option<BinaryOperator>, usize)>
     ensures { option_map (λ x. (x.0, from tokens.now x.1)) result ≡ assignment_at (from tokens.now at) }
 {
@@ -55,7 +55,7 @@ fn assignment_at(tokens: &[Token], at: usize) -> Option<(Option<BinaryOperator>,
     }
 }
 
-// The statement that is one word, where it stands at the place, and the place behind it.
+// The statement that is one word, where it stands at the place, and the place after it.
 fn word_statement(tokens: &[Token], at: usize) -> Option<(Stmt, usize)>
     ensures statement { option_map (λ x. stmt_of x.0) result ≡ word_statement (from tokens.now at) }
     ensures behind { IfSome result (λ x. from tokens.now x.1 ≡ rest_of (from tokens.now at)) }
@@ -69,7 +69,7 @@ fn word_statement(tokens: &[Token], at: usize) -> Option<(Stmt, usize)>
     }
 }
 
-// An expression or an assignment, and the place behind it.
+// An expression or an assignment, and the place after it.
 fn spelled(alloc: Global, tokens: &[Token], start: usize) -> Result<(Stmt, usize), ParseFault>
     ensures { Gives (λ x. (stmt_of x.0, from tokens.now x.1)) result (spelled_by (expression_at max_depth) (from tokens.now start)) }
 {
@@ -94,7 +94,7 @@ fn spelled(alloc: Global, tokens: &[Token], start: usize) -> Result<(Stmt, usize
     }
 }
 
-// The expression in front of the end of a small statement, where there is one, and the place behind it.
+// The expression in front of the end of a small statement, where there is one, and the place after it.
 fn value(alloc: Global, tokens: &[Token], at: usize) -> Result<(Option<Expr>, usize), ParseFault>
     ensures { Gives (λ x. (option_map expr_of x.0, from tokens.now x.1)) result (value_by (expression_at max_depth) (from tokens.now at)) }
 {
@@ -105,7 +105,7 @@ fn value(alloc: Global, tokens: &[Token], at: usize) -> Result<(Option<Expr>, us
     Ok((Some(value), end))
 }
 
-// The statement from behind its `return`, which stands in the line.
+// The statement from after its `return`, which stands in the line.
 fn returned(
     alloc: Global,
     line: usize,
@@ -118,7 +118,7 @@ fn returned(
     Ok((Stmt::Return(line, value), end))
 }
 
-// The statement from behind its `raise`.
+// The statement from after its `raise`.
 fn raised(alloc: Global, tokens: &[Token], at: usize) -> Result<(Stmt, usize), ParseFault>
     ensures { Gives (λ x. (stmt_of x.0, from tokens.now x.1)) result (raised_by (expression_at max_depth) (from tokens.now at)) }
 {
@@ -126,7 +126,7 @@ fn raised(alloc: Global, tokens: &[Token], at: usize) -> Result<(Stmt, usize), P
     Ok((Stmt::Raise(value), end))
 }
 
-// The statement from behind its `global`, which stands in the line.
+// The statement from after its `global`, which stands in the line.
 fn global(
     alloc: Global,
     line: usize,
@@ -139,7 +139,7 @@ fn global(
     Ok((Stmt::Global(line, names), end))
 }
 
-// A small statement, and the place behind it.
+// A small statement, and the place after it.
 fn statement(alloc: Global, tokens: &[Token], start: usize) -> Result<(Stmt, usize), ParseFault>
     ensures { Gives (λ x. (stmt_of x.0, from tokens.now x.1)) result (statement_by (expression_at max_depth) (from tokens.now start)) }
 {
@@ -158,7 +158,7 @@ fn statement(alloc: Global, tokens: &[Token], start: usize) -> Result<(Stmt, usi
     spelled(alloc, tokens, start)
 }
 
-// The statements before with those of a line, and the place behind it.
+// The statements before with those of a line, and the place after it.
 #[tactic(auto, using(crate::proofs::Steps::separated_by_zero))]
 pub(crate) fn line(
     alloc: Global,

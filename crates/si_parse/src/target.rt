@@ -24,7 +24,7 @@ pub(crate) fn as_target(expr: Expr) -> Option<Target>
     }
 }
 
-// The target of a `for`, and the place behind the `in`. A name is of every level: it is asked for at one at which no
+// The target of a `for`, and the place after the `in`. A name is of every level: it is asked for at one at which no
 // operator but `**` is read.
 pub(crate) fn target(
     alloc: Global,

@@ -40,7 +40,7 @@ same_turned x y = by (same_text x y) (same_text y x) refl refl
     by true false p q = sym p ∙ ap (λ z. same_text z y) (same_is x y p) ∙ sym (ap (λ z. same_text y z) (same_is x y p)) ∙ q
     by false true p q = sym p ∙ ap (λ z. same_text z y) (sym (same_is y x q)) ∙ sym (ap (λ z. same_text y z) (sym (same_is y x q))) ∙ q
 
--- a name more behind
+-- a name more after
 pub apart_cons : (us : List Text) (x : Text) (xs : List Text) → are_apart us (x ∷ xs) ≡ (not (is_in x us) && are_apart us xs)
 apart_cons [] x xs = refl
 apart_cons (u ∷ us) x xs =

@@ -16,7 +16,7 @@ use Rattle.si_scope.specs.Locals.{IsResolved}
 use Rattle.si_scope.specs.inner.Walk.{resolved, resolved_all, resolved_clauses}
 use Rattle.si_scope.proofs.Walked.{then_same, then_then, local_is}
 
--- the locals of these functions behind those before, if this holds
+-- the locals of these functions after those before, if this holds
 abbrev behind : List (List Text) → List Function → Bool → Option (List (List Text))
 behind names fs holds = if holds then Some (names ++ map locals_of fs) else None
 

@@ -21,7 +21,7 @@ pub next_stmt : (suite : List Stmt) (i : ℕ) (stmt : Stmt) (loop : Bool) (n0 n 
     → resolved_all (body_of suite) loop n0 ≡ option_and_then (resolved_all (body_of (drop (i + 1) suite)) loop) (resolved (stmt_of stmt) loop n)
 next_stmt suite i stmt loop n0 n lt at so_far = so_far ∙ ap (λ l. resolved_all (body_of l) loop n) (rest_is suite i stmt lt at)
 
--- an `elif` that is reached, and the ones behind it
+-- an `elif` that is reached, and the ones after it
 pub next_elif : (bs : List BranchParts) (i : ℕ) (b : BranchParts) (last : tree.Stmts) (suite : List Stmt) (loop : Bool) (n0 n : Locals) → i < length bs → get_or bs i b ≡ b → suite ≡ b.body.items
     → resolved_all (elifs_of (map branch_of bs) last) loop n0 ≡ resolved_all (elifs_of (map branch_of (drop i bs)) last) loop n
     → resolved_all (elifs_of (map branch_of bs) last) loop n0 ≡ option_and_then (resolved_all (elifs_of (map branch_of (drop (i + 1) bs)) last) loop) (resolved_all (body_of suite) loop n)
@@ -31,7 +31,7 @@ next_elif bs i b last suite loop n0 n lt at is_suite so_far =
     ∙ then_some (option_and_then rest (resolved_all (body_of b.body.items) loop n))
     ∙ ap (λ l. option_and_then rest (resolved_all (body_of l) loop n)) (sym is_suite)
 
--- behind the last `elif`
+-- after the last `elif`
 pub last_elif : (bs : List BranchParts) (i : ℕ) (last : tree.Stmts) (loop : Bool) (n0 n : Locals) → length bs ≤ i
     → resolved_all (elifs_of (map branch_of bs) last) loop n0 ≡ resolved_all (elifs_of (map branch_of (drop i bs)) last) loop n
     → resolved_all (elifs_of (map branch_of bs) last) loop n0 ≡ resolved_all last loop n
@@ -43,7 +43,7 @@ finally_front f loop n =
     let t = tried_of (out-Finally f).tried in
     sym (and_then_twice (resolved_all (body_of (out-Finally f).end.items) false) (λ m. option_and_then (resolved_all t.2 loop) (resolved_clauses (clauses_of t.1) loop m)) (resolved_all t.0 loop n))
 
--- an except clause that is reached, and the ones behind it
+-- an except clause that is reached, and the ones after it
 pub next_clause : (cs : List ClauseParts) (i : ℕ) (c : ClauseParts) (suite : List Stmt) (loop : Bool) (n0 n : Locals) → i < length cs → get_or cs i c ≡ c → suite ≡ c.body.items
     → resolved_clauses (clauses_of (map clause_of cs)) loop n0 ≡ resolved_clauses (clauses_of (map clause_of (drop i cs))) loop n
     → resolved_clauses (clauses_of (map clause_of cs)) loop n0 ≡ option_and_then (resolved_clauses (clauses_of (map clause_of (drop (i + 1) cs))) loop) (resolved_all (body_of suite) loop n)
@@ -51,7 +51,7 @@ next_clause cs i c suite loop n0 n lt at is_suite so_far =
     so_far ∙ ap (λ l. resolved_clauses (clauses_of (map clause_of l)) loop n) (rest_is cs i c lt at)
     ∙ ap (λ l. option_and_then (resolved_clauses (clauses_of (map clause_of (drop (i + 1) cs))) loop) (resolved_all (body_of l) loop n)) (sym is_suite)
 
--- behind the last one
+-- after the last one
 pub last_clause : (cs : List ClauseParts) (i : ℕ) (loop : Bool) (n0 n : Locals) → length cs ≤ i
     → resolved_clauses (clauses_of (map clause_of cs)) loop n0 ≡ resolved_clauses (clauses_of (map clause_of (drop i cs))) loop n
     → resolved_clauses (clauses_of (map clause_of cs)) loop n0 ≡ Some n

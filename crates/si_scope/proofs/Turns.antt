@@ -43,7 +43,7 @@ pub then_some : {X : Type 0} (o : Option X) → option_and_then (λ x. Some x) o
 then_some None = refl
 then_some (Some x) = refl
 
--- an `elif` that is reached, and the ones behind it
+-- an `elif` that is reached, and the ones after it
 pub next_elif : (bs : List BranchParts) (i : ℕ) (b : BranchParts) (last : tree.Stmts) (loop returns : Bool) (s0 s : Seen) → i < length bs → get_or bs i b ≡ b
     → after_all (elifs_of (map branch_of bs) last) loop returns s0 ≡ after_all (elifs_of (map branch_of (drop i bs)) last) loop returns s
     → after_all (elifs_of (map branch_of bs) last) loop returns s0
@@ -52,7 +52,7 @@ next_elif bs i b last loop returns s0 s lt at so_far =
     so_far ∙ ap (λ l. after_all (elifs_of (map branch_of l) last) loop returns s) (rest_is bs i b lt at)
     ∙ then_some (option_and_then (after_all (elifs_of (map branch_of (drop (i + 1) bs)) last) loop returns) (after_all (branch_of b).1 loop returns (using (names_of (branch_of b).0) s)))
 
--- behind the last `elif`
+-- after the last `elif`
 pub last_elif : (bs : List BranchParts) (i : ℕ) (last : tree.Stmts) (loop returns : Bool) (s0 s : Seen) → length bs ≤ i
     → after_all (elifs_of (map branch_of bs) last) loop returns s0 ≡ after_all (elifs_of (map branch_of (drop i bs)) last) loop returns s
     → after_all (elifs_of (map branch_of bs) last) loop returns s0 ≡ after_all last loop returns s
@@ -72,7 +72,7 @@ finally_front f loop returns s =
 
 -- ---- except clauses
 
--- one that is reached, and the ones behind it
+-- one that is reached, and the ones after it
 pub next_clause : (cs : List ClauseParts) (i : ℕ) (c : ClauseParts) (suite : List Stmt) (loop returns : Bool) (s0 s t u : Seen) → i < length cs → get_or cs i c ≡ c → suite ≡ c.body.items
     → t ≡ using (names_of_value (option_map expr_of c.value)) s → u ≡ binding_any (option_map string_bytes c.name) t
     → after_clauses (clauses_of (map clause_of cs)) loop returns s0 ≡ after_clauses (clauses_of (map clause_of (drop i cs))) loop returns s
@@ -84,7 +84,7 @@ next_clause cs i c suite loop returns s0 s t u lt at is_suite is_used is_bound s
     ∙ ap (λ v. option_and_then rest (after_all (body_of suite) loop returns (binding_any (option_map string_bytes c.name) v))) (sym is_used)
     ∙ ap (λ v. option_and_then rest (after_all (body_of suite) loop returns v)) (sym is_bound)
 
--- behind the last one
+-- after the last one
 pub last_clause : (cs : List ClauseParts) (i : ℕ) (loop returns : Bool) (s0 s : Seen) → length cs ≤ i
     → after_clauses (clauses_of (map clause_of cs)) loop returns s0 ≡ after_clauses (clauses_of (map clause_of (drop i cs))) loop returns s
     → after_clauses (clauses_of (map clause_of cs)) loop returns s0 ≡ Some s

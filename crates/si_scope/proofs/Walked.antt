@@ -27,7 +27,7 @@ new_alike names but like (x ∷ xs) same =
     ap (λ b. with_new (if is_in x names || b then names else names ++ x ∷ []) but xs) (same x)
     ∙ new_alike (if is_in x names || is_in x like then names else names ++ x ∷ []) but like xs same
 
--- and on none that is declared behind
+-- and on none that is declared after
 new_before : (names but more xs : List Text) → are_apart xs more ≡ true → with_new names (with_names but more) xs ≡ with_new names but xs
 new_before names but more [] h = refl
 new_before names but more (x ∷ xs) h =
@@ -41,7 +41,7 @@ new_before names but more (x ∷ xs) h =
 
 -- ---- what is seen of one row of statements, and of two
 
--- behind statements that use, declare and bind these names
+-- after statements that use, declare and bind these names
 abbrev seen_in : Seen → List Text → List Text → List Text → Seen
 seen_in s u d b = seen_of (with_names s.used u) (with_names s.declared d) (with_new s.locals (with_names s.declared d) b)
 
@@ -164,7 +164,7 @@ in_both us vs bs cs in_b in_c ys h =
     apart_front bs cs ys
     ∙ and_both (are_apart bs ys) (are_apart cs ys) (in_b ys (first_of (are_apart us ys) (are_apart vs ys) parts)) (in_c ys (second_of (are_apart us ys) (are_apart vs ys) parts))
 
--- behind names that are used
+-- after names that are used
 behind_names : (ns us bs : List Text) → Within bs us → Within bs (ns ++ us)
 behind_names ns us bs in_b ys h = in_b ys (second_of (are_apart ns ys) (are_apart us ys) (sym (apart_front ns us ys) ∙ h))
 

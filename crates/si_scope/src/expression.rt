@@ -55,7 +55,7 @@ fn use_all(exprs: &[Expr], used: &mut Names) -> Result<(), NoMemory>
     Ok(())
 }
 
-// With those of the operands of a chain of comparisons behind the first.
+// With those of the operands of a chain of comparisons after the first.
 #[cycle(expression)]
 fn use_chain(links: &[(ComparisonOperator, Expr)], used: &mut Names) -> Result<(), NoMemory>
     ensures { OnOk result (used.new ≡ with_names used.old (names_of_chain (chain_of (map link_of links.now)))) }

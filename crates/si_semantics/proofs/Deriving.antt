@@ -42,7 +42,7 @@ binary op h a b =
       spelled = inl (a.terminals, b.terminals, refl, h, a.spelled, b.spelled);
     }
 
--- operators of comparisons with the operands behind them
+-- operators of comparisons with the operands after them
 pub record Chain (n : ℕ) (links : List Link) : Type 0 where
   pub terminals : List Terminal
   pub spelled : Many (Compares (Spells n)) links terminals
@@ -122,7 +122,7 @@ pub record Suited (n : ℕ) (s : Stmt) : Type 0 where
   pub terminals : List Terminal
   pub spelled : Suite (Nests n) (suite (s ∷ [])) terminals
 
--- behind the colon in its line
+-- after the colon in its line
 abbrev pub in_line : {n : ℕ} {s : Stmt} → Statement s → Suited n s
 in_line {s = s} t =
     record {

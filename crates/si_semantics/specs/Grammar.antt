@@ -192,7 +192,7 @@ abbrev pub Many : {A : Type 0} → (A → List Terminal → Type 0) → List A �
 Many I [] ts = ts ≡ []
 Many I (x ∷ xs) ts = (f : List Terminal) × (g : List Terminal) × (ts ≡ f ++ g) × I x f × Many I xs g
 
--- an item behind a terminal
+-- an item after a terminal
 abbrev pub Behind : {A : Type 0} → Terminal → (A → List Terminal → Type 0) → A → List Terminal → Type 0
 Behind t I x ts = (f : List Terminal) × (ts ≡ t ∷ f) × I x f
 
@@ -220,7 +220,7 @@ abbrev pub exprs_of : List Expr → Exprs
 exprs_of [] = tree.NoExprs
 exprs_of (e ∷ es) = tree.MoreExprs e (exprs_of es)
 
--- an operator of a comparison, and the operand behind it
+-- an operator of a comparison, and the operand after it
 abbrev pub Link : Type 0
 Link = ComparisonOperator × Expr
 
@@ -233,7 +233,7 @@ chain_of [] = tree.NoComparisons
 chain_of (link ∷ links) = tree.MoreComparisons link.0 link.1 (chain_of links)
 
 -- comparator: ('<' | '>' | '<=' | '>=' | '==' | '!=') bitor | 'is' ['not'] ('None' | 'True' | 'False')
--- What stands behind `is` is one word, which is a choice of this project.
+-- What stands after `is` is one word, which is a choice of this project.
 abbrev pub Compares : Language → Link → List Terminal → Type 0
 Compares E link ts =
     (f : List Terminal) × (ts ≡ comparison_of link.0 ++ f) × E bit_or_level link.1 f × (is_identity link.0 ≡ true → (w : Keyword) × (f ≡ Word w ∷ []))
@@ -254,7 +254,7 @@ abbrev pub Passes : Language → Argument → List Terminal → Type 0
 Passes E (Positional e) ts = E expression_level e ts
 Passes E (ByName x e) ts = (f : List Terminal) × (ts ≡ NAME x ∷ (Sign token.Equal ∷ f)) × E expression_level e f
 
--- the arguments of a call: those that are passed by name stand behind the others, and no name comes twice
+-- the arguments of a call: those that are passed by name stand after the others, and no name comes twice
 pub record IsPassed (arguments : List Argument) (values : List Expr) (names : List Text) : Type 0 where
   pub positional : List Expr
   pub named : List (Text × Expr)
@@ -388,7 +388,7 @@ Suite L body ts =
     ((ss : List Stmt) × (f : List Terminal) × (ts ≡ Sign token.Colon ∷ f) × (body ≡ stmts_of ss) × Simple ss f)
     ⊎ ((f : List Terminal) × (ts ≡ Sign token.Colon ∷ (NEWLINE ∷ (INDENT ∷ (f ++ DEDENT ∷ [])))) × (0 < length f) × Block L body f)
 
--- a test and the suite behind it
+-- a test and the suite after it
 abbrev pub Branch : Type 0
 Branch = Expr × Stmts
 
@@ -432,7 +432,7 @@ bare_is_last (c ∷ []) = true
 bare_is_last ((None, y, b) ∷ d ∷ cs) = false
 bare_is_last ((Some e, y, b) ∷ d ∷ cs) = bare_is_last (d ∷ cs)
 
--- { except } ['else' suite], the else suite behind an except clause alone
+-- { except } ['else' suite], the else suite after an except clause alone
 abbrev pub Handlers : Lines → List Clause → Stmts → List Terminal → Type 0
 Handlers L [] other ts = (other ≡ tree.NoStmts) × (ts ≡ [])
 Handlers L (c ∷ cs) other ts =

@@ -36,7 +36,7 @@ tokens_at at [] = []
 tokens_at at (w ∷ ws) =
     option_to_list (option_map (token at w.text) (kind_of w.sort w.text)) ++ tokens_at (at + length w.text) ws
 
--- the byte behind words that begin at this byte
+-- the byte after words that begin at this byte
 abbrev pub behind : ℕ → List Word → ℕ
 behind at [] = at
 behind at (w ∷ ws) = behind (at + length w.text) ws
@@ -57,12 +57,12 @@ closes tokens.RightBracket = true
 closes tokens.RightBrace = true
 closes _ = false
 
--- how many brackets are open behind a word of this kind, where n were open before it
+-- how many brackets are open after a word of this kind, where n were open before it
 abbrev pub brackets_after : Option TokenKind → ℕ → ℕ
 brackets_after (Some (tokens.Sign s)) n = if opens s then n + 1 else (if closes s then n - 1 else n)
 brackets_after _ n = n
 
--- how many brackets are open behind words
+-- how many brackets are open after words
 abbrev pub open_after : ℕ → List Word → ℕ
 open_after n [] = n
 open_after n (w ∷ ws) = open_after (brackets_after (kind_of w.sort w.text) n) ws
@@ -72,7 +72,7 @@ abbrev pub IsJoined : ℕ → List Word → Type 0
 IsJoined n [] = Unit {0}
 IsJoined n (w ∷ ws) = (w.sort ≡ words.LineEnd → 0 < n) × IsJoined (brackets_after (kind_of w.sort w.text) n) ws
 
--- a logical line: its words, and the line end behind them, which is empty at the end of the text ("Logical lines")
+-- a logical line: its words, and the line end after them, which is empty at the end of the text ("Logical lines")
 pub record Line : Type 0 where
   pub words : List Word
   pub end : List ℕ
@@ -92,7 +92,7 @@ AreLines (l ∷ (m ∷ ls)) ws =
 -- ---- columns and blocks
 
 -- the column of a line that begins with a word that is no token, from the column of what follows: spaces add their
--- length, and behind a tab there is none
+-- length, and after a tab there is none
 abbrev pub moved : Sort → List ℕ → Option ℕ → Option ℕ
 moved words.Spaces w column = option_map (λ c. length w + c) column
 moved words.Tabs w column = None

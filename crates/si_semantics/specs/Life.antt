@@ -62,7 +62,7 @@ run_ended rest (Asks r s) = Stops (Calls r) s
 run_ended rest (Cut s) = IsCut s
 
 -- a text is evaluated as a module: no name is local, no exception is active, and a loop has at most n turns; its
--- functions are numbered behind those that were read before
+-- functions are numbered after those that were read before
 abbrev pub module_scope : List Function → ℕ → ℕ → Scope
 module_scope fs first n = record { locals = []; first = first; active = None; turns = n; call = call fs n max_calls }
 

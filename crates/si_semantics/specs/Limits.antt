@@ -107,7 +107,7 @@ is_elif (tree.MoreStmts (tree.If test body other) tree.NoStmts) = true
 is_elif _ = false
 
 -- how deep compound statements are nested: 0 where there are none, and in others 1 more than in their suites. An `elif` nests no
--- deeper than its `if`; a tree doesn't tell it from an `if` that stands alone behind an `else`, which so counts the same.
+-- deeper than its `if`; a tree doesn't tell it from an `if` that stands alone after an `else`, which so counts the same.
 abbrev mutual
   pub nesting_of : Stmt → ℕ
   nesting_of (tree.If test body other) = max (nesting_in body + 1) (nesting_in other + (if is_elif other then 0 else 1))

@@ -9,7 +9,7 @@ use Rattle.si_semantics.specs.Value.{Text}
 abbrev pub max_int : ℕ
 max_int = 9223372036854775807
 
--- The number that digits of a base write behind n. One `_` (95) may stand before a digit; where a digit is due, none
+-- The number that digits of a base write after n. One `_` (95) may stand before a digit; where a digit is due, none
 -- may.
 abbrev pub digits_behind : ℕ → Bool → ℕ → List ℕ → Option ℕ
 digits_behind base due n [] = if due then None else Some n
@@ -17,12 +17,12 @@ digits_behind base due n (c ∷ cs) =
     if (c == 95) && not due then digits_behind base true n cs
     else (if nat_lt (digit_value c) base then digits_behind base false (n * base + digit_value c) cs else None)
 
--- at least one digit behind a prefix, where `_` may stand before the first one too
+-- at least one digit after a prefix, where `_` may stand before the first one too
 abbrev pub behind_prefix : ℕ → List ℕ → Option ℕ
 behind_prefix base [] = None
 behind_prefix base (c ∷ cs) = digits_behind base false 0 (c ∷ cs)
 
--- Behind a zero: `x`, `o`, `b` in either case and digits of base 16, 8 or 2; or else zeros only, the digits of base 1.
+-- After a zero: `x`, `o`, `b` in either case and digits of base 16, 8 or 2; or else zeros only, the digits of base 1.
 abbrev pub behind_zero : List ℕ → Option ℕ
 behind_zero [] = Some 0
 behind_zero (c ∷ cs) =
@@ -112,7 +112,7 @@ abbrev pub with_one_more : Option (ℕ × ℕ) → Option (ℕ × ℕ)
 with_one_more None = None
 with_one_more (Some r) = Some (r.0, suc r.1)
 
--- The number that digits of a base write behind n, as many as there are, but at least and at most so many; and how many
+-- The number that digits of a base write after n, as many as there are, but at least and at most so many; and how many
 -- they are.
 abbrev pub digits_within : ℕ → ℕ → ℕ → ℕ → Text → Option (ℕ × ℕ)
 digits_within base least zero n cs = Some (n, 0)
@@ -150,12 +150,12 @@ escape_by None c cs =
     -- `\N` is refused (this project's own); with any other character a backslash stands for itself
     else (if c == 78 then None else Some (92 ∷ [], 0))))))
 
--- what stands behind a backslash
+-- what stands after a backslash
 abbrev pub escape : Text → Option Written
 escape [] = Some (92 ∷ [], 0)
 escape (c ∷ cs) = escape_by (letter_escape c) c cs
 
--- The text with its escapes read, behind so many characters that belong to an escape before.
+-- The text with its escapes read, after so many characters that belong to an escape before.
 abbrev pub unescaped : ℕ → Text → Option Text
 unescaped skipped [] = Some []
 unescaped zero (c ∷ cs) =

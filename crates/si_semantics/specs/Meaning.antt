@@ -49,7 +49,7 @@ pub record Scope : Type 0 where
   pub turns : ℕ
   pub call : Option ℕ → ℕ → List Value → Meaning Value
 
--- the same behind so many functions
+-- the same after so many functions
 abbrev pub behind : List tree.Function → Scope → Scope
 behind fs e = record e { first = e.first + length fs }
 
@@ -159,12 +159,12 @@ abbrev mutual
   exprs e tree.NoExprs s = Gives [] s
   exprs e (tree.MoreExprs a args) s = then (expr e a s) (λ v s1. then (exprs e args s1) (λ vs s2. Gives (v ∷ vs) s2))
 
-  -- what `and` or `or` makes of an operand and those behind it: each is evaluated unless one before it decides
+  -- what `and` or `or` makes of an operand and those after it: each is evaluated unless one before it decides
   pub operands : Scope → BooleanOperator → Value → Exprs → Meaning Value
   operands e o u tree.NoExprs s = Gives u s
   operands e o u (tree.MoreExprs a more) s = choose (decides o u s.world) (Gives u s) (then (expr e a s) (λ v s1. operands e o v more s1))
 
-  -- a chain of comparisons behind an operand
+  -- a chain of comparisons after an operand
   pub chain : Scope → Value → Comparisons → Meaning Value
   chain e u tree.NoComparisons s = Gives u s
   chain e u (tree.MoreComparisons o a cs) s =
@@ -278,7 +278,7 @@ abbrev mutual
   stmts e tree.NoStmts s = Gives tt s
   stmts e (tree.MoreStmts a b) s = then (stmt e a s) (λ u s1. stmts (behind (functions_of a) e) b s1)
 
-  -- the except clauses for an exception: the suite of the first that matches, those behind it are not looked at; a bare
+  -- the except clauses for an exception: the suite of the first that matches, those after it are not looked at; a bare
   -- one matches each (Language Reference, 8.4.1)
   pub clauses : Scope → Clauses → ℕ → Meaning (Unit {0})
   clauses e tree.NoClauses x s = Leaves (Raises x) s

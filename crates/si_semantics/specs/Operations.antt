@@ -173,7 +173,7 @@ are_equal (Address x) (Address y) w = Ok (nat_eq x y)
 are_equal _ _ w = Ok false
 
 -- `is`: None, True and False are each itself and nothing else (Language Reference, 6.10.3); the grammar lets nothing
--- else stand behind it
+-- else stand after it
 abbrev pub is_same : Value → Value → Bool
 is_same Nothing Nothing = true
 is_same (Truth a) (Truth b) = not (differ a b)
@@ -371,7 +371,7 @@ iterator_of (Range a b c) w = Some (Numbers a b c)
 iterator_of (Str s) w = Some (Characters s)
 iterator_of _ w = None
 
--- the items of a range behind one: what lies past the integers lies past the stop
+-- the items of a range after one: what lies past the integers lies past the stop
 abbrev pub numbers_from : Result ℤ Kind → (stop step : ℤ) → Iterator
 numbers_from (Ok at) stop step = Numbers at stop step
 numbers_from (Err k) stop step = NoMore

@@ -104,7 +104,7 @@ abbrev pub separator : ℕ → Text
 separator zero = []
 separator (suc n) = codes ", "
 
--- what stands behind so many items: a tuple of one item keeps its comma
+-- what stands after so many items: a tuple of one item keeps its comma
 abbrev pub closing : ℕ → Text
 closing (suc zero) = codes ",)"
 closing _ = codes ")"

@@ -74,7 +74,7 @@ name_in None = []
 name_in (Some y) = y ∷ []
 
 abbrev mutual
-  -- the names that a statement binds (4.2.1): a `for` its target, an `except` clause the name behind `as`
+  -- the names that a statement binds (4.2.1): a `for` its target, an `except` clause the name after `as`
   pub bound_by : Stmt → List Text
   bound_by (tree.Assign t a) = bound_by_target t
   bound_by (tree.Augment t o a) = bound_by_target t

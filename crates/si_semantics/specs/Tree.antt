@@ -19,11 +19,11 @@ mutual
     Name : Text → Expr
     Unary : UnaryOperator → Expr → Expr
     Binary : BinaryOperator → Expr → Expr → Expr
-    -- a callee, its arguments, and the names of those that are passed by name, which stand behind the others (6.3.3)
+    -- a callee, its arguments, and the names of those that are passed by name, which stand after the others (6.3.3)
     Call : Expr → Exprs → List Text → Expr
     -- operands of `and` or of `or` in a row: the first, and the others, of which there is one at least (6.11)
     Boolean : BooleanOperator → Expr → Exprs → Expr
-    -- a chain of comparisons: the first operand, and each operator with the operand behind it (6.10)
+    -- a chain of comparisons: the first operand, and each operator with the operand after it (6.10)
     Compare : Expr → Comparisons → Expr
     -- `value if test else other`: the test, the value, the other (6.13)
     Conditional : Expr → Expr → Expr → Expr

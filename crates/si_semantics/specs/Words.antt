@@ -170,7 +170,7 @@ is_prefixing _ _ = false
 abbrev pub has_value : List ℕ → Bool
 has_value w = is_some (value_of_str w)
 
--- Behind two quotes no third one follows: three always open a literal in three quotes.
+-- After two quotes no third one follows: three always open a literal in three quotes.
 abbrev pub is_closed : List ℕ → List ℕ → Bool
 is_closed (p ∷ q ∷ []) (b ∷ bs) = not (b == q)
 is_closed _ _ = true

@@ -42,7 +42,7 @@ pub enum Block<I, T> {
     Pending(Option<Leaving>),
     /// Except clauses, with the address of the exception that has come to them.
     Handling(usize),
-    /// A call, with the place behind it and where its value goes.
+    /// A call, with the place after it and where its value goes.
     Frame {
         after: usize,
         target: T,

@@ -1,7 +1,7 @@
 // The stacks of a machine with a frame of slots: the frames of the calls that are under way, in one row of values, and
 // the blocks that were entered.
 //
-// A frame is the slots of its locals and behind them the room for its temporaries. A callee's slots begin where its
+// A frame is the slots of its locals and after them the room for its temporaries. A callee's slots begin where its
 // arguments lie among the temporaries of its caller, so no argument is copied. `specs/Frames.antt` and
 // `specs/Blocks.antt` say what is seen of the two stacks, and `specs/Places.antt` which temporaries, slots and blocks
 // of a machine's place stand in both: the laws of `proofs/` say it after each call.

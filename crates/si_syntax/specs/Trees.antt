@@ -37,7 +37,7 @@ view_step (Expr-F.Conditional test value other) = tree.Conditional test.value va
 abbrev pub expr_of : Expr → tree.Expr
 expr_of = fold-Expr tree.Expr view_step
 
--- an operator of a comparison with the operand behind it
+-- an operator of a comparison with the operand after it
 abbrev pub link_of : ComparisonOperator × Expr → ComparisonOperator × tree.Expr
 link_of l = (l.0, expr_of l.1)
 
@@ -105,7 +105,7 @@ body_of body = stmts_of (map stmt_of body)
 abbrev pub branch_of : BranchParts → Branch
 branch_of b = (expr_of b.test, body_of b.body.items)
 
--- what stands behind the first test and suite of an `if`
+-- what stands after the first test and suite of an `if`
 abbrev pub others_of : If → tree.Stmts
 others_of i = elifs_of (map branch_of (out-If i).elifs.items) (body_of (out-If i).last.items)
 

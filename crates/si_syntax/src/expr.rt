@@ -22,7 +22,7 @@ pub enum Expr {
     Call(Box<Expr>, Vec<Expr>, Vec<String>),
     /// Operands of `and` or of `or` in a row: the first, and the others, of which there is one at least.
     Boolean(BooleanOperator, Box<Expr>, Vec<Expr>),
-    /// A chain of comparisons: the first operand, and each operator with the operand behind it.
+    /// A chain of comparisons: the first operand, and each operator with the operand after it.
     Compare(Box<Expr>, Vec<(ComparisonOperator, Expr)>),
     /// `value if test else other`: the test, the value, the other.
     Conditional(Box<Expr>, Box<Expr>, Box<Expr>),

@@ -110,7 +110,7 @@ pub struct Try {
     pub last: Vec<Stmt>,
 }
 
-/// An `except` clause (Python Language Reference 3.14, 8.4.1). A name stands behind an expression alone, and a clause
+/// An `except` clause (Python Language Reference 3.14, 8.4.1). A name stands after an expression alone, and a clause
 /// without an expression stands last.
 #[cycle(stmts)]
 #[derive(Debug, Drop)]

@@ -149,7 +149,7 @@ fn functions_come_first(rt: HostRuntime) -> Result<(), Fail> {
     Ok(())
 }
 
-// A second text's functions are numbered behind those of the first.
+// A second text's functions are numbered after those of the first.
 #[test]
 fn numbers_go_on(rt: HostRuntime) -> Result<(), Fail> {
     let first = script(rt.alloc(), "def f():\n    pass\n")?;

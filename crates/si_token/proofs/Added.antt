@@ -1,4 +1,4 @@
--- Tokens that were put behind others: INDENT and DEDENTs.
+-- Tokens that were put after others: INDENT and DEDENTs.
 use Rattle.std.proofs.Common.{◌≡◌, ℕ, ◌+◌, List, [], ◌∷◌, ◌++◌, length, map, replicate, reverse, drop, refl, sym, ap, ◌∙◌, subst, arith, append_assoc, Option}
 use Rattle.std.specs.Prelude.{IfSome}
 use Rattle.std.specs.List.{AllByRecursion}

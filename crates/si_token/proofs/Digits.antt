@@ -7,7 +7,7 @@ use Rattle.std.proofs.lemmas.Bool.Decides.{nat_tests}
 use Rattle.std.proofs.lemmas.Bool.{eqb-true}
 use Rattle.si_semantics.specs.Literals.{max_int, digits_behind, in_range}
 
--- what digits do behind a number that is one digit longer
+-- what digits do after a number that is one digit longer
 abbrev turn : ℕ → Bool → ℕ → ℕ → List ℕ → Bool → Bool → Option ℕ
 turn base due n c cs joins digit =
     if joins then digits_behind base true n cs else (if digit then digits_behind base false (n * base + digit_value c) cs else None)

@@ -157,7 +157,7 @@ only_lines (l ∷ (m ∷ ls)) ws h =
 
 -- ---- from the middle of a line
 
--- the column of a line, behind this column
+-- the column of a line, after this column
 abbrev column_at : Bool → ℕ → Option ℕ → Option ℕ
 column_at true n o = None
 column_at false n o = option_map (λ c. n + c) o
@@ -198,7 +198,7 @@ none_more : (o : Option (List Token)) → option_map (λ more. [] ++ more) o ≡
 none_more None = refl
 none_more (Some more) = refl
 
--- the tokens of a step, and of the words behind it
+-- the tokens of a step, and of the words after it
 abbrev then_all : List Word → Option (List Token × Place × List ℕ) → Option (List Token)
 then_all ws o = option_and_then (λ r. option_map (λ more. r.0 ++ more) (laid_all r.1 r.2 ws)) o
 
@@ -234,7 +234,7 @@ more_behind : (e : List Token) (t : Token) (x : List Token) (o : Option (List To
 more_behind e t x None = refl
 more_behind e t x (Some y) = ap (λ l. Some l) (append_assoc e (t ∷ []) (x ++ y) ∙ sym (append_assoc e (t ∷ x) y))
 
--- the tokens of a line, behind what stands before its first token
+-- the tokens of a line, after what stands before its first token
 abbrev with_empty : ℕ → List Token → Option (List TokenKind × List ℕ) → Option (List Token × List ℕ)
 with_empty at ts o = option_map (λ r. (empty_tokens at r.0 ++ ts, r.1)) o
 

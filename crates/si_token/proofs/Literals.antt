@@ -50,7 +50,7 @@ peeled_is text behind inside c None e u v h =
 
 -- ---- digits
 
--- a number and how many digits write it, behind so many digits
+-- a number and how many digits write it, after so many digits
 abbrev pub behind : ℕ → Option (ℕ × ℕ) → Option (ℕ × ℕ)
 behind before o = option_map (λ (r : ℕ × ℕ). (r.0, before + r.1)) o
 

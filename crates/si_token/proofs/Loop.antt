@@ -43,7 +43,7 @@ end_goes p w = by (nat_lt 0 p.brackets)
     by true = refl
     by false = refl
 
--- behind a word stand its bytes
+-- after a word stand its bytes
 pub laid_at : (p : Place) (k : Option TokenKind) (s : Sort) (w : List ℕ) → (laid p k s w).1.at ≡ p.at + length w
 laid_at p (Some k) s w = refl
 laid_at p None Spaces w = refl

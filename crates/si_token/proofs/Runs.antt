@@ -389,7 +389,7 @@ run_reaches : (first p : ℕ → Bool) (w rest : List ℕ) → ((b : ℕ) → fi
 run_reaches first p [] rest i h = absurd h
 run_reaches first p (b ∷ w) rest i h = run_most p (b ∷ w) rest (i b h.0, h.1)
 
--- behind two quotes another may stand: then three open a longer literal, or none
+-- after two quotes another may stand: then three open a longer literal, or none
 abbrev Reaches : Sort → List ℕ → List ℕ → Type 0
 Reaches Text w rest = (n : ℕ) → text_length (w ++ rest) ≡ Some n → length w ≤ n
 Reaches k w rest = AtLeast (length_of k (w ++ rest)) (length w)

@@ -38,7 +38,7 @@ drop_more (suc at) n (b ∷ s) = (λ i. drop (sum i) (b ∷ s)) ∙ drop_more at
     sum : suc at + n ≡ suc (at + n)
     sum = omega arith
 
--- behind a word is what follows it
+-- after a word is what follows it
 pub behind_word : (source word after : List ℕ) (at : ℕ) → drop at source ≡ word ++ after → drop (at + length word) source ≡ after
 behind_word source word after at h = drop_more at (length word) source ∙ ap (drop (length word)) h ∙ drop_append word after
 
@@ -108,7 +108,7 @@ ends_further (suc m) n (b ∷ source) =
     ap (λ n. ends_before n (b ∷ source)) sum ∙ ap (λ k. (if ends_line b source then 1 else 0) + k) (ends_further m n source)
     ∙ sym (add_assoc (if ends_line b source then 1 else 0) (ends_before m source) (ends_before n (drop m source)))
 
--- the line behind a word is as many lines further as the word has line ends
+-- the line after a word is as many lines further as the word has line ends
 pub line_behind : (source rest : List ℕ) (at count line ends : ℕ) → drop at source ≡ rest → line ≡ line_at source at → ends ≡ ends_before count rest → line + ends ≡ line_at source (at + count)
 line_behind source rest at count line ends h l e =
     (λ i. l i + e i) ∙ ap (λ r. line_at source at + ends_before count r) (sym h)

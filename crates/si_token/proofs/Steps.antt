@@ -49,7 +49,7 @@ same_parts w rest front after e l =
 some_inj : {A : Type 0} (x y : A) → ◌≡◌ {A = Option A} (Some x) (Some y) → x ≡ y
 some_inj x y h = cc
 
--- what the tokens behind a word come from
+-- what the tokens after a word come from
 then_of : (ws : List Word) (o : Option (List Token × Place × List ℕ)) (ts : List Token) → option_and_then (λ (r : List Token × Place × List ℕ). option_map (λ more. r.0 ++ more) (laid_all r.1 r.2 ws)) o ≡ Some ts
     → (made more : List Token) × (next : Place) × (open_blocks : List ℕ) × (o ≡ Some (made, next, open_blocks)) × (ts ≡ made ++ more) × (laid_all next open_blocks ws ≡ Some more)
 then_of ws None ts h = cc

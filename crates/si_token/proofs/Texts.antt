@@ -200,7 +200,7 @@ quoted_parts q v n h = by (is_quote q) refl h
     by true e h = let p = from_plus (quotes_at (q ∷ v)) (body_length (quotes_at (q ∷ v)) q 0 false (drop (quotes_at (q ∷ v)) (q ∷ v))) n h in (p.0, p.1, p.2, e)
     by false e h = cc
 
--- behind two quotes a third one may stand: then three open a longer literal, or none
+-- after two quotes a third one may stand: then three open a longer literal, or none
 pub quoted_reaches : (w rest : List ℕ) (n : ℕ) → is_quoted w ≡ true → quoted_length (w ++ rest) ≡ Some n → length w ≤ n
 quoted_reaches w rest n h e = by (is_closed w rest) refl
   where

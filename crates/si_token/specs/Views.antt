@@ -134,7 +134,7 @@ pub record Place : Type 0 where
 abbrev pub place_of : code.Place → Place
 place_of p = record { at = p.at; begun = p.begun; column = p.column; has_tab = p.has_tab; brackets = p.brackets }
 
--- the token that a word makes, where it makes one, and the place behind the word
+-- the token that a word makes, where it makes one, and the place after the word
 abbrev pub laid_of : Option Token × code.Place → List tokens.Token × Place
 laid_of r = (option_to_list (option_map token_of r.0), place_of r.1)
 

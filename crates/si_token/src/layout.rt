@@ -84,7 +84,7 @@ fn closes(symbol: Symbol) -> bool
     )
 }
 
-// How many brackets are open behind a token of this kind.
+// How many brackets are open after a token of this kind.
 fn brackets_after(kind: TokenKind, brackets: usize) -> usize
     requires { brackets < 2 ^ 63 }
     ensures { result ≡ brackets_after (Some (kind_of kind)) brackets }
@@ -103,7 +103,7 @@ fn brackets_after(kind: TokenKind, brackets: usize) -> usize
     }
 }
 
-// Behind a word that makes no token and moves no column.
+// After a word that makes no token and moves no column.
 fn behind(place: Place, word: &str) -> Place
     requires room { place.at + length word.now < 2 ^ 63 }
     requires within { IsWithin place }
@@ -116,7 +116,7 @@ fn behind(place: Place, word: &str) -> Place
     }
 }
 
-// Behind spaces, which count at a line's beginning.
+// After spaces, which count at a line's beginning.
 fn behind_spaces(place: Place, word: &str) -> Place
     requires room { place.at + length word.now < 2 ^ 63 }
     requires within { IsWithin place }
@@ -130,7 +130,7 @@ fn behind_spaces(place: Place, word: &str) -> Place
     }
 }
 
-// Behind tabs, which leave a line's first token no column.
+// After tabs, which leave a line's first token no column.
 fn behind_tabs(place: Place, word: &str) -> Place
     requires room { place.at + length word.now < 2 ^ 63 }
     requires within { IsWithin place }
@@ -162,7 +162,7 @@ fn with_token<'a>(place: Place, kind: TokenKind, word: &'a str) -> (Option<Token
     (Some(token_at(place, kind, word)), next)
 }
 
-// A line end makes a NEWLINE behind a token, and nothing inside brackets or in a line with no token.
+// A line end makes a NEWLINE after a token, and nothing inside brackets or in a line with no token.
 fn with_line_end<'a>(place: Place, word: &'a str) -> (Option<Token<'a>>, Place)
     requires room { place.at + length word.now < 2 ^ 63 }
     requires some { 0 < length word.now }
@@ -183,7 +183,7 @@ fn with_line_end<'a>(place: Place, word: &'a str) -> (Option<Token<'a>>, Place)
     }
 }
 
-/// The token that a word makes, where it makes one, and the place behind the word, but for its line: the caller counts
+/// The token that a word makes, where it makes one, and the place after the word, but for its line: the caller counts
 /// line ends.
 pub fn laid<'a>(
     place: Place,
@@ -244,7 +244,7 @@ pub fn close_deeper(columns: &mut Vec<usize>, column: usize) -> usize
     closed
 }
 
-/// Puts so many DEDENTs behind the others.
+/// Puts so many DEDENTs after the others.
 pub fn dedents<'a>(all: &mut Vec<Token<'a>>, place: Place, count: usize) -> Result<(), AllocError>
     requires { place.at < 2 ^ 63 }
     ensures { OnOk result (Adds place.at place.line (replicate count Dedent) all.old.items all.new.items) }

@@ -2,7 +2,7 @@
 //
 // A text is cut into words, each the longest that begins there: names, numbers, literals, operators, and the blanks,
 // comments and line ends between them. The layout then makes tokens of words: blanks and comments make none, a
-// line end makes one behind a token and outside brackets, and what is deeper than the line before is a block.
+// line end makes one after a token and outside brackets, and what is deeper than the line before is a block.
 //
 // `tokens` answers the one list of tokens that the definition allows (`HasTokens` of
 // si_semantics), each a slice of the source, in order, and in the line that its span says; `BadText` says that there is

@@ -183,7 +183,7 @@ fn letter_escape(letter: char) -> Option<char>
     }
 }
 
-/// What the characters behind a backslash stand for, a character or none, and how many of them belong to the escape
+/// What the characters after a backslash stand for, a character or none, and how many of them belong to the escape
 /// (Python Language Reference 3.14, 2.5.4 "Escape sequences"); `None` where the escape is refused.
 pub fn escape(behind: &str) -> Option<(Option<char>, usize)>
     ensures { option_map written_of result ≡ escape (characters behind.now) }

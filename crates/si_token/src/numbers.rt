@@ -7,7 +7,7 @@ ghost use Rattle.si_semantics.specs.Literals.{value_of_int, in_range, behind_pre
 /// The greatest value of an integer literal.
 pub const MAX_INT: u64 = 9_223_372_036_854_775_807;
 
-/// The value of an integer literal, where it has one: digits with `_` between them, decimal ones or behind `0x`, `0o`
+/// The value of an integer literal, where it has one: digits with `_` between them, decimal ones or after `0x`, `0o`
 /// or `0b`, and at most 9223372036854775807.
 pub fn int_value(literal: &[u8]) -> Option<i64>
     ensures { result ≡ value_of_int literal.now }
@@ -21,7 +21,7 @@ pub fn int_value(literal: &[u8]) -> Option<i64>
     }
 }
 
-// The value of the digits behind a prefix, of which there is at least one.
+// The value of the digits after a prefix, of which there is at least one.
 fn prefixed_value(base: u64, digits: &[u8]) -> Option<i64>
     requires some { 0 < base }
     requires small { base ≤ 36 }

@@ -96,7 +96,7 @@ fn cut<'a>(rest: &'a str) -> Option<(Sort, &'a str, &'a str)>
     }
 }
 
-// Puts the token behind the others, where there is one.
+// Puts the token after the others, where there is one.
 fn keep<'a>(all: &mut Vec<Token<'a>>, made: Option<Token<'a>>) -> Result<(), AllocError>
     ensures { OnOk result (all.new.items ≡ all.old.items ++ option_to_list made.entry) }
 {
@@ -106,7 +106,7 @@ fn keep<'a>(all: &mut Vec<Token<'a>>, made: Option<Token<'a>>) -> Result<(), All
     Ok(())
 }
 
-// Puts what stands before a line's first token behind the other tokens: an INDENT, or DEDENTs.
+// Puts what stands before a line's first token after the other tokens: an INDENT, or DEDENTs.
 fn begin_line<'a>(
     all: &mut Vec<Token<'a>>,
     columns: &mut Vec<usize>,
@@ -132,7 +132,7 @@ fn begin_line<'a>(
     Ok(())
 }
 
-// Puts what stands before a word behind the other tokens, where the word is a line's first token.
+// Puts what stands before a word after the other tokens, where the word is a line's first token.
 fn before_word<'a>(
     all: &mut Vec<Token<'a>>,
     columns: &mut Vec<usize>,

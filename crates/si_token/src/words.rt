@@ -38,7 +38,7 @@ fn is_digit(b: u8) -> bool
     b.is_ascii_digit()
 }
 
-// What a name or a number may hold behind its first byte.
+// What a name or a number may hold after its first byte.
 fn continues_name(b: u8) -> bool
     ensures { result ≡ continues_name b }
 {
@@ -251,7 +251,7 @@ fn unprefixed(word: &[u8]) -> &[u8]
     }
 }
 
-// Behind an empty literal no third quote stands.
+// After an empty literal no third quote stands.
 fn is_closed(word: &[u8], rest: &[u8]) -> bool
     ensures { result ≡ is_closed word.now rest.now }
 {

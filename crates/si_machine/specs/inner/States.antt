@@ -238,7 +238,7 @@ IsPrinted count old new Local =
 IsPrinted count old new Ended = ⊥
 IsPrinted count old new Starved = (new ≡ record old { standing = standing.Starved; printed = new.printed }) × (string_bytes new.printed ≡ string_bytes old.printed)
 
--- back in the caller, behind a call, with the call's value
+-- back in the caller, after a call, with the call's value
 abbrev pub back_at : ℕ → Value → State → State
 back_at after v s = record s { pc = after; operands = back_with v s.operands.below; slots = back s.slots.below }
 

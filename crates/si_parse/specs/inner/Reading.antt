@@ -12,7 +12,7 @@ use Rattle.si_semantics.specs.Grammar.{Terminal, NAME, NUMBER, STRING, Sign, Wor
 
 -- ---- one terminal of look-ahead
 
--- what a terminal does behind an operand
+-- what a terminal does after an operand
 pub data Continuation : Type 0 where
   operator : BinaryOperator → Continuation
   arguments : Continuation
@@ -83,7 +83,7 @@ abbrev pub rest_of : List Terminal → List Terminal
 rest_of [] = []
 rest_of (t ∷ ts) = ts
 
--- the terminals behind some, where these stand first
+-- the terminals after some, where these stand first
 abbrev pub Step : Type 0
 Step = List Terminal → Option (List Terminal)
 
@@ -96,12 +96,12 @@ is_same INDENT INDENT = true
 is_same DEDENT DEDENT = true
 is_same _ _ = false
 
--- the terminals behind one that has no text of its own, where it stands first
+-- the terminals after one that has no text of its own, where it stands first
 abbrev pub after : Terminal → Step
 after t [] = None
 after t (u ∷ ts) = if is_same u t then Some ts else None
 
--- the terminals behind the word of an operator
+-- the terminals after the word of an operator
 abbrev pub after_boolean : BooleanOperator → Step
 after_boolean op = after (Word (word_of op))
 
@@ -113,7 +113,7 @@ pub data Header : Type 0 where
   try_header : Header
   def_header : Header
 
--- the word of a compound statement, where one stands first, and the terminals behind it
+-- the word of a compound statement, where one stands first, and the terminals after it
 abbrev pub header_at : List Terminal → Option (Header × List Terminal)
 header_at [] = None
 header_at (Word token.IfWord ∷ ts) = Some (if_header, ts)
@@ -134,7 +134,7 @@ abbrev pub closing_from : Step → List Terminal → Option (List Terminal) → 
 closing_from close ts (Some rest) = close rest
 closing_from close ts None = close ts
 
--- the terminals behind a closing one, before which a separator may stand
+-- the terminals after a closing one, before which a separator may stand
 abbrev pub closing : Step → Step → Step
 closing separator close ts = closing_from close ts (separator ts)
 
@@ -156,7 +156,7 @@ Found = Expr × ℕ × List Terminal
 abbrev pub Parsed : Type 0
 Parsed = Option Found
 
--- Operands behind operators, and the greatest depth among them, as long as an operator follows. The number bounds them.
+-- Operands after operators, and the greatest depth among them, as long as an operator follows. The number bounds them.
 abbrev pub chain_from : {O X : Type 0} → (O → Expr → X) → (O → List Terminal → Parsed) → (List X × ℕ → List Terminal → Option ((List X × ℕ) × List Terminal)) → List X × ℕ → List Terminal
     → Option (O × List Terminal) → Option ((List X × ℕ) × List Terminal)
 chain_from make item go b ts None = Some (b, ts)
@@ -179,17 +179,17 @@ is_none (Some ts) = false
 
 -- ---- names
 
--- the name that stands first, and the terminals behind it
+-- the name that stands first, and the terminals after it
 abbrev pub name_at : List Terminal → Option (Text × List Terminal)
 name_at [] = None
 name_at (NAME x ∷ ts) = Some (x, ts)
 name_at (_ ∷ ts) = None
 
--- the names with one more, and what stands behind it
+-- the names with one more, and what stands after it
 abbrev pub and_name : List Text → Text × List Terminal → Option (List Text × List Terminal)
 and_name xs r = Some (xs ++ r.0 ∷ [], r.1)
 
--- one more name, behind a comma
+-- one more name, after a comma
 abbrev pub next_name_by : List Text → List Terminal → Option (List Text × List Terminal)
 next_name_by xs ts = then_read (after (Sign token.Comma) ts) (λ rest. then_read (name_at rest) (and_name xs))
 
@@ -210,7 +210,7 @@ abbrev pub listed_from : List Terminal → Option (List Terminal) → Option (Li
 listed_from ts (Some rest) = Some ([], rest)
 listed_from ts None = separated_by with_parameter (λ r. r.1) name_at (after (Sign token.Comma)) (after (Sign token.RightParenthesis)) (length ts) [] ts
 
--- the names behind an open bracket, and the closed one
+-- the names after an open bracket, and the closed one
 abbrev pub listed_by : List Terminal → Option (List Text × List Terminal)
 listed_by ts = listed_from ts (after (Sign token.RightParenthesis) ts)
 
@@ -218,7 +218,7 @@ listed_by ts = listed_from ts (after (Sign token.RightParenthesis) ts)
 abbrev pub few : List Text × List Terminal → Option (List Text × List Terminal)
 few r = if nat_le (length r.0) max_parameters then Some r else None
 
--- the parameters of a function, behind the open bracket, and the closed one
+-- the parameters of a function, after the open bracket, and the closed one
 abbrev pub parameters_by : List Terminal → Option (List Text × List Terminal)
 parameters_by ts = then_read (listed_by ts) few
 
@@ -235,7 +235,7 @@ Collected = List Expr × ℕ
 abbrev pub Argued : Type 0
 Argued = Argument × ℕ × List Terminal
 
--- the name by which an argument is passed, and the terminals behind its `=`
+-- the name by which an argument is passed, and the terminals after its `=`
 abbrev pub named_at : List Terminal → Option (Text × List Terminal)
 named_at [] = None
 named_at (NAME x ∷ ts) = option_map (λ rest. (x, rest)) (after (Sign token.Equal) ts)
@@ -259,7 +259,7 @@ abbrev pub arguments_from : Parser → List Terminal → Option (List Terminal) 
 arguments_from sub ts (Some rest) = Some (([], 0), rest)
 arguments_from sub ts None = separated_by with_argument (λ r. r.2) (argument_by sub) (after (Sign token.Comma)) (after (Sign token.RightParenthesis)) (length ts) ([], 0) ts
 
--- the arguments behind an open bracket, the greatest depth among them, and the closed one
+-- the arguments after an open bracket, the greatest depth among them, and the closed one
 abbrev pub arguments_by : Parser → List Terminal → Option ((List Argument × ℕ) × List Terminal)
 arguments_by sub ts = arguments_from sub ts (after (Sign token.RightParenthesis) ts)
 
@@ -277,7 +277,7 @@ abbrev pub with_passed : Passed → Argument → Option Passed
 with_passed b (Positional e) = if no_names b.1 then Some (b.0 ++ e ∷ [], b.1) else None
 with_passed b (ByName x e) = if is_in x b.1 then None else Some (b.0 ++ e ∷ [], b.1 ++ x ∷ [])
 
--- the arguments one by one, behind those before
+-- the arguments one by one, after those before
 abbrev pub passed_from : Passed → List Argument → Option Passed
 passed_from b [] = Some b
 passed_from b (a ∷ more) = then_read (with_passed b a) (λ c. passed_from c more)
@@ -296,14 +296,14 @@ called n e d r = then_read (passed_from ([], []) r.0.0) (λ p. within n (tree.Ca
 abbrev pub call_by : Parser → ℕ → Expr → ℕ → List Terminal → Parsed
 call_by sub n e d ts = then_read (arguments_by sub ts) (called n e d)
 
--- a conditional expression, from behind its `if`
+-- a conditional expression, from after its `if`
 abbrev pub other_by : Parser → ℕ → Expr → ℕ → Found → List Terminal → Parsed
 other_by sub n e d t ts = then_read (sub 1 ts) (λ o. within n (tree.Conditional t.0 e o.0) (max d (max t.1 o.1) + 1) o.2)
 
 abbrev pub conditional_by : Parser → ℕ → Expr → ℕ → List Terminal → Parsed
 conditional_by sub n e d ts = then_read (sub 3 ts) (λ t. then_read (after (Word token.ElseWord) t.2) (other_by sub n e d t))
 
--- the operands of `and` or of `or` behind the first one, from the first word on
+-- the operands of `and` or of `or` after the first one, from the first word on
 abbrev pub with_word : BooleanOperator → Option (List Terminal) → Option (BooleanOperator × List Terminal)
 with_word op rest = option_map (λ ts. (op, ts)) rest
 
@@ -313,7 +313,7 @@ operands_by sub op ts = chain_by (λ o e. e) (λ ts. with_word op (after_boolean
 abbrev pub boolean_by : Parser → ℕ → Expr → ℕ → BooleanOperator → List Terminal → Parsed
 boolean_by sub n e d op ts = then_read (operands_by sub op ts) (λ r. within n (tree.Boolean op e (exprs_of r.0.0)) (max d r.0.1 + 1) r.1)
 
--- an operator of a comparison, and the terminals behind it
+-- an operator of a comparison, and the terminals after it
 abbrev pub comparison_symbol : Symbol → Option ComparisonOperator
 comparison_symbol token.Less = Some tree.Less
 comparison_symbol token.Greater = Some tree.Greater
@@ -345,7 +345,7 @@ compared_to op r = if is_identity op && not (is_singleton r.0 r.1) then None els
 abbrev pub compared_by : Parser → ComparisonOperator → List Terminal → Parsed
 compared_by sub op ts = then_read (sub 10 ts) (compared_to op)
 
--- the operators of comparisons with the operands behind them, from the first operator on
+-- the operators of comparisons with the operands after them, from the first operator on
 abbrev pub links_by : Parser → List Terminal → Option ((List Link × ℕ) × List Terminal)
 links_by sub ts = chain_by (λ o e. (o, e)) comparison_at (compared_by sub) (length ts) ([], 0) ts
 
@@ -373,7 +373,7 @@ abbrev pub closed : Expr → ℕ → Option (List Terminal) → Parsed
 closed e d (Some rest) = Some (e, d + 1, rest)
 closed e d None = None
 
--- the joined text of the str literals that stand first, behind a text
+-- the joined text of the str literals that stand first, after a text
 abbrev pub strings_by : Text → List Terminal → Option (Text × List Terminal)
 strings_by text [] = Some (text, [])
 strings_by text (STRING literal ∷ ts) = then_read (value_of_str literal) (λ s. strings_by (text ++ s) ts)
@@ -487,15 +487,15 @@ ends_small (_ ∷ ts) = false
 abbrev pub value_by : Parser → List Terminal → Option (Option Expr × List Terminal)
 value_by sub ts = if ends_small ts then Some (None, ts) else then_read (sub 1 ts) (λ r. Some (Some r.0, r.2))
 
--- from behind the `return`
+-- from after the `return`
 abbrev pub returned_by : Parser → List Terminal → Option (Stmt × List Terminal)
 returned_by sub ts = then_read (value_by sub ts) (λ r. Some (tree.Return r.0, r.1))
 
--- from behind the `raise`
+-- from after the `raise`
 abbrev pub raised_by : Parser → List Terminal → Option (Stmt × List Terminal)
 raised_by sub ts = then_read (value_by sub ts) (λ r. Some (tree.Raise r.0, r.1))
 
--- from behind the `global`
+-- from after the `global`
 abbrev pub global_by : List Terminal → Option (Stmt × List Terminal)
 global_by ts = then_read (names_by ts) (λ r. Some (tree.Global r.0, r.1))
 
@@ -513,7 +513,7 @@ statement_by sub ts = small_from sub ts (word_statement ts) (after (Word token.R
 abbrev pub with_statement : List Stmt → Stmt × List Terminal → List Stmt
 with_statement body r = body ++ r.0 ∷ []
 
--- statements behind those before, and the terminals after them
+-- statements after those before, and the terminals after them
 abbrev pub LineParser : Type 0
 LineParser = List Stmt → List Terminal → Option (List Stmt × List Terminal)
 
@@ -539,7 +539,7 @@ suite_from line ts (Some rest) = then_read (after INDENT rest) (indented_by line
 abbrev pub suite_by : LineParser → List Terminal → Option (List Stmt × List Terminal)
 suite_by line ts = then_read (after (Sign token.Colon) ts) (λ rest. suite_from line rest (after NEWLINE rest))
 
--- a test and the suite behind it
+-- a test and the suite after it
 abbrev pub branch_by : LineParser → List Terminal → Option (Branch × List Terminal)
 branch_by line ts = then_read (expression_at max_depth 1 ts) (λ t. then_read (suite_by line t.2) (λ b. Some ((t.0, stmts_of b.0), b.1)))
 
@@ -565,29 +565,29 @@ otherwise_by line ts = otherwise_from line ts (after (Word token.ElseWord) ts)
 abbrev pub joined_if : Branch → List Branch → List Stmt × List Terminal → Option (Stmt × List Terminal)
 joined_if b elifs o = Some (tree.If b.0 b.1 (elifs_of elifs (stmts_of o.0)), o.1)
 
--- from behind the `if`
+-- from after the `if`
 abbrev pub if_by : LineParser → List Terminal → Option (Stmt × List Terminal)
 if_by line ts = then_read (branch_by line ts) (λ b. then_read (elifs_by line b.1) (λ es. then_read (otherwise_by line es.1) (joined_if b.0 es.0)))
 
 abbrev pub joined_while : Branch → List Stmt × List Terminal → Option (Stmt × List Terminal)
 joined_while b o = Some (tree.While b.0 b.1 (stmts_of o.0), o.1)
 
--- from behind the `while`
+-- from after the `while`
 abbrev pub while_by : LineParser → List Terminal → Option (Stmt × List Terminal)
 while_by line ts = then_read (branch_by line ts) (λ b. then_read (otherwise_by line b.1) (joined_while b.0))
 
--- the target that an expression is, where the word `in` stands behind it
+-- the target that an expression is, where the word `in` stands after it
 abbrev pub target_from : Expr → Option (List Terminal) → Option (Target × List Terminal)
 target_from e behind = then_read (as_target e) (λ t. option_map (λ rest. (t, rest)) behind)
 
--- The target of a `for`, and the terminals behind the `in`. A name is of every level: one is asked at which no operator but `**` is read.
+-- The target of a `for`, and the terminals after the `in`. A name is of every level: one is asked at which no operator but `**` is read.
 abbrev pub target_by : List Terminal → Option (Target × List Terminal)
 target_by ts = then_read (expression_at max_depth 16 ts) (λ r. target_from r.0 (after (Word token.InWord) r.2))
 
 abbrev pub joined_for : Target → Branch → List Stmt × List Terminal → Option (Stmt × List Terminal)
 joined_for t b o = Some (tree.For t b.0 b.1 (stmts_of o.0), o.1)
 
--- from behind the `for`
+-- from after the `for`
 abbrev pub for_by : LineParser → List Terminal → Option (Stmt × List Terminal)
 for_by line ts = then_read (target_by ts) (λ t. then_read (branch_by line t.1) (λ b. then_read (otherwise_by line b.1) (joined_for t.0 b.0)))
 
@@ -595,13 +595,13 @@ for_by line ts = then_read (target_by ts) (λ t. then_read (branch_by line t.1) 
 abbrev pub defined_by : LineParser → Text → List Text × List Terminal → Option (Stmt × List Terminal)
 defined_by line x ps = then_read (suite_by line ps.1) (λ b. Some (tree.Define x ps.0 (stmts_of b.0), b.1))
 
--- from behind the `def`
+-- from after the `def`
 abbrev pub define_by : LineParser → List Terminal → Option (Stmt × List Terminal)
 define_by line ts = then_read (name_at ts) (λ n. then_read (after (Sign token.LeftParenthesis) n.1) (λ rest. then_read (parameters_by rest) (defined_by line n.0)))
 
 -- ---- try
 
--- the terminals behind an `except`, where no colon follows it
+-- the terminals after an `except`, where no colon follows it
 abbrev pub after_catch : Step
 after_catch ts = then_read (after (Word token.ExceptWord) ts) (λ rest. if is_none (after (Sign token.Colon) rest) then Some rest else None)
 
@@ -617,7 +617,7 @@ abbrev pub caught_from : Expr → List Terminal → Option (List Terminal) → O
 caught_from e ts None = Some ((e, None), ts)
 caught_from e ts (Some rest) = then_read (name_at rest) (λ n. Some ((e, Some n.0), n.1))
 
--- from behind the `except`
+-- from after the `except`
 abbrev pub caught_by : List Terminal → Option (Catch × List Terminal)
 caught_by ts = then_read (expression_at max_depth 1 ts) (λ t. caught_from t.0 t.2 (after (Word token.AsWord) t.2))
 
@@ -635,7 +635,7 @@ catch_by line cs ts = then_read (after_catch ts) (λ rest. then_read (clause_by 
 abbrev pub catches_by : LineParser → List Terminal → Option (List Clause × List Terminal)
 catches_by line ts = many_by (catch_by line) no_catch (length ts) [] ts
 
--- the clauses with a bare one behind them, once it is known whether an `except` follows
+-- the clauses with a bare one after them, once it is known whether an `except` follows
 abbrev pub bare_from : LineParser → List Clause → List Terminal → Option (List Terminal) → Option (List Clause × List Terminal)
 bare_from line cs ts None = Some (cs, ts)
 bare_from line cs ts (Some rest) = then_read (suite_by line rest) (λ b. Some (cs ++ (None, None, stmts_of b.0) ∷ [], b.1))
@@ -647,7 +647,7 @@ bare_by line cs ts = bare_from line cs ts (after (Word token.ExceptWord) ts)
 abbrev pub clauses_by : LineParser → List Terminal → Option (List Clause × List Terminal)
 clauses_by line ts = then_read (catches_by line ts) (λ cs. bare_by line cs.0 cs.1)
 
--- the clauses and the else suite, which stands behind a clause alone
+-- the clauses and the else suite, which stands after a clause alone
 abbrev pub Handled : Type 0
 Handled = List Clause × List Stmt
 
@@ -668,13 +668,13 @@ abbrev pub finally_from : LineParser → Stmts → Handled × List Terminal → 
 finally_from line body h None = tried body h.0.0 h.0.1 h.1
 finally_from line body h (Some rest) = then_read (suite_by line rest) (λ b. Some (tree.Finally body (clauses_of h.0.0) (stmts_of h.0.1) (stmts_of b.0), b.1))
 
--- from behind the `try`
+-- from after the `try`
 abbrev pub try_by : LineParser → List Terminal → Option (Stmt × List Terminal)
 try_by line ts = then_read (suite_by line ts) (λ b. then_read (handlers_by line b.1) (λ h. finally_from line (stmts_of b.0) h (after (Word token.FinallyWord) h.1)))
 
 -- ---- lines
 
--- a compound statement, from behind its word
+-- a compound statement, from after its word
 abbrev pub compound_by : LineParser → Header → List Terminal → Option (Stmt × List Terminal)
 compound_by line if_header ts = if_by line ts
 compound_by line while_header ts = while_by line ts

@@ -80,7 +80,7 @@ local_to ps b =
 -- ---- a text
 
 abbrev mutual
-  -- a statement, in a loop or in none, behind functions of which these are the locals
+  -- a statement, in a loop or in none, after functions of which these are the locals
   pub resolved : Stmt → Bool → List (List Text) → Option (List (List Text))
   resolved (tree.If a b c) loop names = option_and_then (resolved_all c loop) (resolved_all b loop names)
   resolved (tree.While a b c) loop names = option_and_then (resolved_all c loop) (resolved_all b true names)

@@ -134,7 +134,7 @@ pub record ExceptionCases : Type 0 where
   --     except f:
   --         print('b')
   pub no_clause_tested : ends (try_except (says (codes "a") ∷ []) (except_of (tree.Name f) (says (codes "b") ∷ []) tree.NoClauses) ∷ []) ≡ codes "a\n"
-  -- a clause with a value that is no kind; the clauses behind it do not catch that exception
+  -- a clause with a value that is no kind; the clauses after it do not catch that exception
   --     try:
   --         1 // 0
   --     except 1:
@@ -276,7 +276,7 @@ pub record ExceptionCases : Type 0 where
       (except_as key_error e (prints (tree.Name e ∷ []) ∷ []) tree.NoClauses)
       ∷ [])
       ≡ codes "'a'\n"
-  -- ---- the name behind `as`
+  -- ---- the name after `as`
   --     e = 1
   --     try:
   --         1 // 0
@@ -438,7 +438,7 @@ pub record ExceptionCases : Type 0 where
   pub none_active_in_an_else_suite :
       ends (try_else (says (codes "a") ∷ []) (except_of value_error (says (codes "b") ∷ []) tree.NoClauses) (raises_again ∷ []) ∷ [])
       ≡ codes "a\nraised RuntimeError: no active exception\n"
-  -- behind an inner clause the outer exception is active again
+  -- after an inner clause the outer exception is active again
   --     try:
   --         raise KeyError('a')
   --     except KeyError:
@@ -683,7 +683,7 @@ pub record ExceptionCases : Type 0 where
   pub visits_of_clauses :
       end_of (run_of (try_except (divides_by_zero ∷ []) (except_of key_error (tree.Pass ∷ []) (except_as zero_division_error e (tree.Pass ∷ []) tree.NoClauses)) ∷ []))
       ≡ Some (Some (End Returned), 12)
-  -- a clause without an expression is a visit too, here 7; the visits before and behind it are 6 and 8
+  -- a clause without an expression is a visit too, here 7; the visits before and after it are 6 and 8
   --     try:
   --         1 // 0
   --     except:
@@ -704,7 +704,7 @@ pub record ExceptionCases : Type 0 where
   --         e = ValueError(e)
   --     raise e
   pub deepest : ends_within 200 (nested 199 (raises (tree.Name e))) ≡ codes "raised ValueError\n"
-  -- the same with `range(200)`, and with `print(e)` behind that
+  -- the same with `range(200)`, and with `print(e)` after that
   pub too_deep : ends_within 201 (nested 200 (raises (tree.Name e))) ≡ codes "raised ValueError: <exception str() failed>\n"
   pub print_too_deep : ends_within 201 (nested 200 (prints (tree.Name e ∷ []))) ≡ codes "raised RecursionError: too deep\n"
   -- ---- texts of one life

@@ -20,7 +20,7 @@ cut_script =
 abbrev pub defined : Text → Stmt
 defined y = define y [] (tree.Pass ∷ [])
 
--- a function in each suite of a `try`, with these statements behind the first, and one behind the `try`
+-- a function in each suite of a `try`, with these statements after the first, and one after the `try`
 abbrev pub defining : List Stmt → List Stmt
 defining behind =
     try_finally
@@ -91,7 +91,7 @@ pub record FinallyCases : Type 0 where
       ∷ prints (called f [] ∷ [])
       ∷ [])
       ≡ codes "a\n1\n"
-  -- the finally suite runs in each turn; the else suite of the loop does not run behind `break`
+  -- the finally suite runs in each turn; the else suite of the loop does not run after `break`
   --     for i in range(4):
   --         try:
   --             if i == 1:
@@ -118,7 +118,7 @@ pub record FinallyCases : Type 0 where
       ∷ says (codes "c")
       ∷ [])
       ≡ codes "0\na 0\na 1\na 2\nc\n"
-  -- but it does behind `continue`
+  -- but it does after `continue`
   --     for i in range(2):
   --         try:
   --             continue
@@ -266,7 +266,7 @@ pub record FinallyCases : Type 0 where
   --         pass
   pub visits_of_suites :
       end_of (run_of (try_finally (tree.Pass ∷ []) (except_any (tree.Pass ∷ []) tree.NoClauses) (tree.Pass ∷ []) (tree.Pass ∷ []) ∷ [])) ≡ Some (Some (End Returned), 6)
-  -- a loop that wants a turn too many is cut, and no suite runs behind it
+  -- a loop that wants a turn too many is cut, and no suite runs after it
   --     try:
   --         while True:
   --             pass

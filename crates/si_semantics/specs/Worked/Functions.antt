@@ -99,7 +99,7 @@ pub record FunctionCases : Type 0 where
   pub number_behind_calls : pieces_of (run_of (counted 3)) ≡ record { text = codes "3\n"; number = 38 } ∷ []
   pub visits_of_calls : end_of (run_of (counted 3)) ≡ Some (Some (End Returned), 39)
   -- `def f(n):` `if n: f(n - 1)`, `print(n)`, then `f(2)`: each call has locals of its own, and the caller has its own
-  -- again behind it
+  -- again after it
   pub locals_of_each_call : report_of (define f (n ∷ []) prints_behind ∷ tree.Evaluate (called f (int 2 ∷ [])) ∷ []) ≡ codes "== interpreter 0 ==\n0\n1\n2\nend: finished\n"
   -- 200 calls within each other are made, and no more
   pub deepest : report_of (counted 200) ≡ codes "== interpreter 0 ==\n200\nend: finished\n"

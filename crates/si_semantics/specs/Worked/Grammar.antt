@@ -94,6 +94,6 @@ pub record GrammarCases : Type 0 where
   -- operators by their levels, and at one level from the left
   pub levels : IsReadAs (codes "x = 1 - 2 - -3 ** 4 * 5\n") (tree.Assign (tree.Named x) difference ∷ [])
   pub brackets : IsReadAs (codes "x = 1 - (2 - 3)\n") (tree.Assign (tree.Named x) bracketed ∷ [])
-  -- `or` behind `not`, and `not` before comparisons
+  -- `or` after `not`, and `not` before comparisons
   pub words_between_operands :
       IsReadAs (codes "not 1 < 2 <= 3 or x\n") (tree.Evaluate (tree.Boolean tree.Or negated_chain (arguments (tree.Name x ∷ []))) ∷ [])

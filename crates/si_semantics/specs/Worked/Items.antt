@@ -375,7 +375,7 @@ pub record ItemCases : Type 0 where
   --     else:
   --         pass
   pub visits_of_a_for : end_of (run_within 2 (each_else c (str (codes "a")) (tree.Pass ∷ []) (tree.Pass ∷ []) ∷ [])) ≡ Some (Some (End Returned), 9)
-  -- with two turns it is cut behind the second
+  -- with two turns it is cut after the second
   --     for i in range(3):
   --         print(i)
   pub cut_in_a_for : texts_of (run_within 2 three_turns) ≡ codes "0\n" ∷ codes "1\n" ∷ []

@@ -75,7 +75,7 @@ tokens_of_four_lines =
 abbrev pub four_ends : List ℕ
 four_ends = codes "a\r\nb\n\r\rc"
 
--- `x` behind a literal that goes over two line ends, CR LF each
+-- `x` after a literal that goes over two line ends, CR LF each
 abbrev pub behind_a_literal : List ℕ
 behind_a_literal = codes "'''\r\n\r\n'''x"
 
@@ -95,7 +95,7 @@ pub record LayoutCases : Type 0 where
   -- the empty line, and ` # x`, close no block
   pub blank_line : kinds (5 ∷ 2 ∷ []) [] ≡ Some ([], 5 ∷ 2 ∷ [])
   pub comment_alone : kinds (5 ∷ 2 ∷ []) (spaces (codes " ") ∷ comment ∷ []) ≡ Some ([], 5 ∷ 2 ∷ [])
-  -- no tab stands before a line's first token, and any stands before a comment or behind a token
+  -- no tab stands before a line's first token, and any stands before a comment or after a token
   pub tab_first : kinds [] (spaces (codes " ") ∷ tab ∷ x ∷ []) ≡ None
   pub tab_before_comment : kinds [] (tab ∷ comment ∷ []) ≡ Some ([], [])
   pub tab_behind : kinds [] (x ∷ tab ∷ []) ≡ Some (Name ∷ Newline ∷ [], [])

@@ -17,7 +17,7 @@ abbrev pub nested : ℕ → Stmts
 nested zero = nothing
 nested (suc k) = suite (tree.If i_name (nested k) tree.NoStmts ∷ [])
 
--- `if i: pass`, and so many times `elif i: pass` behind it
+-- `if i: pass`, and so many times `elif i: pass` after it
 abbrev pub chained : ℕ → Stmts
 chained zero = suite (tree.If i_name nothing tree.NoStmts ∷ [])
 chained (suc k) = suite (tree.If i_name nothing (chained k) ∷ [])
@@ -41,7 +41,7 @@ pub record LimitCases : Type 0 where
       (suite (tree.Try nothing (tree.MoreClauses None None (suite (tree.Raise (Some i_name) ∷ [])) tree.NoClauses) tree.NoStmts ∷ [])) ∷ [])) ≡ 2
   -- `print('a', 'abc' + 'a')`, `print(i)`
   pub longest : greatest_in longest_str (suite (prints (a_text ∷ tree.Binary tree.Add (str (codes "abc")) a_text ∷ []) ∷ prints (i_name ∷ []) ∷ [])) ≡ 3
-  -- `x = 'abc'` in a finally suite, behind `except 'a': pass`
+  -- `x = 'abc'` in a finally suite, after `except 'a': pass`
   pub longest_in_a_finally_suite :
       greatest_in longest_str (suite (tree.Finally nothing (tree.MoreClauses (Some a_text) None nothing tree.NoClauses) tree.NoStmts (suite (set_text ∷ [])) ∷ [])) ≡ 3
   -- `for x in i:` with `def f(n, x): pass` for its else suite

@@ -37,7 +37,7 @@ looped body = tree.While (tree.Name n) (suite body) tree.NoStmts
 abbrev pub each_x : (body last : List Stmt) → Stmt
 each_x body last = tree.For (tree.Named x) (tree.Name n) (suite body) (suite last)
 
--- `except NAME:`, or `except:`, with these statements for its suite, and the clauses behind it
+-- `except NAME:`, or `except:`, with these statements for its suite, and the clauses after it
 abbrev pub except : Option Text → List Stmt → Clauses → Clauses
 except None body more = tree.MoreClauses None None (suite body) more
 except (Some y) body more = tree.MoreClauses (Some (tree.Name y)) None (suite body) more
@@ -116,7 +116,7 @@ pub record ScopeCases : Type 0 where
   pub global_of_a_target : scoped_in_f (each_x (global_x ∷ []) [] ∷ []) ≡ false
   -- `for i in x: global x`
   pub global_of_what_is_gone_over : scoped_in_f (tree.For (tree.Named (codes "i")) (tree.Name x) (suite (global_x ∷ [])) tree.NoStmts ∷ []) ≡ false
-  -- `try: pass`, `except n as x: i = 1`, `else: g = 1`; the same with `finally: g = 1` behind an empty else suite: `as`
+  -- `try: pass`, `except n as x: i = 1`, `else: g = 1`; the same with `finally: g = 1` after an empty else suite: `as`
   -- binds, and so do the suites
   pub name_behind_as_is_local :
       locals_in_f (tree.Try nothing (as_x (tree.Assign (tree.Named (codes "i")) (int 1) ∷ [])) (suite (tree.Assign (tree.Named g) (int 1) ∷ [])) ∷ []) ≡ n ∷ x ∷ codes "i" ∷ g ∷ []

@@ -105,7 +105,7 @@ raises v = tree.Raise (Some v)
 abbrev pub raises_again : Stmt
 raises_again = tree.Raise None
 
--- `except:`, `except KIND:` and `except KIND as NAME:`, each with its suite, and the clauses behind it
+-- `except:`, `except KIND:` and `except KIND as NAME:`, each with its suite, and the clauses after it
 abbrev pub except_any : List Stmt → Clauses → Clauses
 except_any body cs = tree.MoreClauses None None (suite body) cs
 
@@ -115,7 +115,7 @@ except_of k body cs = tree.MoreClauses (Some k) None (suite body) cs
 abbrev pub except_as : Expr → Text → List Stmt → Clauses → Clauses
 except_as k y body cs = tree.MoreClauses (Some k) (Some y) (suite body) cs
 
--- `try:` with clauses, with an else suite behind them, with a finally suite behind that, and with a finally suite alone
+-- `try:` with clauses, with an else suite after them, with a finally suite after that, and with a finally suite alone
 abbrev pub try_except : List Stmt → Clauses → Stmt
 try_except body cs = tree.Try (suite body) cs tree.NoStmts
 

@@ -183,7 +183,7 @@ pub record Cases : Type 0 where
   pub no_order : report_of (tree.Evaluate (compared tree.Less a_text (int 1)) ∷ []) ≡ codes "== interpreter 0 ==\nraised TypeError: wrong type\nend: finished\n"
   -- `print(1 < 2 < 3, 2 > 1 != 1, 1 > 2 > f)` where f is not bound: a comparison that is not true ends the chain
   pub chains : shown (tree.Compare (int 1) (tree.MoreComparisons tree.Less (int 2) (tree.MoreComparisons tree.Less (int 3) tree.NoComparisons)) ∷ tree.Compare (int 2) (tree.MoreComparisons tree.Greater (int 1) (tree.MoreComparisons tree.NotEqual (int 1) tree.NoComparisons)) ∷ tree.Compare (int 1) (tree.MoreComparisons tree.Greater (int 2) (tree.MoreComparisons tree.Greater (tree.Name (codes "f")) tree.NoComparisons)) ∷ []) ≡ codes "== interpreter 0 ==\nTrue False False\nend: finished\n"
-  -- `print(0 or 'a' or f, 1 and '' and f, not '')` where f is not bound: one of the operands is given, and those behind
+  -- `print(0 or 'a' or f, 1 and '' and f, not '')` where f is not bound: one of the operands is given, and those after
   -- it are not evaluated
   pub operands_given : shown (tree.Boolean tree.Or (int 0) (arguments (a_text ∷ tree.Name (codes "f") ∷ [])) ∷ tree.Boolean tree.And (int 1) (arguments (str [] ∷ tree.Name (codes "f") ∷ [])) ∷ tree.Unary tree.Not (str []) ∷ []) ≡ codes "== interpreter 0 ==\na  True\nend: finished\n"
   -- `print('a' if 1 else f, f if None else 2)` where f is not bound
@@ -192,7 +192,7 @@ pub record Cases : Type 0 where
   pub read_before_the_right_side : report_of (tree.Augment (tree.Named (codes "a")) tree.Add (print (a_text ∷ [])) ∷ []) ≡ codes "== interpreter 0 ==\nraised NameError: name a is not defined\nend: finished\n"
   -- 2 ends its turn, 4 the loop
   pub broken_and_continued : report_within 4 left_by_break ≡ codes "== interpreter 0 ==\n1\n3\na\nend: finished\n"
-  -- with three turns it is cut behind the third
+  -- with three turns it is cut after the third
   pub cut_before_the_break : texts_of (run_within 3 left_by_break) ≡ codes "1\n" ∷ codes "3\n" ∷ []
   pub no_end_before_the_break : end_of (run_within 3 left_by_break) ≡ None
   -- The wait for the job is visit 1, the loop 2. A turn is 3, its test 4, the statement 5, the call 6, its callee 7,

@@ -14,7 +14,7 @@ use Rattle.si_token.specs.Spans.{IsPart}
 abbrev pub line_start : ℕ → Place
 line_start at = record { at = at; begun = false; column = 0; has_tab = false; brackets = 0 }
 
--- ---- behind a word
+-- ---- after a word
 
 abbrev pub behind : Place → List ℕ → Place
 behind p w = record p { at = p.at + length w }
@@ -28,13 +28,13 @@ behind_tabs p w = record p { at = p.at + length w; has_tab = true }
 abbrev pub behind_token : Place → tokens.TokenKind → List ℕ → Place
 behind_token p k w = record p { at = p.at + length w; begun = true; brackets = brackets_after (Some k) p.brackets }
 
--- a line end, which makes a NEWLINE behind a token and outside brackets
+-- a line end, which makes a NEWLINE after a token and outside brackets
 abbrev pub with_line_end : Place → List ℕ → List tokens.Token × Place
 with_line_end p w =
     if nat_lt 0 p.brackets then ([], behind p w)
     else (if p.begun then token p.at w tokens.Newline ∷ [] else [], line_start (p.at + length w))
 
--- the token that a word makes, where it makes one, and the place behind the word
+-- the token that a word makes, where it makes one, and the place after the word
 abbrev pub laid : Place → Option tokens.TokenKind → Sort → List ℕ → List tokens.Token × Place
 laid p (Some k) s w = (token p.at w k ∷ [], behind_token p k w)
 laid p None words.Spaces w = ([], behind_spaces p w)
@@ -79,14 +79,14 @@ laid_all p blocks (w ∷ ws) =
 abbrev pub Reads : Place → List ℕ → List tokens.Token → List ℕ → Type 0
 Reads p blocks ts bs = (ws : List Word) × IsCut ws bs × (laid_all p blocks ws ≡ Some ts)
 
--- Behind the tokens stand others now: empty ones of these kinds, at this byte and in this line.
+-- After the tokens stand others now: empty ones of these kinds, at this byte and in this line.
 pub record Adds (at line : ℕ) (kinds : List tokens.TokenKind) (old new : List Token) : Type 0 where
   pub made : List Token
   pub whole : new ≡ old ++ made
   pub tokens : map token_of made ≡ empty_tokens at kinds
   pub parts : AllByRecursion (IsPart at line []) made
 
--- What stands before a word was put behind the tokens, and these blocks are open now.
+-- What stands before a word was put after the tokens, and these blocks are open now.
 pub record Stands (at line : ℕ) (o : Option (List tokens.TokenKind × List ℕ)) (blocks : List ℕ) (old new : List Token) : Type 0 where
   pub kinds : List tokens.TokenKind
   pub is : o ≡ Some (kinds, blocks)

@@ -9,12 +9,12 @@ use Rattle.si_semantics.specs.Literals.{Written, with_line_feeds}
 abbrev pub characters : List ℕ → Text
 characters bytes = with_line_feeds (chars bytes)
 
--- the first character, and those behind it
+-- the first character, and those after it
 abbrev pub front_of : Text → Option (ℕ × Text)
 front_of [] = None
 front_of (c ∷ cs) = Some (c, cs)
 
--- the value of the digit in front, and the characters behind it
+-- the value of the digit in front, and the characters after it
 abbrev pub digit_front : ℕ → Text → Option (ℕ × Text)
 digit_front base [] = None
 digit_front base (c ∷ cs) = if nat_lt (digit_value c) base then Some (digit_value c, cs) else None

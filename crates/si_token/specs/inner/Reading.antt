@@ -30,7 +30,7 @@ abbrev pub add_one : Option ℕ → Option ℕ
 add_one None = None
 add_one (Some n) = Some (suc n)
 
--- a length behind so many bytes
+-- a length after so many bytes
 abbrev pub plus : ℕ → Option ℕ → Option ℕ
 plus n None = None
 plus n (Some m) = Some (n + m)

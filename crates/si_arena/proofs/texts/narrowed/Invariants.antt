@@ -1,4 +1,4 @@
--- the characters so far stand behind those that were there
+-- the characters so far stand after those that were there
 use Rattle.std.proofs.Common.{◌≡◌, ◌++◌}
 use Rattle.si_arena.proofs.texts.narrowed.Given as goal
 

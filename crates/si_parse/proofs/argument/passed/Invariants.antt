@@ -4,7 +4,7 @@ use Rattle.si_parse.specs.inner.Reading.{passed_from}
 use Rattle.si_parse.specs.inner.Gives.{argument_of}
 use Rattle.si_parse.proofs.argument.passed.Given as goal
 
--- the arguments that are left go behind what is kept, and each name that is kept has a slot
+-- the arguments that are left go after what is kept, and each name that is kept has a slot
 abbrev pub invariant-loop-argument : goal.invariant-loop-argument
 invariant-loop-argument l = record {
   passed : passed_from (map expr_of l.values.items, map string_bytes l.names.items) (map argument_of l.argument-iterator.rest.items) ≡ passed_from ([], []) (map argument_of l.fn.arguments.items);

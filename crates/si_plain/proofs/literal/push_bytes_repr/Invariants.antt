@@ -1,4 +1,4 @@
--- what the bytes so far are written as, behind what stood there with `b` and the quote
+-- what the bytes so far are written as, after what stood there with `b` and the quote
 use Rattle.std.proofs.Common.{◌≡◌, ◌++◌, flat_map, take}
 use Rattle.si_plain.specs.Repr.{escaped_byte}
 use Rattle.si_plain.proofs.literal.push_bytes_repr.Given as goal

@@ -1,4 +1,4 @@
--- what the characters so far are written as, behind what stood there with the quote
+-- what the characters so far are written as, after what stood there with the quote
 use Rattle.std.proofs.Common.{◌≡◌, ◌++◌, flat_map}
 use Rattle.si_plain.specs.Repr.{escaped}
 use Rattle.si_plain.proofs.literal.push_repr.Given as goal

@@ -1,4 +1,4 @@
--- the characters so far stand behind those that were there
+-- the characters so far stand after those that were there
 use Rattle.std.proofs.Common.{◌≡◌, ◌++◌, take}
 use Rattle.si_arena.specs.Short.{short_text}
 use Rattle.si_arena.proofs.short.Short.append.Given as goal

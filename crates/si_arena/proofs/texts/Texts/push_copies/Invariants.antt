@@ -1,4 +1,4 @@
--- the copies so far stand behind what was there
+-- the copies so far stand after what was there
 use Rattle.std.proofs.Common.{◌≡◌, ◌++◌}
 use Rattle.si_semantics.specs.Operations.{times}
 use Rattle.si_arena.specs.Texts.{row_of, with_row, text_of}
