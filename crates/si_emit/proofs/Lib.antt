@@ -1,0 +1,4 @@
+pub mod Fronts
+pub mod Emitted
+pub mod Branches
+pub mod Places
