@@ -26,3 +26,4 @@ pub mod Growth
 pub mod Taken
 pub mod Gained
 pub mod Jumped
+pub mod Fetched

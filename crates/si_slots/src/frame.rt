@@ -1,5 +1,6 @@
 // The names of the locals of a function.
 ghost use Rattle.std.specs.Prelude.{◌≡◌, length, IfOk};
+ghost use Rattle.si_slots.specs.Views.{text_at};
 
 use si_plain::{Names, NoMemory};
 use std::alloc::Global;
@@ -39,5 +40,15 @@ impl Frame {
         ensures { result ≡ length self.now }
     {
         self.names.len()
+    }
+
+    /// The one at a place; where there is none, the empty one.
+    pub(crate) fn name(&self, place: u32) -> &str
+        ensures { result.now ≡ text_at self.now place }
+    {
+        match self.names.get(place as usize) {
+            Some(name) => name.as_str(),
+            None => "",
+        }
     }
 }

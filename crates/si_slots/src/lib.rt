@@ -7,12 +7,13 @@
 // specs/Interpreter.antt (what an interpreter shows of its life at any moment), specs/Laws.antt (laws of courses);
 // `laws`, which state them. Then the code as it lies in memory: `instr`, the instructions, in 8 bytes each; `operand` and
 // `full`, instructions in full; `routine`, what is known of a function's code; `table`, their lines, literals and slots;
-// `aim`, its jumps; `bind`, globals bound to functions. specs/Contents.antt and specs/Views.antt say what a table has and what it stands for;
+// `aim`, its jumps; `bind`, globals bound to functions; `fetch`, how its code is read. specs/Contents.antt and specs/Views.antt say what a table has and what it stands for;
 // specs/inner/Jumps.antt is for the proofs alone.
 #![tactic(auto)]
 
 mod aim;
 mod bind;
+mod fetch;
 mod frame;
 mod full;
 mod instr;
