@@ -3,3 +3,4 @@ pub mod Growth
 pub mod Raised
 pub mod Operands
 pub mod Left
+pub mod Given
