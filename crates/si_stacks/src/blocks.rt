@@ -138,6 +138,16 @@ impl<I: Copy, T: Copy> Blocks<I, T> {
         self.items.pop()
     }
 
+    /// The innermost is left, where there is one.
+    pub fn discard(&mut self)
+        ensures { self.new ≡ drop 1 self.old }
+    {
+        match self.pop() {
+            Some(_) => {}
+            None => {}
+        }
+    }
+
     /// Another in place of the innermost.
     pub fn replace(&mut self, block: Block<I, T>)
         requires { 0 < length self.old }

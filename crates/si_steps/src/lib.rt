@@ -7,12 +7,13 @@
 // Nothing uses it yet, and not each instruction is there yet.
 //
 // In reading order: `step` (what a step did), `state` (what a machine has), `landing` (where a value goes), `raising` (how
-// exceptions are raised), `flow` (the
-// instructions of branches, chains and loops), `tries` (those of `try` and of unbinding).
+// exceptions are raised), `flow` (the instructions of branches, chains and loops), `tries` (those of `try` and of
+// unbinding), `leaving` (`break`, `continue`, `return` and the end of a finally suite).
 #![tactic(auto)]
 
 mod flow;
 mod landing;
+mod leaving;
 mod raising;
 mod state;
 mod step;

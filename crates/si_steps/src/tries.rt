@@ -1,8 +1,10 @@
 // What the instructions of `try` and of unbinding make of a state.
-ghost use Rattle.std.specs.Prelude.{◌≡◌};
+ghost use Rattle.std.specs.Prelude.{◌≡◌, IsSome};
 ghost use Rattle.si_slots.specs.Machine as machine;
 ghost use Rattle.si_slots.specs.Views.{target_of};
+ghost use Rattle.si_stacks.specs.Blocks.{active_of};
 ghost use Rattle.si_steps.specs.Moments.{Moment, IsReady, Does};
+ghost use Rattle.si_steps.specs.inner.Pieces.{IsDone};
 
 use crate::state::State;
 use crate::step::Step;
@@ -37,7 +39,8 @@ impl State {
     pub fn leave_block(&mut self) -> Step
         ghost p: { Moment }
         requires ready { IsReady machine.LeaveBlock self.old p }
-        ensures { Does machine.LeaveBlock p self.old self.new result }
+        ensures did { Does machine.LeaveBlock p self.old self.new result }
+        ensures done { IsDone result }
     {
         let _ = self.blocks.pop();
         self.advance()
@@ -47,7 +50,8 @@ impl State {
     pub fn start_finally(&mut self) -> Step
         ghost p: { Moment }
         requires ready { IsReady machine.StartFinally self.old p }
-        ensures { Does machine.StartFinally p self.old self.new result }
+        ensures did { Does machine.StartFinally p self.old self.new result }
+        ensures done { IsDone result }
     {
         match self.blocks.innermost() {
             Some(_) => {
@@ -80,7 +84,8 @@ impl State {
     pub fn raise_again(&mut self) -> Step
         ghost p: { Moment }
         requires ready { IsReady machine.RaiseAgain self.old p }
-        ensures { Does machine.RaiseAgain p self.old self.new result }
+        ensures did { Does machine.RaiseAgain p self.old self.new result }
+        ensures done { IsSome (active_of self.old.blocks) → IsDone result }
     {
         match self.blocks.active() {
             Some(address) => self.leave_raised(address),
@@ -92,7 +97,8 @@ impl State {
     pub fn unbind_local(&mut self, slot: u32) -> Step
         ghost p: { Moment }
         requires ready { IsReady (machine.UnbindLocal slot) self.old p }
-        ensures { Does (machine.UnbindLocal slot) p self.old self.new result }
+        ensures did { Does (machine.UnbindLocal slot) p self.old self.new result }
+        ensures done { IsDone result }
     {
         self.frames.set_local(slot as usize, Ref::Unbound);
         self.advance()
