@@ -2,3 +2,4 @@ pub mod Lines
 pub mod Growth
 pub mod Raised
 pub mod Operands
+pub mod Begun

@@ -11,6 +11,7 @@
 // instructions of branches, chains and loops), `tries` (those of `try` and of unbinding).
 #![tactic(auto)]
 
+mod begin;
 mod flow;
 mod landing;
 mod raising;
