@@ -4,3 +4,4 @@ pub mod Raised
 pub mod Operands
 pub mod Left
 pub mod Given
+pub mod Begun

@@ -11,6 +11,7 @@
 // unbinding), `leaving` (`break`, `continue`, `return` and the end of a finally suite).
 #![tactic(auto)]
 
+mod begin;
 mod flow;
 mod landing;
 mod leaving;
