@@ -1,2 +1,4 @@
 -- What stands between code and definitions: devices of the proofs, which a reader need not believe.
 pub mod Fronts
+pub mod Conditions
+pub mod Turns

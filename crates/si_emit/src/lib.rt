@@ -5,10 +5,13 @@
 // caller returns to a mark.
 //
 // In reading order: `operand`, where the operand of an instruction lies; `expression`, the code of each expression and of
-// a test. specs/inner/Fronts.antt is for the proofs alone.
+// a test; `condition`, the tests of statements, with `and` and `or`; `loops`, the parts of loops around their suites.
+// specs/inner is for the proofs alone.
 #![tactic(auto)]
 
+mod condition;
 mod expression;
+mod loops;
 mod operand;
 
 pub use expression::{emit_expr, emit_test};

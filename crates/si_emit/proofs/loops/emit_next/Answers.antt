@@ -1,0 +1,13 @@
+use Rattle.std.proofs.Common.{◌≡◌, ◌-◌, [], ◌∷◌, length, ap, subst, ◌∙◌, arith}
+use Rattle.std.proofs.lemmas.Result.{on_ok_weaker}
+use Rattle.si_semantics.specs.Scope.{place_of}
+use Rattle.si_slots.specs.Views.{Gains}
+use Rattle.si_emit.specs.inner.Turns.{next_code}
+use Rattle.si_emit.proofs.loops.emit_next.Goals as goal
+
+pub returns-clause-ok : goal.returns-clause-ok
+returns-clause-ok c =
+    let t = c.args.table.now in
+    let far : c.in_ok-back.back ≡ length t.lines - c.args.entry = grind (arith, c.in_ok-back.ensures.cases, c.try_from.ensures, c.saturating_sub-lines.ensures, c.len.ensures) in
+    let same = c.item_target.ensures c.in_ok-back.back ∙ ap (next_code (place_of c.args.name.now c.args.locals.now)) far in
+    on_ok_weaker c.put.result (λ h. subst (λ i. Gains t c.put.new.self (i ∷ [])) same h) c.put.ensures.ok
