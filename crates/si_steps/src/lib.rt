@@ -7,15 +7,18 @@
 // Nothing uses it yet, and not each instruction is there yet.
 //
 // In reading order: `step` (what a step did), `state` (what a machine has), `landing` (where a value goes), `raising` (how
-// exceptions are raised), `flow` (the
-// instructions of branches, chains and loops), `tries` (those of `try` and of unbinding).
+// exceptions are raised), `reading` (how operands are read), `flow` (the
+// instructions of branches, chains and loops), `tries` (those of `try` and of unbinding), `values` (those of operands and
+// operations).
 #![tactic(auto)]
 
 mod flow;
 mod landing;
 mod raising;
+mod reading;
 mod state;
 mod step;
 mod tries;
+mod values;
 
 pub use step::{Outcome, Step};
