@@ -5,3 +5,5 @@ pub mod Operands
 pub mod Left
 pub mod Given
 pub mod Begun
+pub mod Sources
+pub mod Operated

@@ -7,8 +7,9 @@
 // Nothing uses it yet, and not each instruction is there yet.
 //
 // In reading order: `step` (what a step did), `state` (what a machine has), `landing` (where a value goes), `raising` (how
-// exceptions are raised), `flow` (the instructions of branches, chains and loops), `tries` (those of `try` and of
-// unbinding), `leaving` (`break`, `continue`, `return` and the end of a finally suite).
+// exceptions are raised), `reading` (how operands are read), `flow` (the instructions of branches, chains and loops),
+// `tries` (those of `try` and of unbinding), `values` (those of operands and operations), `leaving` (`break`, `continue`,
+// `return` and the end of a finally suite), `begin` (how a run begins).
 #![tactic(auto)]
 
 mod begin;
@@ -16,8 +17,10 @@ mod flow;
 mod landing;
 mod leaving;
 mod raising;
+mod reading;
 mod state;
 mod step;
 mod tries;
+mod values;
 
 pub use step::{Outcome, Step};
