@@ -9,6 +9,9 @@
 #![tactic(auto)]
 
 mod expression;
+mod naming;
 mod operand;
+mod simple;
+mod trying;
 
 pub use expression::{emit_expr, emit_test};
