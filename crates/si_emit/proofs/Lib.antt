@@ -4,3 +4,5 @@ pub mod Branches
 pub mod Places
 pub mod Conditions
 pub mod LoopCode
+pub mod Alone
+pub mod Handlers

@@ -1,0 +1,78 @@
+// The code that binds names, and unbinds them.
+ghost use Rattle.std.specs.Prelude.{◌≡◌, [], ◌∷◌, OnOk};
+ghost use Rattle.si_semantics.specs.Scope.{place_of};
+ghost use Rattle.si_semantics.specs.Value.{Function};
+ghost use Rattle.si_syntax.specs.Trees.{expr_of};
+ghost use Rattle.si_slots.specs.Code.{assign_code, bind_code, unbind_code};
+ghost use Rattle.si_slots.specs.Contents.{Extends, SourceResolves};
+ghost use Rattle.si_slots.specs.Machine as machine;
+ghost use Rattle.si_slots.specs.Views.{Gains, locals_now, source_of, words_now};
+
+use crate::expression::{emit_expr, emit_operand};
+use si_plain::{Names, NoMemory};
+use si_slots::{CodeTable, FullInstr, Source, Target};
+use si_syntax::Expr;
+
+/// A name is bound to an operand that speaks of no literal: one of the local names, or else it is global.
+pub(crate) fn emit_bind(
+    table: &mut CodeTable,
+    locals: &Names,
+    name: &str,
+    operand: Source,
+) -> Result<(), NoMemory>
+    requires { SourceResolves 0 operand }
+    ensures ok { OnOk result (Gains table.old table.new (bind_code name.now (place_of name.now locals.now) (source_of (words_now table.old) operand) ∷ [])) }
+    ensures extends { Extends table.old table.new }
+{
+    match locals.position(name) {
+        Some(place) => table.put(FullInstr::Copy(Target::Local(place), operand)),
+        None => table.put_store(name, operand),
+    }
+}
+
+/// A name is bound to the function of that name and this number.
+pub(crate) fn bind_function(
+    table: &mut CodeTable,
+    locals: &Names,
+    name: &str,
+    number: u32,
+) -> Result<(), NoMemory>
+    ensures ok { OnOk result (Gains table.old table.new (bind_code name.now (place_of name.now locals.now) (machine.Literal (Function name.now number)) ∷ [])) }
+    ensures extends { Extends table.old table.new }
+{
+    match locals.position(name) {
+        Some(place) => table.put_function(Target::Local(place), name, number),
+        None => table.store_function(name, number),
+    }
+}
+
+/// A name is bound to the value of an expression.
+pub(crate) fn bind_value(
+    table: &mut CodeTable,
+    locals: &Names,
+    name: &str,
+    value: &Expr,
+) -> Result<(), NoMemory>
+    requires { locals_now table.old ≡ locals.now }
+    ensures ok { OnOk result (Gains table.old table.new (assign_code locals.now name.now (place_of name.now locals.now) (expr_of value.now))) }
+    ensures extends { Extends table.old table.new }
+{
+    match locals.position(name) {
+        Some(place) => emit_expr(table, locals, 0, Target::Local(place), value),
+        None => {
+            let operand = emit_operand(table, locals, 0, true, value)?;
+            table.put_store(name, operand)
+        }
+    }
+}
+
+/// A name is unbound.
+pub(crate) fn emit_unbind(table: &mut CodeTable, locals: &Names, name: &str) -> Result<(), NoMemory>
+    ensures ok { OnOk result (Gains table.old table.new (unbind_code name.now (place_of name.now locals.now) ∷ [])) }
+    ensures extends { Extends table.old table.new }
+{
+    match locals.position(name) {
+        Some(place) => table.put(FullInstr::UnbindLocal(place)),
+        None => table.put_unbind(name),
+    }
+}
