@@ -1,4 +1,4 @@
-use Rattle.std.proofs.Common.{◌≡◌, ℕ, ap, subst, sym, ◌∙◌}
+use Rattle.std.proofs.Common.{ap, subst, sym, ◌∙◌}
 use Rattle.si_semantics.specs.Value.{Text}
 use Rattle.si_semantics.specs.World.{first_world}
 use Rattle.si_semantics.specs.Operations.{built_in}

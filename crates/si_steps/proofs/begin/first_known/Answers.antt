@@ -1,4 +1,4 @@
-use Rattle.std.proofs.Common.{◌≡◌, map, ap, subst, sym, ◌∙◌}
+use Rattle.std.proofs.Common.{map, ap, subst, ◌∙◌}
 use Rattle.std.specs.Prelude.{List}
 use Rattle.si_semantics.specs.Value.{Text, Str}
 use Rattle.si_arena.specs.Memory.{Memory}

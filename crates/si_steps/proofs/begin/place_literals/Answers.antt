@@ -1,4 +1,4 @@
-use Rattle.std.proofs.Common.{◌≡◌, subst, arith}
+use Rattle.std.proofs.Common.{subst, arith}
 use Rattle.si_semantics.specs.Value.{Str}
 use Rattle.si_arena.specs.Memory.{Placed}
 use Rattle.si_steps.proofs.Begun.{next_placed, slice_there}
