@@ -13,6 +13,7 @@
 #![tactic(auto)]
 
 mod begin;
+mod calls;
 mod flow;
 mod landing;
 mod leaving;
