@@ -7,4 +7,3 @@ pub mod Given
 pub mod Begun
 pub mod Sources
 pub mod Operated
-pub mod Callees

@@ -13,7 +13,6 @@
 #![tactic(auto)]
 
 mod begin;
-mod calls;
 mod flow;
 mod landing;
 mod leaving;
