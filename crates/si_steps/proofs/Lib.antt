@@ -7,3 +7,4 @@ pub mod Given
 pub mod Begun
 pub mod Sources
 pub mod Operated
+pub mod Globals

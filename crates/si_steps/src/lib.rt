@@ -4,18 +4,19 @@
 // (`si_stacks`), and its code in a table (`si_slots`). `specs/Moments.antt` says what it is for a state to stand at a
 // moment of the machine's definition (`si_slots/specs/Machine.antt`): its temporaries, its slots, its blocks and its
 // world. The method of an instruction takes a state that stands at a moment and does exactly the instruction's line.
-// Nothing uses it yet; calls, globals and the step itself are to come.
+// Nothing uses it yet; calls and the step itself are to come.
 //
 // In reading order: `step` (what a step did), `state` (what a machine has), `landing` (where a value goes), `raising` (how
 // exceptions are raised), `reading` (how operands are read), `flow` (the instructions of branches, chains and loops),
-// `tries` (those of `try` and of unbinding), `values` (those of operands and operations), `leaving` (`break`, `continue`,
-// `return` and the end of a finally suite), `begin` (how a run begins).
+// `tries` (those of `try` and of unbinding), `values` (those of operands and operations), `names` (those of globals),
+// `leaving` (`break`, `continue`, `return` and the end of a finally suite), `begin` (how a run begins).
 #![tactic(auto)]
 
 mod begin;
 mod flow;
 mod landing;
 mod leaving;
+mod names;
 mod raising;
 mod reading;
 mod state;
