@@ -1,6 +1,5 @@
 -- Instructions with an expression as their one operand, where no temporary is in use.
-use Rattle.std.proofs.Common.{◌≡◌, [], ◌∷◌, List, Option, None, Some, sym, ap, subst}
-use Rattle.std.proofs.lemmas.Result.{on_ok_weaker}
+use Rattle.std.proofs.Common.{◌≡◌, [], ◌∷◌, List, sym, subst}
 use Rattle.si_semantics.specs.Value.{Text}
 use Rattle.si_semantics.specs.Tree as tree
 use Rattle.si_slots.specs.declared.operand.Source as operand

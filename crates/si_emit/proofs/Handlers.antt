@@ -10,7 +10,7 @@ use Rattle.si_slots.specs.Contents.{Contents, Extends}
 use Rattle.si_slots.specs.inner.Jumps.{Aims}
 use Rattle.si_slots.specs.Views.{Gains}
 use Rattle.si_slots.proofs.Growth.{Extends-same}
-use Rattle.si_slots.proofs.Gained.{Gains-append, length_gained}
+use Rattle.si_slots.proofs.Gained.{Gains-append}
 use Rattle.si_emit.specs.inner.Fronts.{front, held}
 use Rattle.si_emit.proofs.Fronts.{Ending, single_is}
 use Rattle.si_emit.proofs.Branches.{test_at}
