@@ -8,3 +8,8 @@ pub mod Begun
 pub mod Sources
 pub mod Operated
 pub mod Globals
+pub mod Quiet
+pub mod Along
+pub mod Told
+pub mod Callees
+pub mod Provided

@@ -1,2 +1,4 @@
 pub mod Moments
+pub mod Machines
+pub mod Outcomes
 pub mod inner

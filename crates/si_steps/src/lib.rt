@@ -4,18 +4,23 @@
 // (`si_stacks`), and its code in a table (`si_slots`). `specs/Moments.antt` says what it is for a state to stand at a
 // moment of the machine's definition (`si_slots/specs/Machine.antt`): its temporaries, its slots, its blocks and its
 // world. The method of an instruction takes a state that stands at a moment and does exactly the instruction's line.
-// Nothing uses it yet; calls and the step itself are to come.
+// The step takes the instruction at a state's place, and a `Machine` goes so along a course of that definition
+// (`specs/Machines.antt`).
 //
 // In reading order: `step` (what a step did), `state` (what a machine has), `landing` (where a value goes), `raising` (how
 // exceptions are raised), `reading` (how operands are read), `flow` (the instructions of branches, chains and loops),
 // `tries` (those of `try` and of unbinding), `values` (those of operands and operations), `names` (those of globals),
-// `leaving` (`break`, `continue`, `return` and the end of a finally suite), `begin` (how a run begins).
+// `calls` (calls of functions and of other values), `leaving` (`break`, `continue`, `return` and the end of a finally
+// suite), `execute` (one instruction), `begin` (how a run begins), `machine`.
 #![tactic(auto)]
 
 mod begin;
+mod calls;
+mod execute;
 mod flow;
 mod landing;
 mod leaving;
+mod machine;
 mod names;
 mod raising;
 mod reading;
@@ -24,4 +29,5 @@ mod step;
 mod tries;
 mod values;
 
+pub use machine::Machine;
 pub use step::{Outcome, Step};

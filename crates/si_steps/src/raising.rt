@@ -7,7 +7,7 @@ ghost use Rattle.si_steps.specs.Moments.{Moment, IsAt, Did};
 ghost use Rattle.si_steps.specs.inner.Pieces.{IsDone, IsUnderWay, Unwound, IsMet, raised_line};
 
 use crate::state::{Standing, State};
-use crate::step::{Outcome, Step};
+use crate::step::{Exit, Step};
 use si_arena::{Cause, Object, Ref};
 use si_stacks::{Block, Leaving};
 
@@ -66,10 +66,10 @@ impl State {
     // The exception at an address leaves the run.
     fn end_raised(&mut self, address: usize) -> Step
         ensures step { result ≡ Step.Ended }
-        ensures state { self.new ≡ record self.old { standing = Standing.Idle; outcome = Outcome.Raised address } }
+        ensures state { self.new ≡ record self.old { standing = Standing.Idle; outcome = Exit.Raised address } }
     {
         self.standing = Standing::Idle;
-        self.outcome = Outcome::Raised(address);
+        self.outcome = Exit::Raised(address);
         Step::Ended
     }
 }

@@ -1,8 +1,19 @@
 // What a step did.
 
+use si_plain::{Kind, Text};
+
 /// How a run ended.
-#[derive(Clone, Copy, Debug, PartialEq, Eq)]
+#[derive(Debug, Drop)]
 pub enum Outcome {
+    /// It came to the end of its text.
+    Returned,
+    /// An exception left it: the kind, and the message.
+    Raised(Kind, Text),
+}
+
+/// How a run ended, as a state keeps it.
+#[derive(Clone, Copy, Debug, PartialEq, Eq)]
+pub enum Exit {
     /// It came to the end of its text.
     Returned,
     /// The exception at this address left it.

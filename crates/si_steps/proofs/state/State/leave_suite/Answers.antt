@@ -3,7 +3,7 @@ use Rattle.si_steps.proofs.Left.{stops, of_loop, of_each, not_catch, not_pending
 use Rattle.si_steps.proofs.Lines.{of_kind}
 use Rattle.si_steps.specs.declared.state.State.{State}
 use Rattle.si_steps.specs.declared.state.Standing.TheVariants as standing
-use Rattle.si_steps.specs.declared.step.Outcome.TheVariants as outcome
+use Rattle.si_steps.specs.declared.step.Exit.TheVariants as exit
 use Rattle.si_steps.specs.declared.step.Step.TheVariants.{Local, Ended}
 use Rattle.si_steps.specs.inner.Pieces.{IsBack, left_loop}
 use Rattle.si_stacks.specs.declared.blocks.Block.TheVariants.{Loop, Each, Catch, Pending, Handling}
@@ -96,4 +96,4 @@ returns-in-None-clause-did g c =
     let old = c.args.self.now in
     of_kind _ g.p old c.finish.new.self c.finish.result Ended c.finish.ensures.step
     (left_to_end c.args.leaving g.p old c.finish.new.self c.requires.0 c.requires.1.0 c.requires.1.1 (sym c.pass.ensures ∙ c.in-None.ensures)
-    (c.finish.ensures.state ∙ ap (λ bs. let z : State = record old { blocks = bs; standing = standing.Idle; outcome = outcome.Returned } in z) c.in-None.ensures))
+    (c.finish.ensures.state ∙ ap (λ bs. let z : State = record old { blocks = bs; standing = standing.Idle; outcome = exit.Returned } in z) c.in-None.ensures))

@@ -1,0 +1,143 @@
+// The machine.
+ghost use Rattle.std.specs.Prelude.{◌≡◌, ◌↔◌, ◌<◌, [], length, IsTrue, IfOk, IfErr, OnOk, OnErr, string_bytes};
+ghost use Rattle.si_semantics.specs.Value.{Address};
+ghost use Rattle.si_semantics.specs.Text as semantics;
+ghost use Rattle.si_semantics.specs.World.{first_world};
+ghost use Rattle.si_slots.specs.Machine.{Course, Ending};
+ghost use Rattle.si_slots.specs.Running.{NeverCloses, run_at};
+ghost use Rattle.si_slots.specs.Views.{table_of};
+ghost use Rattle.si_steps.specs.Machines.{Stands, IsRunning, HasEnded, Steps, printed_of};
+ghost use Rattle.si_steps.specs.Outcomes.{told};
+
+use crate::begin::first_known;
+use crate::state::{Standing, State};
+use crate::step::{Exit, Outcome, Step};
+use si_arena::{Arena, Fault, Ref};
+use si_ops::push_str;
+use si_plain::{NoMemory, Text};
+use si_slots::CodeTable;
+use std::alloc::{AllocError, AllocFailed, Global};
+use std::marker::Model;
+use std::mem;
+
+/// A machine, which runs the code of one table.
+#[derive(Drop)]
+pub struct Machine {
+    state: State,
+}
+
+impl Model for Machine {
+    ghost use Rattle.si_steps.specs.declared.state.State.{State};
+
+    ghost Value = { State };
+
+    ghost view = { λ m. m.state };
+}
+
+impl Machine {
+    /// A machine with no code, that has printed nothing.
+    pub fn new(alloc: Global) -> Machine
+        ensures idle { result.standing ≡ Standing.Idle }
+        ensures printed { printed_of result ≡ [] }
+        ensures outcome { result.outcome ≡ Exit.Returned }
+    {
+        Machine {
+            state: State::new(alloc),
+        }
+    }
+
+    /// Begins anew, at a place of a table: nothing is bound but `__name__`, and nothing was printed. Refused memory, the
+    /// table comes back and the machine is as it was. Code of 2^63 instructions, for which no memory is large enough,
+    /// counts as memory refused.
+    ///
+    /// The run from there may never come to be closed: no instruction of it lacks what it takes, and none is missing. Of
+    /// each text that is compiled, the law `stays_open` of `si_slots` says so.
+    pub fn load(&mut self, table: CodeTable, at: usize) -> Result<(), AllocFailed<CodeTable>>
+        requires { NeverCloses (run_at (table_of table, at) first_world) }
+        ensures stands { OnOk result (Stands (run_at (table_of table, at) first_world) self.new) }
+        ensures running { OnOk result (IsRunning self.new) }
+        ensures printed { OnOk result (printed_of self.new ≡ []) }
+        ensures err { OnErr result (self.new ≡ self.old) }
+        ensures comes_back { IfErr result (λ e. e.value ≡ table) }
+    {
+        if table.len() >= 1 << 63 {
+            return Err(AllocFailed { value: table });
+        }
+        let alloc = table.allocator();
+        match first_known(alloc, &table) {
+            Ok(known) => {
+                self.state = State::begun(alloc, table, at, known);
+                Ok(())
+            }
+            Err(_) => Err(AllocFailed { value: table }),
+        }
+    }
+
+    /// Whether a run was begun that has not ended, and memory was not refused.
+    pub fn is_running(&self) -> bool
+        ensures { IsTrue result ↔ IsRunning self.now }
+    {
+        match self.state.standing {
+            Standing::Running => true,
+            Standing::Idle => false,
+            Standing::Starved => false,
+        }
+    }
+
+    /// What was printed since it was last taken.
+    pub fn printed(&self) -> &str
+        ensures { result.now ≡ printed_of self.now }
+    {
+        self.state.printed.as_str()
+    }
+
+    /// The printed text, moved out; what is printed later begins anew.
+    pub fn take_printed(&mut self) -> String
+        ensures taken { string_bytes result ≡ printed_of self.old }
+        ensures none { printed_of self.new ≡ [] }
+        ensures rest { self.new ≡ record self.old { printed = self.new.printed } }
+    {
+        let alloc = self.state.table.allocator();
+        mem::replace(&mut self.state.printed, String::new(alloc))
+    }
+
+    /// One instruction.
+    pub fn step(&mut self) -> Step
+        ghost c: { Course }
+        requires stands { Stands c self.old }
+        requires running { IsRunning self.old }
+        ensures { Steps c self.old self.new result }
+    {
+        self.state.step()
+    }
+
+    /// How the run ended that has come to its end. `AllocError` where memory is refused.
+    pub fn take_outcome(&self) -> Result<Outcome, NoMemory>
+        ghost c: { Course }
+        requires { HasEnded c self.now }
+        ensures { IfOk result (λ outcome. c.place ≡ Ending (told outcome)) }
+    {
+        let alloc = self.state.table.allocator();
+        match self.state.outcome {
+            Exit::Returned => Ok(Outcome::Returned),
+            Exit::Raised(address) => {
+                let kind = self.state.arena.object(address).kind();
+                let message = message_of(alloc, &self.state.arena, address)?;
+                Ok(Outcome::Raised(kind, message))
+            }
+        }
+    }
+}
+
+// The message of the exception at an address, when it leaves a run: its `str`, where there is one.
+fn message_of(alloc: Global, arena: &Arena, address: usize) -> Result<Text, NoMemory>
+    requires { address < length arena.now.store }
+    ensures { IfOk result (λ text. text ≡ semantics.message_of (semantics.str_in arena.now.store (Address address))) }
+{
+    let mut message = String::new(alloc);
+    match push_str(&mut message, arena, Ref::Object(address)) {
+        Ok(()) => Text::from_str(alloc, message.as_str()),
+        Err(Fault::Raises(_)) => Text::from_str(alloc, "<exception str() failed>"),
+        Err(Fault::NoMemory) => Err(AllocError),
+    }
+}
