@@ -5,4 +5,9 @@ pub mod Places
 pub mod Conditions
 pub mod LoopCode
 pub mod Alone
-pub mod Handlers
+pub mod Functions
+pub mod TryCode
+pub mod Tried
+pub mod Silent
+pub mod Elifs
+pub mod LoopStmts

@@ -2,3 +2,6 @@
 pub mod Fronts
 pub mod Conditions
 pub mod Turns
+pub mod Functions
+pub mod Clauses
+pub mod Silence

@@ -1,22 +1,28 @@
-// The code of expressions for the machine of slots. Nothing uses it yet.
+// From scripts to instructions of the machine of slots. Nothing uses it yet.
 //
-// There is the code of expressions, of tests, of statements without suites, and of the parts of the others around their
-// suites; the walk over suites is to come. `emit_expr` adds the code of an expression to a `si_slots::CodeTable`: the table
-// then stands for what it stood for, with the code after it that si_slots/specs/Code.antt gives the tree. Refused memory,
-// the table may have more than it had: its caller returns to a mark.
+// `compile` adds the code of a script to a `si_slots::CodeTable`: the table then stands for what it stood for, with the
+// code and the functions that si_slots/specs/Code.antt gives the script's tree; or memory was refused, and the table is as
+// it was. Within the crate a refused call may leave the table with more than it had: `compile` returns to a mark.
 //
 // In reading order: `operand`, where the operand of an instruction lies; `expression`, the code of each expression and of
 // a test; `condition`, the tests of statements, with `and` and `or`; `naming`, how names are bound; `simple`, statements
-// without suites; `loops` and `trying`, the parts of loops and of `try` around their suites.
-// specs/inner is for the proofs alone.
+// without suites; `suite`, statements one after another; `silence`, which of them have no code; `choosing`, the code of `if`;
+// `repeats` and `handlers`, that of loops and of `try`, with `loops` and `trying`, their parts around their suites;
+// `script`, the code of a whole script, functions first. specs/inner is for the proofs alone.
 #![tactic(auto)]
 
+mod choosing;
 mod condition;
 mod expression;
+mod handlers;
 mod loops;
 mod naming;
 mod operand;
+mod repeats;
+mod script;
+mod silence;
 mod simple;
+mod suite;
 mod trying;
 
-pub use expression::{emit_expr, emit_test};
+pub use script::compile;

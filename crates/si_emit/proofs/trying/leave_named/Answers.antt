@@ -1,6 +1,6 @@
 use Rattle.std.proofs.lemmas.Result.{on_ok_weaker}
 use Rattle.si_slots.proofs.Gained.{Extends-trans}
-use Rattle.si_emit.proofs.Handlers.{extends_put, leaves_gains}
+use Rattle.si_emit.proofs.TryCode.{extends_put, leaves_gains}
 use Rattle.si_emit.proofs.trying.leave_named.Goals as goal
 
 pub returns-clause-ok : goal.returns-clause-ok

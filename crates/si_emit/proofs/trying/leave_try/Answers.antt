@@ -1,6 +1,6 @@
 use Rattle.std.proofs.Common.{arith}
 use Rattle.si_slots.proofs.Gained.{Extends-trans, length_gained}
-use Rattle.si_emit.proofs.Handlers.{skips_gains}
+use Rattle.si_emit.proofs.TryCode.{skips_gains}
 use Rattle.si_emit.proofs.trying.leave_try.Goals as goal
 
 pub returns-clause-ok : goal.returns-clause-ok

@@ -1,5 +1,5 @@
 use Rattle.std.proofs.lemmas.Result.{on_ok_weaker}
-use Rattle.si_emit.proofs.Handlers.{starts_gains}
+use Rattle.si_emit.proofs.TryCode.{starts_gains}
 use Rattle.si_emit.proofs.trying.start_finally.Goals as goal
 
 pub returns-clause-ok : goal.returns-clause-ok
