@@ -10,5 +10,3 @@ pub mod Ends
 pub mod Named
 pub mod Lines
 pub mod Calling
-pub mod Reading
-pub mod Providing

@@ -1,10 +1,11 @@
 pub mod Growing
+pub mod Courses
+pub mod Unanswered
 pub mod Worked
 pub mod WorkedFunctions
 pub mod WorkedExceptions
 pub mod WorkedFinally
 pub mod WorkedItems
-pub mod WorkedBuiltIns
 pub mod WorkedScope
 pub mod Names
 pub mod WorkedLiterals

@@ -7,13 +7,15 @@ pub mod Operations
 pub mod Meaning
 pub mod Scope
 pub mod Life
+pub mod Machine
+pub mod Running
+pub mod Shows
 pub mod Report
 pub mod Laws
 pub mod Parcels
 pub mod Shareable
 pub mod Actions
 pub mod Literals
-pub mod Numerals
 pub mod Grammar
 pub mod Limits
 pub mod Words

@@ -5,7 +5,6 @@ pub mod Functions
 pub mod Exceptions
 pub mod Finally
 pub mod Items
-pub mod BuiltIns
 pub mod Scope
 pub mod Literals
 pub mod Layout

@@ -1,4 +1,5 @@
 // A machine with a frame of slots, and the code of trees for it: definitions, laws of them, and the table of such code.
+// Nothing uses it yet.
 //
 // In reading order: specs/Machine.antt (the machine: one line an instruction, whose operands lie in slots),
 // specs/Code.antt (the code of a tree) with specs/CodeCases.antt (worked cases), specs/Running.antt (the run of one
@@ -28,4 +29,3 @@ pub use instr::Instr;
 pub use operand::{Aim, Constant, Source, Target};
 pub use routine::Routine;
 pub use table::{CodeTable, Mark};
-pub use unpack::{jump_at, source_at, target_at, temporary_at};

@@ -24,7 +24,6 @@ mod machine;
 mod names;
 mod raising;
 mod reading;
-mod short;
 mod state;
 mod step;
 mod tries;

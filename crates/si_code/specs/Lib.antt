@@ -1,0 +1,3 @@
+pub mod Contents
+pub mod Views
+pub mod inner

@@ -1,0 +1,241 @@
+-- The functions of a script, one after the other.
+use Rattle.std.proofs.Common.{◌≡◌, ℕ, ◌+◌, ◌<◌, ◌≤◌, List, [], ◌∷◌, ◌++◌, map, length, drop, get_or, Option, Some, None, string_bytes, refl, sym, ap, subst, ◌∙◌, append_assoc, append-nil, length-append, arith}
+use Rattle.std.specs.Prelude.{slice_get}
+use Rattle.std.specs.Option.{option_map}
+use Rattle.std.proofs.lemmas.List.{drop_all, length-map, map-append}
+use Rattle.std.proofs.lemmas.Option.{slice_get-map}
+use Rattle.si_semantics.specs.Value.{Text, Nothing}
+use Rattle.si_semantics.specs.Tree.{Function, Stmts, functions_of, functions_in, functions_in_clauses}
+use Rattle.si_semantics.specs.Grammar.{elifs_of, clauses_of}
+use Rattle.si_semantics.specs.Machine as machine
+use Rattle.si_semantics.specs.Scope.{locals_of}
+use Rattle.si_syntax.specs.declared.stmt.Branch.{Branch}
+use Rattle.si_syntax.specs.declared.stmt.Clause.{Clause}
+use Rattle.si_syntax.specs.declared.stmt.Define.{Define}
+use Rattle.si_syntax.specs.declared.stmt.Finally.{Finally, out-Finally}
+use Rattle.si_syntax.specs.declared.stmt.Stmt.{Stmt}
+use Rattle.si_syntax.specs.declared.stmt.Stmt.TheVariants as stmts
+use Rattle.si_syntax.specs.Trees.{stmt_of, body_of, branch_of, clause_of, tried_of, try_of, finally_of}
+use Rattle.si_syntax.proofs.Forms.{define_is}
+use Rattle.si_code.specs.Contents.{Contents}
+use Rattle.si_code.specs.declared.routine.Routine.{Routine}
+use Rattle.si_code.specs.Views.{entry_of, Gains, GainsRoutines}
+use Rattle.si_code.proofs.Codes.{Gains-nil, Gains-append, Gains-alone, GainsRoutines-append}
+use Rattle.si_code.proofs.Jumped.{get_here, length_gained}
+use Rattle.si_syntax.proofs.Rows.{rest_is}
+use Rattle.si_compile.specs.Code.{stmts_code, function_code, functions_code, entries_from, module_code}
+use Rattle.si_compile.specs.inner.Functions.{StandAt, GainsFunctions}
+use Rattle.si_compile.proofs.Forms.{elif_defines}
+use Rattle.si_compile.proofs.Seen.{finally_seen}
+
+-- ---- their code
+
+functions_code-append : (fs gs : List Function) → functions_code (fs ++ gs) ≡ functions_code fs ++ functions_code gs
+functions_code-append [] gs = refl
+functions_code-append (f ∷ fs) gs = ap (λ l. function_code f ++ l) (functions_code-append fs gs) ∙ sym (append_assoc (function_code f) (functions_code fs) (functions_code gs))
+
+entries_from-append : (at : ℕ) (fs gs : List Function) → entries_from at (fs ++ gs) ≡ entries_from at fs ++ entries_from (at + length (functions_code fs)) gs
+entries_from-append at [] gs = let here : at ≡ at + 0 = omega arith in ap (λ k. entries_from k gs) here
+entries_from-append at (f ∷ fs) gs =
+    let first : machine.Entry = record { at = at; parameters = length f.parameters; locals = length (locals_of f) } in
+    let next = at + length (function_code f) in
+    let far : next + length (functions_code fs) ≡ at + length (function_code f ++ functions_code fs) = omega (arith, length-append (function_code f) (functions_code fs)) in
+    ap (λ l. first ∷ l) (entries_from-append next fs gs ∙ ap (λ k. entries_from next fs ++ entries_from k gs) far)
+
+-- how many lines a table has, once it has more code and functions
+pub length_with : {a b : Contents} {code : List machine.Instr} {entries : List machine.Entry} → GainsRoutines a b code entries → length b.lines ≡ length a.lines + length code
+length_with {a} {b} {code} {entries} h = length_gained h.gains
+
+pub functions_none : (t : Contents) → GainsFunctions t t []
+functions_none t = Gains-alone t t [] (Gains-nil t)
+
+pub functions_more : (a b c : Contents) (fs gs : List Function) → GainsFunctions a b fs → GainsFunctions b c gs → GainsFunctions a c (fs ++ gs)
+functions_more a b c fs gs h k =
+    let at : length b.lines ≡ length a.lines + length (functions_code fs) = length_with h in
+    let first = entries_from (length a.lines) fs in
+    let others = entries_from (length a.lines + length (functions_code fs)) gs in
+    let all = GainsRoutines-append a b c (functions_code fs) (functions_code gs) first others h (subst (λ n. GainsRoutines b c (functions_code gs) (entries_from n gs)) at k) in
+    subst (λ code. GainsRoutines a c code (entries_from (length a.lines) (fs ++ gs))) (sym (functions_code-append fs gs))
+    (subst (GainsRoutines a c (functions_code fs ++ functions_code gs)) (sym (entries_from-append (length a.lines) fs gs)) all)
+
+-- ---- where they stand
+
+pub stand_front : (all : List Function) (n : ℕ) (fs gs : List Function) → StandAt all n (fs ++ gs) → StandAt all n fs
+stand_front all n [] gs h = tt
+stand_front all n (f ∷ fs) gs h = (h.0, stand_front all (n + 1) fs gs h.1)
+
+pub stand_behind : (all : List Function) (n then : ℕ) (fs gs : List Function) → then ≡ n + length fs → StandAt all n (fs ++ gs) → StandAt all then gs
+stand_behind all n then [] gs goes h = let same : n ≡ then = omega (arith, goes) in subst (λ k. StandAt all k gs) same h
+stand_behind all n then (f ∷ fs) gs goes h = let on : then ≡ n + 1 + length fs = omega (arith, goes) in stand_behind all (n + 1) then fs gs on h.1
+
+stand_within : (before fs : List Function) → StandAt (before ++ fs) (length before) fs
+stand_within before [] = tt
+stand_within before (f ∷ fs) =
+    let far : length (before ++ f ∷ []) ≡ length before + 1 = omega (arith, length-append before (f ∷ [])) in
+    let others = subst (λ l. StandAt l (length (before ++ f ∷ [])) fs) (append_assoc before (f ∷ []) fs) (stand_within (before ++ f ∷ []) fs) in
+    (get_here before f fs, subst (λ n. StandAt (before ++ f ∷ fs) n fs) far others)
+
+-- all functions stand from 0 on
+pub stand_all : (fs : List Function) → StandAt fs 0 fs
+stand_all fs = stand_within [] fs
+
+-- ---- a walk over them
+
+-- between two moments of a walk these functions of a script are put, in order, of which the rest is to come
+pub record Walk (all whole rest : List Function) (t0 t1 : Contents) (n0 n1 : ℕ) : Type 0 where
+  pub gains : (end : Contents) → GainsFunctions t1 end rest → GainsFunctions t0 end whole
+  pub stands : StandAt all n1 rest
+  pub number : n1 + length rest ≡ n0 + length whole
+
+pub walk_begins : (all whole : List Function) (t : Contents) (n : ℕ) → StandAt all n whole → Walk all whole whole t t n n
+walk_begins all whole t n h = record { gains = λ end k. k; stands = h; number = refl }
+
+-- the rest is this too
+pub walk_from : {all whole rest : List Function} {t0 t1 : Contents} {n0 n1 : ℕ} (more : List Function) → rest ≡ more → Walk all whole rest t0 t1 n0 n1 → Walk all whole more t0 t1 n0 n1
+walk_from {all} {whole} {rest} {t0} {t1} {n0} {n1} more is w = subst (λ l. Walk all whole l t0 t1 n0 n1) is w
+
+pub walk_more : {all whole rest : List Function} {t0 t1 t2 : Contents} {n0 n1 n2 : ℕ} (fs more : List Function) → rest ≡ fs ++ more → GainsFunctions t1 t2 fs → n2 ≡ n1 + length fs → Walk all whole rest t0 t1 n0 n1 → Walk all whole more t0 t2 n0 n2
+walk_more {all} {whole} {rest} {t0} {t1} {t2} {n0} {n1} {n2} fs more is h goes w = record {
+  gains = λ end k. w.gains end (subst (GainsFunctions t1 end) (sym is) (functions_more t1 t2 end fs more h k));
+  stands = stand_behind all n1 n2 fs more goes (subst (StandAt all n1) is w.stands);
+  number = omega (arith, goes, ap length is, length-append fs more, w.number);
+}
+
+-- these are the last
+pub walk_gains : {all whole rest : List Function} {t0 t1 t2 : Contents} {n0 n1 : ℕ} (fs : List Function) → rest ≡ fs → GainsFunctions t1 t2 fs → Walk all whole rest t0 t1 n0 n1 → GainsFunctions t0 t2 whole
+walk_gains {all} {whole} {rest} {t0} {t1} {t2} fs is h w = w.gains t2 (subst (GainsFunctions t1 t2) (sym is) h)
+
+pub walk_number : {all whole rest : List Function} {t0 t1 : Contents} {n0 n1 n2 : ℕ} (fs : List Function) → rest ≡ fs → n2 ≡ n1 + length fs → Walk all whole rest t0 t1 n0 n1 → n2 ≡ n0 + length whole
+walk_number fs is goes w = omega (arith, goes, ap length is, w.number)
+
+-- ---- of statements
+
+pub stmts_rest : (ss : List Stmt) (i : ℕ) (s : Stmt) → i < length ss → get_or ss i s ≡ s → functions_in (body_of (drop i ss)) ≡ functions_of (stmt_of s) ++ functions_in (body_of (drop (i + 1) ss))
+stmts_rest ss i s lt at = ap (λ l. functions_in (body_of l)) (rest_is ss i s lt at)
+
+pub stmts_none : (ss : List Stmt) (i : ℕ) → length ss ≤ i → functions_in (body_of (drop i ss)) ≡ []
+stmts_none ss i le = ap (λ l. functions_in (body_of l)) (drop_all i ss le)
+
+pub elifs_rest : (bs : List Branch) (i : ℕ) (b : Branch) (last : Stmts) (ss : List Stmt) → i < length bs → get_or bs i b ≡ b → ss ≡ b.body.items
+    → functions_in (elifs_of (map branch_of (drop i bs)) last) ≡ functions_in (body_of ss) ++ functions_in (elifs_of (map branch_of (drop (i + 1) bs)) last)
+elifs_rest bs i b last ss lt at all =
+    let more = functions_in (elifs_of (map branch_of (drop (i + 1) bs)) last) in
+    ap (λ l. functions_in (elifs_of (map branch_of l) last)) (rest_is bs i b lt at) ∙ elif_defines (branch_of b) (map branch_of (drop (i + 1) bs)) last ∙ ap (λ l. functions_in (body_of l) ++ more) (sym all)
+
+pub elifs_last : (bs : List Branch) (i : ℕ) (ends ss : List Stmt) → length bs ≤ i → ss ≡ ends → functions_in (elifs_of (map branch_of (drop i bs)) (body_of ends)) ≡ functions_in (body_of ss)
+elifs_last bs i ends ss le same = ap (λ l. functions_in (elifs_of (map branch_of l) (body_of ends))) (drop_all i bs le) ∙ ap (λ l. functions_in (body_of l)) (sym same)
+
+-- ---- where those of a part stand
+
+pub stmt_stands : (all : List Function) (n : ℕ) (ss : List Stmt) (i : ℕ) (s : Stmt) → s ≡ get_or ss i s → i < length ss → StandAt all n (functions_in (body_of (drop i ss))) → StandAt all n (functions_of (stmt_of s))
+stmt_stands all n ss i s at lt h = stand_front all n (functions_of (stmt_of s)) (functions_in (body_of (drop (i + 1) ss))) (subst (StandAt all n) (stmts_rest ss i s lt (sym at)) h)
+
+pub elif_stands : (all : List Function) (n : ℕ) (bs : List Branch) (i : ℕ) (b : Branch) (last : Stmts) (ss : List Stmt) → ss ≡ b.body.items → b ≡ get_or bs i b → i < length bs
+    → StandAt all n (functions_in (elifs_of (map branch_of (drop i bs)) last)) → StandAt all n (functions_in (body_of ss))
+elif_stands all n bs i b last ss body at lt h =
+    stand_front all n (functions_in (body_of ss)) (functions_in (elifs_of (map branch_of (drop (i + 1) bs)) last)) (subst (StandAt all n) (elifs_rest bs i b last ss lt (sym at) body) h)
+
+-- those in front, and those that are left
+pub part_stands : (all : List Function) (n : ℕ) (whole fs gs : List Function) → whole ≡ fs ++ gs → StandAt all n whole → StandAt all n fs
+part_stands all n whole fs gs is h = stand_front all n fs gs (subst (StandAt all n) is h)
+
+pub rest_stands : (all : List Function) (n then : ℕ) (whole fs gs : List Function) → whole ≡ fs ++ gs → then ≡ n + length fs → StandAt all n whole → StandAt all then gs
+rest_stands all n then whole fs gs is goes h = stand_behind all n then fs gs goes (subst (StandAt all n) is h)
+
+pub all_stand : (all : List Function) (n : ℕ) (whole fs : List Function) → whole ≡ fs → StandAt all n whole → StandAt all n fs
+all_stand all n whole fs is h = subst (StandAt all n) is h
+
+-- two parts, one after the other
+pub both_gain : {a b c : Contents} (whole fs gs : List Function) → whole ≡ fs ++ gs → GainsFunctions a b fs → GainsFunctions b c gs → GainsFunctions a c whole
+both_gain {a} {b} {c} whole fs gs is h k = subst (GainsFunctions a c) (sym is) (functions_more a b c fs gs h k)
+
+pub both_pass : (n then now : ℕ) (whole fs gs : List Function) → whole ≡ fs ++ gs → then ≡ n + length fs → now ≡ then + length gs → now ≡ n + length whole
+both_pass n then now whole fs gs is goes on = omega (arith, goes, on, ap length is, length-append fs gs)
+
+-- ---- of except clauses
+
+abbrev pub Handled : List Clause → List Function
+Handled cs = functions_in_clauses (clauses_of (map clause_of cs))
+
+pub clauses_rest : (cs : List Clause) (i : ℕ) (c : Clause) (ss : List Stmt) → i < length cs → get_or cs i c ≡ c → ss ≡ c.body.items → Handled (drop i cs) ≡ functions_in (body_of ss) ++ Handled (drop (i + 1) cs)
+clauses_rest cs i c ss lt at all = ap Handled (rest_is cs i c lt at) ∙ ap (λ l. functions_in (body_of l) ++ Handled (drop (i + 1) cs)) (sym all)
+
+pub clauses_none : (cs : List Clause) (i : ℕ) → length cs ≤ i → Handled (drop i cs) ≡ []
+clauses_none cs i le = ap Handled (drop_all i cs le)
+
+pub clause_stands : (all : List Function) (n : ℕ) (cs : List Clause) (i : ℕ) (c : Clause) (ss : List Stmt) → ss ≡ c.body.items → c ≡ get_or cs i c → i < length cs → StandAt all n (Handled (drop i cs)) → StandAt all n (functions_in (body_of ss))
+clause_stands all n cs i c ss body at lt h = stand_front all n (functions_in (body_of ss)) (Handled (drop (i + 1) cs)) (subst (StandAt all n) (clauses_rest cs i c ss lt (sym at) body) h)
+
+-- what stands in front of a finally suite, and that suite
+pub finally_front : (f : Finally) (ss : List Stmt) → ss ≡ (out-Finally f).end.items → functions_of (finally_of f) ≡ functions_of (try_of (out-Finally f).tried) ++ functions_in (body_of ss)
+finally_front f ss done =
+    let t = tried_of (out-Finally f).tried in
+    let b = functions_in t.0 in let cs = functions_in_clauses (clauses_of t.1) in let c = functions_in t.2 in let end = functions_in (body_of ss) in
+    ap functions_of (finally_seen f ss done) ∙ ap (λ l. b ++ l) (sym (append_assoc cs c end)) ∙ sym (append_assoc b (cs ++ c) end)
+
+-- ---- a definition
+
+-- the function that it defines
+abbrev pub defined : Define → Function
+defined d = record { name = string_bytes d.name; parameters = map string_bytes d.parameters.items; body = body_of d.body.items }
+
+defines : (d : Define) (s : Stmt) → s ≡ stmts.Define d → functions_of (stmt_of s) ≡ defined d ∷ []
+defines d s is = ap (λ x. functions_of (stmt_of x)) is ∙ ap functions_of (define_is d)
+
+-- the names that are local to it
+pub locals_at : (all : List Function) (n : ℕ) (d : Define) (s : Stmt) → s ≡ stmts.Define d → StandAt all n (functions_of (stmt_of s)) → slice_get (map locals_of all) n ≡ Some (locals_of (defined d))
+locals_at all n d s is h =
+    let here = subst (StandAt all n) (defines d s is) h in
+    slice_get-map locals_of all n ∙ ap (option_map locals_of) here.0
+
+-- they are there, and are what is found
+pub not_missing : {A B : Type 0} (g : A → B) (found : Option A) (there : Option B) (x : B) → option_map g found ≡ there → there ≡ Some x → found ≡ None → ⊥
+not_missing g None there x h is none = cc
+not_missing g (Some a) there x h is none = cc
+
+pub found_is : {A B : Type 0} (g : A → B) (found : Option A) (there : Option B) (x : B) (a : A) → option_map g found ≡ there → there ≡ Some x → found ≡ Some a → g a ≡ x
+found_is g None there x a h is some = absurd cc
+found_is g (Some b) there x a h is some = cc
+
+-- code that is put, and its routine
+pub routine_gains : {a b c d : Contents} (xs ys : List machine.Instr) (at k n parameters locals : ℕ) → at ≡ length a.lines → k ≡ parameters → n ≡ locals → Gains a b xs → Gains b c ys
+    → d ≡ record c { routines = c.routines ++ (record { at = at; parameters = k; locals = n }) ∷ [] } → GainsRoutines a d (xs ++ ys) ((record { at = length a.lines; parameters = parameters; locals = locals }) ∷ [])
+routine_gains {a} {b} {c} {d} xs ys at k n parameters locals here many names h h' is =
+    let all = Gains-append a b c xs ys h h' in
+    let r : Routine = record { at = at; parameters = k; locals = n } in
+    let entry : ℕ → ℕ → ℕ → machine.Entry = λ x y z. record { at = x; parameters = y; locals = z } in
+    let same : entry at k n ≡ entry (length a.lines) parameters locals = ap (λ x. entry x k n) here ∙ ap (λ y. entry (length a.lines) y n) many ∙ ap (entry (length a.lines) parameters) names in
+    let put : GainsRoutines a (record c { routines = c.routines ++ r ∷ [] }) (xs ++ ys) (entry at k n ∷ []) = record {
+      gains = record { lines = all.lines; literals = all.literals; names = all.names; routines = refl };
+      more = map-append entry_of c.routines (r ∷ []) ∙ ap (λ l. map entry_of l ++ entry at k n ∷ []) all.routines;
+    } in
+    subst (λ t. GainsRoutines a t (xs ++ ys) (entry (length a.lines) parameters locals ∷ [])) (sym is) (subst (λ e. GainsRoutines a (record c { routines = c.routines ++ r ∷ [] }) (xs ++ ys) (e ∷ [])) same put)
+
+pub define_functions : {a b : Contents} (d : Define) (s : Stmt) (names : List Text) → s ≡ stmts.Define d → names ≡ locals_of (defined d)
+    → GainsRoutines a b (stmts_code names 0 (body_of d.body.items) ++ (machine.Push Nothing ∷ (machine.Return ∷ []))) (record { at = length a.lines; parameters = length d.parameters.items; locals = length names } ∷ [])
+    → GainsFunctions a b (functions_of (stmt_of s))
+define_functions {a} {b} d s names is named h =
+    let f = defined d in
+    let end = machine.Push Nothing ∷ (machine.Return ∷ []) in
+    let entry : ℕ → ℕ → List machine.Entry = λ k n. record { at = length a.lines; parameters = k; locals = n } ∷ [] in
+    let code : stmts_code names 0 (body_of d.body.items) ++ end ≡ function_code f ++ [] = ap (λ l. stmts_code l 0 (body_of d.body.items) ++ end) named ∙ sym (append-nil (function_code f)) in
+    let counted : length d.parameters.items ≡ length (map string_bytes d.parameters.items) = sym (length-map d.parameters.items string_bytes) in
+    let entries : entry (length d.parameters.items) (length names) ≡ entry (length f.parameters) (length (locals_of f)) = ap (λ k. entry k (length names)) counted ∙ ap (λ l. entry (length f.parameters) (length l)) named in
+    subst (GainsFunctions a b) (sym (defines d s is))
+    (subst (GainsRoutines a b (function_code f ++ [])) entries (subst (λ c. GainsRoutines a b c (entry (length d.parameters.items) (length names))) code h))
+
+-- ---- a whole script
+
+-- its functions, and then its statements
+pub script_gains : {a b c : Contents} (body seen again : Stmts) (first count : ℕ) → seen ≡ body → again ≡ body → first ≡ count → GainsFunctions a b (functions_in seen) → Gains b c (module_code first again)
+    → GainsRoutines a c (functions_code (functions_in body) ++ module_code count body) (entries_from (length a.lines) (functions_in body))
+script_gains {a} {b} {c} body seen again first count e0 e1 e2 h k =
+    let entries = entries_from (length a.lines) (functions_in body) in
+    let functions = subst (λ s. GainsFunctions a b (functions_in s)) e0 h in
+    let statements = subst (λ n. Gains b c (module_code n body)) e2 (subst (λ s. Gains b c (module_code first s)) e1 k) in
+    subst (GainsRoutines a c (functions_code (functions_in body) ++ module_code count body)) (append-nil entries)
+    (GainsRoutines-append a b c (functions_code (functions_in body)) (module_code count body) entries [] functions (Gains-alone b c (module_code count body) statements))
+
+-- where its statements begin
+pub script_at : {a b : Contents} (body seen : Stmts) (at : ℕ) → seen ≡ body → at ≡ length b.lines → GainsFunctions a b (functions_in seen) → at ≡ length a.lines + length (functions_code (functions_in body))
+script_at {a} {b} body seen at e0 here h = here ∙ length_with (subst (λ s. GainsFunctions a b (functions_in s)) e0 h)

@@ -1,0 +1,19 @@
+use Rattle.std.proofs.Common.{◌≡◌, length, sym, subst, arith}
+use Rattle.si_semantics.specs.Tree.{functions_in}
+use Rattle.si_scope.specs.Scripts.{script_of}
+use Rattle.si_compile.specs.inner.Functions.{StandAt}
+use Rattle.si_compile.proofs.Functions.{stand_all, script_gains, script_at}
+use Rattle.si_compile.proofs.script.emit_script.Goals as goal
+
+pub emit_functions-requires : goal.emit_functions-requires
+emit_functions-requires c =
+    let all = functions_in (script_of c.args.tree.now) in
+    subst (λ b. StandAt all 0 (functions_in b)) (sym c.body.ensures) (stand_all all)
+
+pub returns-clause-ok : goal.returns-clause-ok
+returns-clause-ok c =
+    let count : c.in_ok-first.first ≡ length c.args.table.now.routines = grind (arith, c.in_ok-first.ensures.cases, c.try_from.ensures, c.routines.ensures) in
+    script_gains (script_of c.args.tree.now) _ _ _ _ c.body.ensures c.body-2.ensures count c.in_ok-emit_functions.ensures.ok c.in_ok-emit_body.ensures.ok
+
+pub returns-clause-at : goal.returns-clause-at
+returns-clause-at c = script_at (script_of c.args.tree.now) _ c.len-at.result c.body.ensures c.len-at.ensures c.in_ok-emit_functions.ensures.ok

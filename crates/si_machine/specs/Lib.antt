@@ -1,0 +1,4 @@
+pub mod Values
+pub mod Outcomes
+pub mod Machines
+pub mod inner

@@ -1,0 +1,59 @@
+// Ranges.
+ghost use Rattle.std.specs.Prelude.{◌≡◌, ◌-◌, ◌+◌, ◌/◌, ◌-ℤ◌, ◌&&◌, ◌||◌, nat_eq, int_lt, unsigned_abs, if◌then◌else◌};
+ghost use Rattle.si_semantics.specs.Text.{same_int};
+ghost use Rattle.si_semantics.specs.Operations as operations;
+
+/// Whether an integer lies before the stop of a range, the way that the step goes (Python Standard Library 3.14,
+/// "Built-in Types": ranges).
+pub fn is_item(at: i64, stop: i64, step: i64) -> bool
+    ensures { result ≡ operations.is_item at stop step }
+{
+    if step >= 0 { at < stop } else { stop < at }
+}
+
+/// How many items a range has.
+pub fn range_length(start: i64, stop: i64, step: i64) -> u64
+    ensures { result ≡ operations.range_length start stop step }
+{
+    if step >= 0 {
+        steps_between(start, stop, step.unsigned_abs())
+    } else {
+        steps_between(stop, start, step.unsigned_abs())
+    }
+}
+
+// How many integers, a step apart, lie from `low` on before `high`.
+fn steps_between(low: i64, high: i64, step: u64) -> u64
+    ensures { result ≡ (if int_lt low high then (unsigned_abs (high -ℤ low) - 1) / step + 1 else 0) }
+{
+    if low >= high {
+        return 0;
+    }
+    if step == 0 {
+        return 1;
+    }
+    (high.abs_diff(low) - 1) / step + 1
+}
+
+/// Whether two ranges have the same items.
+pub fn is_same_range(a: i64, b: i64, c: i64, d: i64, e: i64, f: i64) -> bool
+    ensures { result ≡ operations.same_range a b c d e f }
+{
+    let starts = is_same_int(a, d);
+    let steps = is_same_int(c, f);
+    have_same_items(range_length(a, b, c), range_length(d, e, f), starts, steps)
+}
+
+// Whether two integers are equal.
+fn is_same_int(a: i64, b: i64) -> bool
+    ensures { result ≡ same_int a b }
+{
+    a == b
+}
+
+// Whether ranges of n and m items, that start alike or not and step alike or not, have the same items.
+fn have_same_items(n: u64, m: u64, starts: bool, steps: bool) -> bool
+    ensures { result ≡ (nat_eq n m && (nat_eq n 0 || (starts && (nat_eq n 1 || steps)))) }
+{
+    n == m && (n == 0 || (starts && (n == 1 || steps)))
+}

@@ -1,0 +1,23 @@
+// What a step did.
+
+use si_plain::{Kind, Text};
+
+/// How a run ended.
+#[derive(Debug, Drop)]
+pub enum Outcome {
+    /// It came to the end of its text.
+    Returned,
+    /// An exception left it: the kind, and the message.
+    Raised(Kind, Text),
+}
+
+/// What a step did. How a run ended, the machine keeps until it is asked.
+#[derive(Clone, Copy, Debug, PartialEq, Eq)]
+pub enum Step {
+    /// One instruction; the run goes on.
+    Local,
+    /// One instruction, with which the run has ended.
+    Ended,
+    /// No instruction: memory was refused, or nothing runs. The machine stands still until the next `load`.
+    Starved,
+}
