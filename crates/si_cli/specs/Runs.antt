@@ -3,12 +3,12 @@ use Rattle.std.specs.Prelude.{◌≡◌, true, List, [], ◌∷◌, Option, Some
 use Rattle.si_semantics.specs.Tree.{Module, Stmts}
 use Rattle.si_semantics.specs.Scope.{is_scoped}
 use Rattle.si_semantics.specs.World.{Answer, Taken, Run}
-use Rattle.si_semantics.specs.Life.{life_of}
-use Rattle.si_semantics.specs.Machine.{Course, Place, Ending}
-use Rattle.si_semantics.specs.Shows.{Shows, joined, standing_of, texts}
+use Rattle.si_semantics.specs.Life.{joined, life_of}
+use Rattle.si_slots.specs.Machine.{Course, Place, Ending}
+use Rattle.si_slots.specs.Shows.{Shows, standing_of, texts}
+use Rattle.si_slots.specs.Interpreter.{IsAfter}
 use Rattle.si_parse.specs.Modules.{IsRead}
-use Rattle.si_compile.specs.Interpreter.{IsAfter}
-use Rattle.si_machine.specs.Outcomes.{outcome_of}
+use Rattle.si_steps.specs.Outcomes.{told}
 use Rattle.si_cli.specs.declared.interpreter.Standing.{Standing}
 use Rattle.si_cli.specs.declared.interpreter.Standing.TheVariants.{Ready, AtEnd, Starved}
 use Rattle.si_cli.specs.declared.interpreter.Solo.{Solo}
@@ -25,7 +25,7 @@ IsJob script None = (body : Stmts) → IsTaken script body → ⊥
 
 -- how it stands, by its place: at the end of its run, or at an instruction
 abbrev pub Stands : Standing → Place → Type 0
-Stands (AtEnd outcome) place = place ≡ Ending (outcome_of outcome)
+Stands (AtEnd outcome) place = place ≡ Ending (told outcome)
 Stands Ready place = standing_of place ≡ None
 Stands Starved place = standing_of place ≡ None
 

@@ -1,6 +1,6 @@
 -- How a run is left, as the definitions see it.
 use Rattle.std.specs.Prelude.{◌≡◌, ◌≤◌, ℕ, List, [], ◌∷◌, ◌++◌, chars, codes, encode_utf8_all, string_bytes}
-use Rattle.si_machine.specs.Outcomes.{outcome_of}
+use Rattle.si_steps.specs.Outcomes.{told}
 use Rattle.si_semantics.specs.Report as report
 use Rattle.si_cli.specs.declared.interpreter.Standing.{Standing}
 use Rattle.si_cli.specs.declared.interpreter.Standing.TheVariants.{Ready, AtEnd, Starved}
@@ -9,7 +9,7 @@ use Rattle.si_cli.specs.declared.interpreter.Solo.{Solo}
 -- how an interpreter stands
 abbrev pub standing_of : Standing → report.Standing
 standing_of Ready = report.Ready
-standing_of (AtEnd outcome) = report.AtEnd (outcome_of outcome)
+standing_of (AtEnd outcome) = report.AtEnd (told outcome)
 standing_of Starved = report.Starved
 
 -- what stands after a kind: a message that is not empty, after a colon

@@ -1,21 +1,22 @@
 // Running a script in interpreter 0, with no other.
 
-ghost use Rattle.std.specs.Prelude.{◌≡◌, ◌≤◌, ℕ, List, None, Some, true, IfErr, IfOk};
-ghost use Rattle.si_semantics.specs.World.{Answer};
+ghost use Rattle.std.specs.Prelude.{◌≡◌, ◌≤◌, ◌<◌, ℕ, None, Some, IfErr, IfOk, IfSome, IfNone};
 ghost use Rattle.si_semantics.specs.Tree.{Stmts};
 ghost use Rattle.si_parse.specs.inner.Gives.{IsSyntax};
 ghost use Rattle.si_scope.specs.Scripts.{script_of};
-ghost use Rattle.si_cli.specs.inner.Courses.{HasRun, IsUnderWay};
+ghost use Rattle.si_slots.specs.Code.{compiled};
+ghost use Rattle.si_slots.specs.Machine.{Course, next};
+ghost use Rattle.si_cli.specs.inner.Courses.{HasRun, IsLeft, IsUnderWay};
 ghost use Rattle.si_cli.specs.Runs.{IsRunOf, IsTaken, ShowsLife, one_run};
 ghost use Rattle.si_cli.specs.Views.{AreUsed, HasUsed};
 
 use crate::interpreter::{Outcome, Solo, Standing};
-use si_code::CodeTable;
-use si_compile::compile;
-use si_machine::{Machine, Step};
+use si_emit::compile;
 use si_parse::{ParseFault, parse};
 use si_plain::{Kind, NoMemory, Text};
 use si_scope::{ScopeFault, Scoped, resolve};
+use si_slots::CodeTable;
+use si_steps::{Machine, Step};
 use std::alloc::{AllocError, Global};
 
 /// Runs a script in interpreter 0, until its run has ended, it is refused memory, or `turns` local turns are used.
@@ -89,19 +90,37 @@ pub(crate) fn run_script(alloc: Global, tree: &Scoped, turns: u64) -> Result<Sol
 }
 
 /// Steps the machine until its run has ended, it is refused memory, or `turns` steps are made; how many were made, and
-/// how it then stands.
+/// how it then stands. Where memory is refused to tell how the run ended, its last step counts as not made.
 fn run(machine: &mut Machine, turns: u64) -> (u64, Standing)
-    requires { turns ≤ 1099511627776 }
+    ghost c: { Course }
+    requires few { turns ≤ 1099511627776 }
+    requires begun { IsUnderWay c machine.old }
     ensures used { AreUsed turns result.0 result.1 }
-    ensures ran { (answers : List Answer) → IsUnderWay answers 0 machine.old
-        → HasRun answers result.0 result.1 machine.new }
+    ensures ran { HasRun c result.0 result.1 machine.new }
 {
     for turn in 0..turns {
-        match machine.step() {
-            Step::Local => {}
-            Step::Ended => return (turn + 1, Standing::AtEnd(machine.take_outcome())),
-            Step::Starved => return (turn, Standing::Starved),
+        if let Some(left) = take_turn(machine, turn) {
+            return left;
         }
     }
     (turns, Standing::Ready)
+}
+
+/// The step after the first `turn` of a run. Where the run doesn't go on, how many steps were made, and how the machine
+/// then stands.
+fn take_turn(machine: &mut Machine, turn: u64) -> Option<(u64, Standing)>
+    ghost c: { Course }
+    requires few { turn < 1099511627776 }
+    requires under_way { IsUnderWay c machine.old }
+    ensures goes_on { IfNone result (IsUnderWay (next compiled c) machine.new) }
+    ensures left { IfSome result (λ left. IsLeft c turn left.0 left.1 machine.new) }
+{
+    match machine.step() {
+        Step::Local => None,
+        Step::Ended => match machine.take_outcome() {
+            Ok(outcome) => Some((turn + 1, Standing::AtEnd(outcome))),
+            Err(_) => Some((turn, Standing::Starved)),
+        },
+        Step::Starved => Some((turn, Standing::Starved)),
+    }
 }

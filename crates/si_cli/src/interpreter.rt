@@ -1,6 +1,6 @@
 // What a run of interpreter 0 leaves.
 
-pub use si_machine::Outcome;
+pub use si_steps::Outcome;
 
 /// How an interpreter stands.
 #[derive(Debug, Drop)]

@@ -1,4 +1,4 @@
-// From scripts to instructions of the machine of slots. Nothing uses it yet.
+// From scripts to instructions of the machine of slots.
 //
 // `compile` adds the code of a script to a `si_slots::CodeTable`: the table then stands for what it stood for, with the
 // code and the functions that si_slots/specs/Code.antt gives the script's tree; or memory was refused, and the table is as

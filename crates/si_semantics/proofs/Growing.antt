@@ -9,8 +9,7 @@ use Rattle.si_semantics.specs.Scope.{place_of, locals_of}
 use Rattle.si_semantics.specs.World.{World, Request, Bind, Run, Closing, Answer, Taken, Done, Replied, Got, Failed, Wants, Ran, Gave, Threw, Asked, bind_all}
 use Rattle.si_semantics.specs.Operations.{exception, operate, operate_unary, is_true, compare, load_global, load_local, call_provided, call_by_name, not_callable, wrong_arguments, too_deep, type_error, raised_by, raised_again, catches, Iterator, iterator_of, Next, Item, Exhausted, Refuses, next_item, reply}
 use Rattle.si_semantics.specs.Meaning.{State, Raises, Returns, Breaks, Continues, Result, Gives, Leaves, Asks, Cut, Meaning, Scope, behind, with_active, visit, then, printed, raised, asked, ran, slot_at, read, assign, unassign, calls, choose, decides, compared, expr, exprs, operands, chain, after_turn, turn_of, loop, for_loop, over, returning, raising, caught, active_in, finally, named, stmt, stmts, clauses, returned, entered, fitting, run_body, call, max_calls}
-use Rattle.si_semantics.specs.Life.{Outcome, Returned, Told, Stops, IsGone, IsCut, Action, outcome_of, not_read, after_end, ends_with, run_ended, module_scope, run_of, takes, life, newborn, life_of}
-use Rattle.si_semantics.specs.Shows.{end_of}
+use Rattle.si_semantics.specs.Life.{Outcome, Returned, Told, Stops, IsGone, IsCut, Action, outcome_of, not_read, after_end, ends_with, run_ended, module_scope, run_of, takes, life, newborn, life_of, end_of}
 use Rattle.si_semantics.specs.Laws.{Grows, state_of, OneLife, LivesGrow, GoneStays}
 
 -- ---- growing

@@ -1,6 +1,4 @@
 pub mod Growing
-pub mod Courses
-pub mod Unanswered
 pub mod Worked
 pub mod WorkedFunctions
 pub mod WorkedExceptions

@@ -7,9 +7,6 @@ pub mod Operations
 pub mod Meaning
 pub mod Scope
 pub mod Life
-pub mod Machine
-pub mod Running
-pub mod Shows
 pub mod Report
 pub mod Laws
 pub mod Parcels

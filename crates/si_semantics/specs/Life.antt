@@ -1,12 +1,12 @@
 -- The life of an interpreter: one function of the answers that it is given (this project's own).
-use Rattle.std.specs.Prelude.{codes, ℕ, zero, suc, ◌+◌, List, [], ◌∷◌, ◌++◌, length, Option, Some, None, slice_get}
+use Rattle.std.specs.Prelude.{codes, ℕ, zero, suc, ◌+◌, List, [], ◌∷◌, ◌++◌, length, map, Option, Some, None, slice_get}
 use Rattle.si_plain.specs.declared.kind.Kind.{Kind}
 use Rattle.si_plain.specs.declared.kind.Kind.TheVariants.{BaseException, SyntaxError}
 use Rattle.si_semantics.specs.Value.{Text, Address, Object, Exception}
 use Rattle.si_semantics.specs.Text.{str_in, message_of}
 use Rattle.si_semantics.specs.World.{World, Request, Bind, Run, Closing, Answer, Taken, Done, bind_all, first_world}
 use Rattle.si_semantics.specs.Tree.{Function, Stmts, functions_in}
-use Rattle.si_semantics.specs.Meaning.{State, Leave, Raises, Returns, Breaks, Continues, Result, Gives, Leaves, Asks, Cut, Meaning, Scope, visit, stmts, call, max_calls}
+use Rattle.si_semantics.specs.Meaning.{Piece, State, Leave, Raises, Returns, Breaks, Continues, Result, Gives, Leaves, Asks, Cut, Meaning, Scope, visit, stmts, call, max_calls}
 
 -- how a run ended: at its end, or left by an exception of a kind with a message
 pub data Outcome : Type 0 where
@@ -92,3 +92,24 @@ newborn answers = record { world = first_world; answers = answers; slots = []; v
 -- the life under these answers, with at most n turns of a loop
 abbrev pub life_of : ℕ → List Answer → Told
 life_of n answers = life n (length answers + 1) [] (newborn answers)
+
+-- the pieces that a life has printed
+abbrev pub pieces_of : Told → List Piece
+pieces_of (Stops a s) = s.pieces
+pieces_of (IsGone s) = s.pieces
+pieces_of (IsCut s) = s.pieces
+
+-- what a life has printed, text by text
+abbrev pub texts_of : Told → List Text
+texts_of r = map (λ p. p.text) (pieces_of r)
+
+-- texts, one after the other
+abbrev pub joined : List Text → Text
+joined [] = []
+joined (t ∷ ts) = t ++ joined ts
+
+-- where a life ends that is not cut, and after how many visits: at an action, or gone
+abbrev pub end_of : Told → Option (Option Action × ℕ)
+end_of (Stops a s) = Some (Some a, s.visits)
+end_of (IsGone s) = Some (None, s.visits)
+end_of (IsCut s) = None

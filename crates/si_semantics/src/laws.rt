@@ -1,4 +1,4 @@
-// Laws of lives and of courses, for those who build on them.
+// Laws of lives, for those who build on them.
 
 ghost use Rattle.si_semantics.specs.Worked.Straight.{Cases};
 ghost use Rattle.si_semantics.specs.Worked.Functions.{FunctionCases};
@@ -12,7 +12,7 @@ ghost use Rattle.si_semantics.specs.Worked.Parcels.{ParcelCases};
 ghost use Rattle.si_semantics.specs.Worked.Shared.{SharedCases};
 ghost use Rattle.si_semantics.specs.Worked.Limits.{LimitCases};
 ghost use Rattle.si_semantics.specs.Worked.Grammar.{GrammarCases};
-ghost use Rattle.si_semantics.specs.Laws.{Binding, OneLife, LivesGrow, GoneStays, AnswersWait, OnePieceALine, OneMoment, LeftByExceptions, KindsAbove};
+ghost use Rattle.si_semantics.specs.Laws.{Binding, OneLife, LivesGrow, GoneStays, LeftByExceptions, KindsAbove};
 
 /// The worked cases: what scripts print and how they end.
 pub fn worked_cases()
@@ -97,21 +97,6 @@ pub fn gone_stays()
 /// The run of a well scoped text is left by an exception, if it is left at all.
 pub fn left_by_exceptions()
     ensures { LeftByExceptions }
-{}
-
-/// One answer more changes nothing in a course before the action that it answers.
-pub fn answers_wait()
-    ensures { AnswersWait }
-{}
-
-/// One line of a course prints at most one piece, and takes back none.
-pub fn one_piece_a_line()
-    ensures { OnePieceALine }
-{}
-
-/// With all answers taken, the lines that were run tell the whole state of a course.
-pub fn one_moment()
-    ensures { OneMoment }
 {}
 
 /// A clause with a kind catches that kind, and what stands under it.

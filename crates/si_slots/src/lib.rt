@@ -1,5 +1,4 @@
 // A machine with a frame of slots, and the code of trees for it: definitions, laws of them, and the table of such code.
-// Nothing uses it yet.
 //
 // In reading order: specs/Machine.antt (the machine: one line an instruction, whose operands lie in slots),
 // specs/Code.antt (the code of a tree) with specs/CodeCases.antt (worked cases), specs/Running.antt (the run of one

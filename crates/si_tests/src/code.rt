@@ -1,10 +1,10 @@
 // What the compiler makes of scripts, instruction by instruction, and texts that share a table.
 
-use si_code::{CodeTable, Entry, Instr, Routine};
-use si_compile::compile;
+use si_emit::compile;
 use si_parse::parse;
 use si_plain::{BinaryOperator, UnaryOperator};
 use si_scope::{Scoped, resolve};
+use si_slots::{Aim, CodeTable, Constant, FullInstr, Routine, Source, Target};
 use std::alloc::Global;
 use std::test::Fail;
 
@@ -18,25 +18,31 @@ fn instruction_by_instruction(rt: HostRuntime) -> Result<(), Fail> {
     let tree = script(rt.alloc(), "x = -1 + 2\nprint(x, 'a' 'b')\n")?;
     let mut table = CodeTable::new(rt.alloc());
     assert!(rt; table.is_empty());
-    assert_eq!(rt; compile(&tree, &mut table)?, Entry { at: 0 });
+    assert_eq!(rt; compile(&tree, &mut table)?, 0);
     let code = [
-        Instr::PushInt(1),
-        Instr::Unary(UnaryOperator::Minus),
-        Instr::PushInt(2),
-        Instr::Binary(BinaryOperator::Add),
-        Instr::StoreGlobal(0),
-        Instr::LoadGlobal(1),
-        Instr::LoadGlobal(0),
-        Instr::PushLiteral(0),
-        Instr::Call(2),
-        Instr::Discard,
-        Instr::Finish,
+        FullInstr::Unary(
+            UnaryOperator::Minus,
+            Target::Temporary(0),
+            Source::Literal(Constant::Int(1)),
+        ),
+        FullInstr::Binary(
+            BinaryOperator::Add,
+            Target::Temporary(0),
+            Source::Temporary(0),
+            Source::Literal(Constant::Int(2)),
+        ),
+        FullInstr::StoreGlobal(0, Source::Temporary(0)),
+        FullInstr::LoadGlobal(Target::Temporary(0), 1),
+        FullInstr::LoadGlobal(Target::Temporary(1), 0),
+        FullInstr::Copy(Target::Temporary(2), Source::Literal(Constant::Str(0))),
+        FullInstr::Call(Target::Nowhere, 0, 2),
+        FullInstr::Finish,
     ];
     assert_eq!(rt; table.len(), code.len());
     for (at, instr) in code.iter().enumerate() {
-        assert_eq!(rt; table.line(at), Some(*instr), "at {at}");
+        assert_eq!(rt; table.instruction(at), Some(*instr), "at {at}");
     }
-    assert_eq!(rt; table.line(code.len()), None);
+    assert_eq!(rt; table.instruction(code.len()), None);
     assert_eq!(rt; table.slots(), 2);
     assert_eq!(rt; table.name(0), Some("x"));
     assert_eq!(rt; table.name(1), Some("print"));
@@ -53,11 +59,28 @@ fn texts_share_slots(rt: HostRuntime) -> Result<(), Fail> {
     let second = script(rt.alloc(), "b = a ** 'c'\n")?;
     let mut table = CodeTable::new(rt.alloc());
     compile(&first, &mut table)?;
-    assert_eq!(rt; compile(&second, &mut table)?, Entry { at: 3 });
-    assert_eq!(rt; table.line(0), Some(Instr::LoadGlobal(0)));
-    assert_eq!(rt; table.line(3), Some(Instr::LoadGlobal(1)));
-    assert_eq!(rt; table.line(5), Some(Instr::Binary(BinaryOperator::Power)));
-    assert_eq!(rt; table.line(6), Some(Instr::StoreGlobal(0)));
+    assert_eq!(rt; compile(&second, &mut table)?, 3);
+    assert_eq!(rt;
+        table.instruction(0),
+        Some(FullInstr::LoadGlobal(Target::Temporary(0), 0))
+    );
+    assert_eq!(rt;
+        table.instruction(3),
+        Some(FullInstr::LoadGlobal(Target::Temporary(0), 1))
+    );
+    assert_eq!(rt;
+        table.instruction(5),
+        Some(FullInstr::Binary(
+            BinaryOperator::Power,
+            Target::Temporary(0),
+            Source::Temporary(0),
+            Source::Temporary(1)
+        ))
+    );
+    assert_eq!(rt;
+        table.instruction(6),
+        Some(FullInstr::StoreGlobal(0, Source::Temporary(0)))
+    );
     assert_eq!(rt; table.slots(), 2);
     Ok(())
 }
@@ -71,8 +94,8 @@ fn refused_memory_leaves_no_half_of_a_try(rt: HostRuntime) -> Result<(), Fail> {
     let second = script(rt.alloc(), text)?;
     let mut table = CodeTable::new(rt.alloc());
     compile(&first, &mut table)?;
-    let entry = match compile(&second, &mut table) {
-        Ok(entry) => entry,
+    let at = match compile(&second, &mut table) {
+        Ok(at) => at,
         Err(_) => {
             assert_eq!(rt; table.len(), 3);
             assert_eq!(rt; table.slots(), 1);
@@ -80,38 +103,35 @@ fn refused_memory_leaves_no_half_of_a_try(rt: HostRuntime) -> Result<(), Fail> {
             compile(&second, &mut table)?
         }
     };
-    assert_eq!(rt; entry, Entry { at: 3 });
+    assert_eq!(rt; at, 3);
     assert_eq!(rt; table.literals().len(), 3);
     Ok(())
 }
 
 // The code of `f`, of `g`, and of the statements, of the text below.
-const TWO_FUNCTIONS: [Instr; 25] = [
-    Instr::LoadLocal(0, 0),
-    Instr::StoreLocal(2),
-    Instr::LoadLocal(2, 1),
-    Instr::LoadGlobal(2),
-    Instr::Binary(BinaryOperator::Add),
-    Instr::Return,
-    Instr::PushNone,
-    Instr::Return,
-    Instr::PushNone,
-    Instr::Return,
-    Instr::PushInt(1),
-    Instr::StoreGlobal(2),
-    Instr::PushFunction(0, 0),
-    Instr::StoreGlobal(3),
-    Instr::LoadGlobal(3),
-    Instr::LoadGlobal(2),
-    Instr::PushInt(2),
-    Instr::CallByName(2),
-    Instr::Discard,
-    Instr::LoadGlobal(2),
-    Instr::JumpIfFalse(3),
-    Instr::PushFunction(1, 1),
-    Instr::StoreGlobal(4),
-    Instr::Jump(0),
-    Instr::Finish,
+const TWO_FUNCTIONS: [FullInstr; 17] = [
+    FullInstr::Copy(Target::Local(2), Source::Local(0)),
+    FullInstr::Copy(Target::Temporary(0), Source::Local(2)),
+    FullInstr::LoadGlobal(Target::Temporary(1), 0),
+    FullInstr::Binary(
+        BinaryOperator::Add,
+        Target::Temporary(0),
+        Source::Temporary(0),
+        Source::Temporary(1),
+    ),
+    FullInstr::Return(Source::Temporary(0)),
+    FullInstr::Return(Source::Literal(Constant::Nothing)),
+    FullInstr::Return(Source::Literal(Constant::Nothing)),
+    FullInstr::StoreGlobal(0, Source::Literal(Constant::Int(1))),
+    FullInstr::StoreGlobal(1, Source::Literal(Constant::Function(0, 0))),
+    FullInstr::LoadGlobal(Target::Temporary(0), 1),
+    FullInstr::LoadGlobal(Target::Temporary(1), 0),
+    FullInstr::Copy(Target::Temporary(2), Source::Literal(Constant::Int(2))),
+    FullInstr::CallByName(Target::Nowhere, 0, 2),
+    FullInstr::LoadGlobal(Target::Temporary(0), 0),
+    FullInstr::Copy(Target::Jump(false, Aim::Ahead(1)), Source::Temporary(0)),
+    FullInstr::StoreGlobal(2, Source::Literal(Constant::Function(1, 1))),
+    FullInstr::Finish,
 ];
 
 // A function of two parameters and one more local, which is called by position and by name, and one in a branch.
@@ -121,10 +141,10 @@ fn functions_come_first(rt: HostRuntime) -> Result<(), Fail> {
         "x = 1\ndef f(a, b):\n    c = a\n    return c + x\nf(x, b=2)\nif x:\n    def g():\n        pass\n";
     let tree = script(rt.alloc(), text)?;
     let mut table = CodeTable::new(rt.alloc());
-    assert_eq!(rt; compile(&tree, &mut table)?, Entry { at: 10 });
+    assert_eq!(rt; compile(&tree, &mut table)?, 7);
     assert_eq!(rt; table.len(), TWO_FUNCTIONS.len());
     for (at, instr) in TWO_FUNCTIONS.iter().enumerate() {
-        assert_eq!(rt; table.line(at), Some(*instr), "at {at}");
+        assert_eq!(rt; table.instruction(at), Some(*instr), "at {at}");
     }
     assert_eq!(rt; table.routines(), 2);
     assert_eq!(rt;
@@ -138,7 +158,7 @@ fn functions_come_first(rt: HostRuntime) -> Result<(), Fail> {
     assert_eq!(rt;
         table.routine(1),
         Some(Routine {
-            at: 8,
+            at: 6,
             parameters: 0,
             locals: 0
         })
@@ -155,14 +175,20 @@ fn numbers_go_on(rt: HostRuntime) -> Result<(), Fail> {
     let first = script(rt.alloc(), "def f():\n    pass\n")?;
     let second = script(rt.alloc(), "def g():\n    pass\n")?;
     let mut table = CodeTable::new(rt.alloc());
-    assert_eq!(rt; compile(&first, &mut table)?, Entry { at: 2 });
-    assert_eq!(rt; compile(&second, &mut table)?, Entry { at: 7 });
-    assert_eq!(rt; table.line(2), Some(Instr::PushFunction(0, 0)));
-    assert_eq!(rt; table.line(7), Some(Instr::PushFunction(1, 1)));
+    assert_eq!(rt; compile(&first, &mut table)?, 1);
+    assert_eq!(rt; compile(&second, &mut table)?, 4);
+    assert_eq!(rt;
+        table.instruction(1),
+        Some(FullInstr::StoreGlobal(0, Source::Literal(Constant::Function(0, 0))))
+    );
+    assert_eq!(rt;
+        table.instruction(4),
+        Some(FullInstr::StoreGlobal(1, Source::Literal(Constant::Function(1, 1))))
+    );
     assert_eq!(rt;
         table.routine(1),
         Some(Routine {
-            at: 5,
+            at: 3,
             parameters: 0,
             locals: 0
         })

@@ -5,8 +5,7 @@ use Rattle.si_semantics.specs.Tree as tree
 use Rattle.si_semantics.specs.Tree.{Stmt}
 use Rattle.si_semantics.specs.Text.{message_of}
 use Rattle.si_semantics.specs.World.{Answer, Taken, Done, Run}
-use Rattle.si_semantics.specs.Life.{Returned, Raised, End, life_of}
-use Rattle.si_semantics.specs.Shows.{end_of, texts_of}
+use Rattle.si_semantics.specs.Life.{Returned, Raised, End, life_of, end_of, texts_of}
 use Rattle.si_semantics.specs.Worked.Straight.{int, str, suite, compared, run_of, outcome}
 use Rattle.si_semantics.specs.Worked.Functions.{f, g, x, called, prints, define}
 use Rattle.si_semantics.specs.Worked.Scripts.{a, b, e, i, k, t, recursion_error, runtime_error, base_exception, arithmetic_error, zero_division_error, lookup_error, index_error, key_error, name_error, type_error, value_error, says, divides_by_zero, new, a_range, a_repr, raises, raises_again, except_any, except_of, except_as, try_except, try_else, try_finally, ensured, each, ends_within, ends}

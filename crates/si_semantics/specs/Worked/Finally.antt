@@ -3,8 +3,7 @@ use Rattle.std.specs.Prelude.{◌≡◌, codes, List, [], ◌∷◌, true, Some,
 use Rattle.si_semantics.specs.Value.{Text, Truth, Function}
 use Rattle.si_semantics.specs.Tree as tree
 use Rattle.si_semantics.specs.Tree.{Stmt}
-use Rattle.si_semantics.specs.Life.{Returned, End}
-use Rattle.si_semantics.specs.Shows.{end_of, texts_of}
+use Rattle.si_semantics.specs.Life.{Returned, End, end_of, texts_of}
 use Rattle.si_semantics.specs.Worked.Straight.{int, str, suite, compared, run_within, run_of}
 use Rattle.si_semantics.specs.Worked.Functions.{f, g, x, called, prints, define, left_in}
 use Rattle.si_semantics.specs.Worked.Scripts.{a, b, c, d, e, i, zero_division_error, key_error, unbound_local_error, says, divides_by_zero, new, a_range, raises, except_any, except_of, except_as, try_except, try_finally, ensured, each, each_else, ends_within, ends}

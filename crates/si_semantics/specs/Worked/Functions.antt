@@ -4,8 +4,7 @@ use Rattle.si_semantics.specs.Value.{Text, Value, Function, Truth}
 use Rattle.si_semantics.specs.Tree as tree
 use Rattle.si_semantics.specs.Tree.{Expr, Stmt}
 use Rattle.si_semantics.specs.World.{Answer, Taken, Done, Run}
-use Rattle.si_semantics.specs.Life.{Returned, End, Told, life_of}
-use Rattle.si_semantics.specs.Shows.{pieces_of, end_of, texts_of}
+use Rattle.si_semantics.specs.Life.{Returned, End, Told, life_of, pieces_of, end_of, texts_of}
 use Rattle.si_semantics.specs.Laws.{state_of}
 use Rattle.si_semantics.specs.Worked.Straight.{int, a_text, arguments, print, suite, compared, run_of, report_of, report_within}
 

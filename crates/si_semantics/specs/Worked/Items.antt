@@ -3,8 +3,7 @@ use Rattle.std.specs.Prelude.{◌≡◌, codes, List, [], ◌∷◌, true, Some,
 use Rattle.si_semantics.specs.Value.{Nothing, Truth}
 use Rattle.si_semantics.specs.Tree as tree
 use Rattle.si_semantics.specs.Tree.{Stmt}
-use Rattle.si_semantics.specs.Life.{Returned, End}
-use Rattle.si_semantics.specs.Shows.{end_of, texts_of}
+use Rattle.si_semantics.specs.Life.{Returned, End, end_of, texts_of}
 use Rattle.si_semantics.specs.Worked.Straight.{int, str, minus, suite, compared, run_within}
 use Rattle.si_semantics.specs.Worked.Functions.{f, x, called, prints, define}
 use Rattle.si_semantics.specs.Worked.Scripts.{a, c, e, i, lookup_error, index_error, key_error, type_error, value_error, says, divides_by_zero, new, a_range, a_str, a_repr, raises, except_as, try_except, each, each_else, ends_within, ends}

@@ -3,8 +3,7 @@ use Rattle.std.specs.Prelude.{codes, ℕ, List, [], ◌∷◌, ◌++◌, Some, N
 use Rattle.si_semantics.specs.Value.{Text}
 use Rattle.si_semantics.specs.Tree as tree
 use Rattle.si_semantics.specs.Tree.{Expr, Stmt, Clauses}
-use Rattle.si_semantics.specs.Life.{Told}
-use Rattle.si_semantics.specs.Shows.{joined, texts_of}
+use Rattle.si_semantics.specs.Life.{Told, joined, texts_of}
 use Rattle.si_semantics.specs.Report.{outcome_line}
 use Rattle.si_semantics.specs.Worked.Straight.{int, str, arguments, suite, run_within, outcome}
 use Rattle.si_semantics.specs.Worked.Functions.{called, prints}

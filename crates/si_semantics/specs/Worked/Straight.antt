@@ -5,8 +5,7 @@ use Rattle.si_semantics.specs.Tree as tree
 use Rattle.si_semantics.specs.Tree.{ComparisonOperator, Expr, Exprs, Stmt, Stmts}
 use Rattle.si_semantics.specs.Text.{repr_text}
 use Rattle.si_semantics.specs.World.{Answer, Taken, Done, Bind, Run, Closing}
-use Rattle.si_semantics.specs.Life.{Outcome, Returned, End, Told, Stops, life_of}
-use Rattle.si_semantics.specs.Shows.{pieces_of, end_of, joined, texts_of}
+use Rattle.si_semantics.specs.Life.{Outcome, Returned, End, Told, Stops, life_of, pieces_of, end_of, joined, texts_of}
 use Rattle.si_semantics.specs.Report.{AtEnd, report}
 
 -- ---- scripts

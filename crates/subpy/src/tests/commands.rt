@@ -159,10 +159,10 @@ fn input_is_read_to_its_end_or_not_at_all(rt: HostRuntime) -> Result<(), Fail> {
 
 #[test]
 fn a_run_alone_counts_its_turns(rt: HostRuntime) -> Result<(), Fail> {
-    // five instructions: the callee, its argument, the call, its value dropped, the end
+    // four instructions: the callee, its argument, the call, the end
     let whole = solo(rt.alloc(), "print(1)", 1_000)?;
     assert!(rt; matches!(whole.standing, Standing::AtEnd(Outcome::Returned)));
-    assert!(rt; whole.locals == 5 && whole.printed.as_str() == "1\n");
+    assert!(rt; whole.locals == 4 && whole.printed.as_str() == "1\n");
     let spent = solo(rt.alloc(), "print(1)", 3)?;
     assert!(rt; matches!(spent.standing, Standing::Ready));
     assert!(rt; spent.locals == 3 && spent.printed.as_str() == "1\n");

@@ -1,7 +1,10 @@
-use Rattle.std.proofs.Common.{List}
-use Rattle.si_semantics.specs.World.{Answer}
-use Rattle.si_cli.specs.inner.Courses.{IsUnderWay}
+use Rattle.si_slots.specs.Code.{compiled}
+use Rattle.si_slots.specs.Machine.{course}
+use Rattle.si_cli.proofs.CourseLemmas.{IsBehind}
 use Rattle.si_cli.proofs.alone.run.Given as goal
 
+abbrev pub ghost-take_turn : goal.ghost-take_turn
+ghost-take_turn g a = course compiled a.turn g.c
+
 abbrev pub invariant-loop-turn : goal.invariant-loop-turn
-invariant-loop-turn l = (answers : List Answer) → IsUnderWay answers 0 l.fn.machine → IsUnderWay answers l.turn l.machine
+invariant-loop-turn g l = IsBehind g.c l.turn l.machine

@@ -1,3 +1,0 @@
-pub mod Contents
-pub mod Views
-pub mod inner

@@ -1,4 +1,0 @@
-pub mod Code
-pub mod Correct
-pub mod Interpreter
-pub mod inner

@@ -1,4 +1,0 @@
-pub mod Values
-pub mod Outcomes
-pub mod Machines
-pub mod inner
