@@ -108,6 +108,7 @@ fn run(machine: &mut Machine, turns: u64) -> (u64, Standing)
 
 /// The step after the first `turn` of a run. Where the run doesn't go on, how many steps were made, and how the machine
 /// then stands.
+#[inline(always)]
 fn take_turn(machine: &mut Machine, turn: u64) -> Option<(u64, Standing)>
     ghost c: { Course }
     requires few { turn < 1099511627776 }

@@ -23,6 +23,7 @@ use Rattle.si_slots.proofs.Jumped.{Due-jump, Due-before, Due-length}
 use Rattle.si_emit.specs.inner.Conditions.{Opens, skipping}
 use Rattle.si_emit.specs.inner.Silence.{silent_suite}
 use Rattle.si_emit.proofs.Branches.{MakesAll, MakesAll-end}
+use Rattle.si_emit.proofs.Seen.{elif_defines}
 use Rattle.si_emit.proofs.Fronts.{Starts, starts_append, branch_is}
 use Rattle.si_emit.proofs.Silent.{silent_code, silent_functions, loud_code, starts_if}
 
@@ -178,10 +179,6 @@ module _ (ls : List Text) where
   elifs_end {t0} {t1} {t2} bs i ends ss jumps first now le same before h =
       MakesAll-end jumps (Elifs ls first bs (body_of ends)) (Elifs ls now (drop i bs) (body_of ends)) before
       (subst (λ x. Gains t1 t2 (Elifs ls now x (body_of ends))) (sym (drop_all i bs le)) (subst (λ x. Gains t1 t2 (stmts_code ls now (body_of x))) same h))
-
--- those after an `if` are those of the next `elif`, and of what stands after that
-elif_defines : (b : Branch) (more : List Branch) (last : tree.Stmts) → functions_in (elifs_of (b ∷ more) last) ≡ functions_in b.1 ++ functions_in (elifs_of more last)
-elif_defines b more last = append-nil (functions_in b.1 ++ functions_in (elifs_of more last))
 
 -- the number moves on over an `elif`, and over the suite after the last
 pub next_elif_number : (bs : List BranchParts) (i : ℕ) (b : BranchParts) (last : tree.Stmts) (now then all : ℕ) → i < length bs → get_or bs i b ≡ b → then ≡ now + length (functions_in (branch_of b).1)

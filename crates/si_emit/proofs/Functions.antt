@@ -1,47 +1,66 @@
 -- The functions of a script, one after the other.
 use Rattle.std.proofs.Common.{◌≡◌, ℕ, ◌+◌, ◌<◌, ◌≤◌, List, [], ◌∷◌, ◌++◌, map, length, drop, get_or, Option, Some, None, string_bytes, refl, sym, ap, subst, ◌∙◌, append_assoc, append-nil, length-append, arith}
+use Rattle.std.specs.List.{filter_map, fold}
 use Rattle.std.specs.Prelude.{slice_get}
 use Rattle.std.specs.Option.{option_map}
 use Rattle.std.proofs.lemmas.List.{drop_all, length-map, map-append}
+use Rattle.std.proofs.lemmas.List.Elements.{filter_map-append}
+use Rattle.std.proofs.lemmas.List.Sums.{fold-append}
 use Rattle.std.proofs.lemmas.Option.{slice_get-map}
+use Rattle.si_plain.specs.Names.{with_name}
 use Rattle.si_semantics.specs.Value.{Text, Nothing}
 use Rattle.si_semantics.specs.Tree as tree
 use Rattle.si_semantics.specs.Tree.{Function, Stmts, functions_of, functions_in, functions_in_clauses}
-use Rattle.si_semantics.specs.Grammar.{elifs_of, clauses_of, Branch as BranchTree}
+use Rattle.si_semantics.specs.Grammar.{elifs_of, clauses_of}
 use Rattle.si_semantics.specs.Scope.{locals_of}
 use Rattle.si_syntax.specs.declared.stmt.Branch.{Branch}
 use Rattle.si_syntax.specs.declared.stmt.Clause.{Clause}
 use Rattle.si_syntax.specs.declared.stmt.Define.{Define}
 use Rattle.si_syntax.specs.declared.stmt.Finally.{Finally, out-Finally}
-use Rattle.si_syntax.specs.declared.stmt.For.{For}
 use Rattle.si_syntax.specs.declared.stmt.Stmt.{Stmt}
 use Rattle.si_syntax.specs.declared.stmt.Stmt.TheVariants as stmts
-use Rattle.si_syntax.specs.declared.stmt.Try.{Try, out-Try}
-use Rattle.si_syntax.specs.declared.stmt.While.{While}
-use Rattle.si_syntax.specs.Trees.{expr_of, target_of, stmt_of, body_of, branch_of, clause_of, while_of, for_of, tried_of, try_of, finally_of}
+use Rattle.si_syntax.specs.Trees.{stmt_of, body_of, branch_of, clause_of, tried_of, try_of, finally_of}
 use Rattle.si_syntax.proofs.Forms.{define_is}
 use Rattle.si_syntax.proofs.Rows.{rest_is}
 use Rattle.si_slots.specs.Code.{stmts_code, function_code, functions_code, entries_from, module_code, compiled}
 use Rattle.si_slots.specs.Contents.{Contents}
 use Rattle.si_slots.specs.Machine as machine
 use Rattle.si_slots.specs.declared.routine.Routine.{Routine}
-use Rattle.si_slots.specs.Views.{code_of, entry_of, entries_of, table_of, Gains}
+use Rattle.si_slots.specs.Views.{code_of, entry_of, entries_of, literal_of, name_of, table_of, Gains}
 use Rattle.si_slots.proofs.Gained.{Gains-append, length-code_of}
 use Rattle.si_emit.specs.inner.Functions.{StandAt, GainsRoutines, GainsFunctions}
+use Rattle.si_emit.proofs.Seen.{finally_seen, elif_defines}
 
 -- ---- code and routines that a table gains
 
+-- but for whose code is being added, a table is as another
+record Matches (a b : Contents) : Type 0 where
+  pub lines : code_of b ≡ code_of a
+  pub literals : b.literals ≡ a.literals
+  pub names : b.names ≡ a.names
+  pub routines : b.routines ≡ a.routines
+
+matches_itself : (a : Contents) → Matches a a
+matches_itself a = record { lines = refl; literals = refl; names = refl; routines = refl }
+
+closed_matches : (a b : Contents) → b ≡ record a { current = 0 } → Matches a b
+closed_matches a b closed = record { lines = ap code_of closed; literals = ap (λ t. t.literals) closed; names = ap (λ t. t.names) closed; routines = ap (λ t. t.routines) closed }
+
 -- code without functions, between two changes of whose code is being added
-Gains-between : (a b c d : Contents) (xs : List machine.Instr) → code_of b ≡ code_of a → b.routines ≡ a.routines → Gains b c xs → code_of d ≡ code_of c → d.routines ≡ c.routines → GainsRoutines a d xs []
-Gains-between a b c d xs before routines h after kept = record {
-  lines = after ∙ h.lines ∙ ap (λ l. l ++ xs) before;
-  more = ap (map entry_of) (kept ∙ h.routines ∙ routines) ∙ sym (append-nil (entries_of a));
+Gains-between : (a b c d : Contents) (xs : List machine.Instr) → Matches a b → Gains b c xs → Matches c d → GainsRoutines a d xs []
+Gains-between a b c d xs before h after = record {
+  lines = after.lines ∙ h.lines ∙ ap (λ l. l ++ xs) before.lines;
+  literals = after.literals ∙ h.literals ∙ ap (λ l. l ++ filter_map literal_of xs) before.literals;
+  names = after.names ∙ h.names ∙ ap (λ l. fold with_name l (filter_map name_of xs)) before.names;
+  more = ap (map entry_of) (after.routines ∙ h.routines ∙ before.routines) ∙ sym (append-nil (entries_of a));
 }
 
 -- code and functions, and then more of both
 GainsRoutines-append : (a b c : Contents) (xs ys : List machine.Instr) (es fs : List machine.Entry) → GainsRoutines a b xs es → GainsRoutines b c ys fs → GainsRoutines a c (xs ++ ys) (es ++ fs)
 GainsRoutines-append a b c xs ys es fs h k = record {
   lines = k.lines ∙ ap (λ l. l ++ ys) h.lines ∙ append_assoc (code_of a) xs ys;
+  literals = k.literals ∙ ap (λ l. l ++ filter_map literal_of ys) h.literals ∙ append_assoc a.literals (filter_map literal_of xs) (filter_map literal_of ys) ∙ ap (λ l. a.literals ++ l) (sym (filter_map-append literal_of xs ys));
+  names = k.names ∙ ap (λ l. fold with_name l (filter_map name_of ys)) h.names ∙ sym (fold-append with_name a.names (filter_map name_of xs) (filter_map name_of ys)) ∙ ap (fold with_name a.names) (sym (filter_map-append name_of xs ys));
   more = k.more ∙ ap (λ l. l ++ fs) h.more ∙ append_assoc (entries_of a) es fs;
 }
 
@@ -49,39 +68,12 @@ GainsRoutines-append a b c xs ys es fs h k = record {
 pub code_gains : (a b c d e : Contents) (xs ys : List machine.Instr) (frames : List (List Text)) (number : ℕ) → b ≡ record a { frames = frames; current = number } → code_of b ≡ code_of a → Gains b c xs → Gains c d ys → e ≡ record d { current = 0 }
     → GainsRoutines a e (xs ++ ys) []
 code_gains a b c d e xs ys frames number opened same h k closed =
-    Gains-between a b d e (xs ++ ys) same (ap (λ t. t.routines) opened) (Gains-append b c d xs ys h k) (ap code_of closed) (ap (λ t. t.routines) closed)
+    let before : Matches a b = record { lines = same; literals = ap (λ t. t.literals) opened; names = ap (λ t. t.names) opened; routines = ap (λ t. t.routines) opened } in
+    Gains-between a b d e (xs ++ ys) before (Gains-append b c d xs ys h k) (closed_matches d e closed)
 
 -- the code of the statements of a script
 pub body_gains : (a b c d : Contents) (xs ys : List machine.Instr) → b ≡ record a { current = 0 } → Gains b c xs → Gains c d ys → GainsRoutines a d (xs ++ ys) []
-body_gains a b c d xs ys closed h k = Gains-between a b d d (xs ++ ys) (ap code_of closed) (ap (λ t. t.routines) closed) (Gains-append b c d xs ys h k) refl refl
-
--- ---- the tree that a statement stands for, by parts that are read from it
-
-pub while_seen : (w : While) (ss ends : List Stmt) → ss ≡ w.body.items → ends ≡ w.last.items → while_of w ≡ tree.While (expr_of w.test) (body_of ss) (body_of ends)
-while_seen w ss ends suite end =
-    ap (λ l. tree.While (expr_of w.test) (body_of l) (body_of w.last.items)) (sym suite) ∙ ap (λ l. tree.While (expr_of w.test) (body_of ss) (body_of l)) (sym end)
-
-pub for_seen : (f : For) (ss ends : List Stmt) → ss ≡ f.body.items → ends ≡ f.last.items → for_of f ≡ tree.For (target_of f.target) (expr_of f.items) (body_of ss) (body_of ends)
-for_seen f ss ends suite end =
-    ap (λ l. tree.For (target_of f.target) (expr_of f.items) (body_of l) (body_of f.last.items)) (sym suite)
-    ∙ ap (λ l. tree.For (target_of f.target) (expr_of f.items) (body_of ss) (body_of l)) (sym end)
-
-pub try_seen : (t : Try) (ss ends : List Stmt) (cs : List Clause) → ss ≡ (out-Try t).body.items → cs ≡ (out-Try t).clauses.items → ends ≡ (out-Try t).last.items
-    → try_of t ≡ tree.Try (body_of ss) (clauses_of (map clause_of cs)) (body_of ends)
-try_seen t ss ends cs suite all end =
-    ap (λ l. tree.Try (body_of l) (clauses_of (tried_of t).1) (tried_of t).2) (sym suite)
-    ∙ ap (λ l. tree.Try (body_of ss) (clauses_of (map clause_of l)) (tried_of t).2) (sym all)
-    ∙ ap (λ l. tree.Try (body_of ss) (clauses_of (map clause_of cs)) (body_of l)) (sym end)
-
-finally_seen : (f : Finally) (ss : List Stmt) → ss ≡ (out-Finally f).end.items
-    → finally_of f ≡ tree.Finally (tried_of (out-Finally f).tried).0 (clauses_of (tried_of (out-Finally f).tried).1) (tried_of (out-Finally f).tried).2 (body_of ss)
-finally_seen f ss suite =
-    let t = tried_of (out-Finally f).tried in
-    ap (λ l. tree.Finally t.0 (clauses_of t.1) t.2 (body_of l)) (sym suite)
-
--- those after an `if` are those of the next `elif`, and of what stands after that
-elif_defines : (b : BranchTree) (more : List BranchTree) (last : Stmts) → functions_in (elifs_of (b ∷ more) last) ≡ functions_in b.1 ++ functions_in (elifs_of more last)
-elif_defines b more last = append-nil (functions_in b.1 ++ functions_in (elifs_of more last))
+body_gains a b c d xs ys closed h k = Gains-between a b d d (xs ++ ys) (closed_matches a b closed) (Gains-append b c d xs ys h k) (matches_itself d)
 
 get_here : {A : Type 0} (xs : List A) (y : A) (ys : List A) → slice_get (xs ++ y ∷ ys) (length xs) ≡ Some y
 get_here [] y ys = refl
@@ -106,7 +98,7 @@ pub length_with : {a b : Contents} {code : List machine.Instr} {entries : List m
 length_with {a} {b} {code} {entries} h = omega (arith, ap length h.lines, length-append (code_of a) code, length-code_of a, length-code_of b)
 
 pub functions_none : (t : Contents) → GainsFunctions t t []
-functions_none t = record { lines = sym (append-nil (code_of t)); more = sym (append-nil (entries_of t)) }
+functions_none t = record { lines = sym (append-nil (code_of t)); literals = sym (append-nil t.literals); names = refl; more = sym (append-nil (entries_of t)) }
 
 pub functions_more : (a b c : Contents) (fs gs : List Function) → GainsFunctions a b fs → GainsFunctions b c gs → GainsFunctions a c (fs ++ gs)
 functions_more a b c fs gs h k =
@@ -265,6 +257,8 @@ routine_gains {a} {b} {c} xs at k n parameters locals here many names h is =
     let same : entry at k n ≡ entry (length a.lines) parameters locals = ap (λ x. entry x k n) here ∙ ap (λ y. entry (length a.lines) y n) many ∙ ap (entry (length a.lines) parameters) names in
     let put : GainsRoutines a (record b { routines = b.routines ++ r ∷ [] }) xs (entry at k n ∷ []) = record {
       lines = h.lines;
+      literals = h.literals;
+      names = h.names;
       more = map-append entry_of b.routines (r ∷ []) ∙ ap (λ l. l ++ entry at k n ∷ []) (h.more ∙ append-nil (entries_of a));
     } in
     subst (λ t. GainsRoutines a t xs (entry (length a.lines) parameters locals ∷ [])) (sym is) (subst (λ e. GainsRoutines a (record b { routines = b.routines ++ r ∷ [] }) xs (e ∷ [])) same put)

@@ -5,6 +5,7 @@ pub mod Places
 pub mod Conditions
 pub mod LoopCode
 pub mod Alone
+pub mod Seen
 pub mod Functions
 pub mod TryCode
 pub mod Tried

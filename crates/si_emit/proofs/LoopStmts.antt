@@ -1,5 +1,5 @@
 -- The code of loops, of their parts.
-use Rattle.std.proofs.Common.{◌≡◌, ℕ, ◌+◌, ◌-◌, ◌≤◌, List, [], ◌∷◌, ◌++◌, length, sym, ap, subst, ◌∙◌, length-append, arith}
+use Rattle.std.proofs.Common.{◌≡◌, ℕ, ◌+◌, ◌-◌, ◌≤◌, List, [], ◌∷◌, ◌++◌, length, ap, subst, ◌∙◌, length-append, arith}
 use Rattle.si_semantics.specs.Value.{Text}
 use Rattle.si_semantics.specs.Scope.{place_of}
 use Rattle.si_semantics.specs.Tree as tree
@@ -8,7 +8,7 @@ use Rattle.si_syntax.specs.declared.expr.Expr.{Expr}
 use Rattle.si_syntax.specs.declared.stmt.For.{For}
 use Rattle.si_syntax.specs.declared.stmt.Stmt.{Stmt}
 use Rattle.si_syntax.specs.declared.stmt.While.{While}
-use Rattle.si_syntax.specs.Trees.{body_of, expr_of, for_of, target_of, while_of}
+use Rattle.si_syntax.specs.Trees.{body_of, expr_of, for_of, target_of}
 use Rattle.si_slots.specs.Machine as machine
 use Rattle.si_slots.specs.Machine.{ToTemporary}
 use Rattle.si_slots.specs.Code.{condition_code, expr_code, in_place, stmt_code, stmts_code}
@@ -19,19 +19,14 @@ use Rattle.si_slots.proofs.Gained.{length_gained}
 use Rattle.si_emit.specs.inner.Fronts.{front, held}
 use Rattle.si_emit.specs.inner.Turns.{turn_code, bound_code, next_code}
 use Rattle.si_emit.proofs.Fronts.{single_is}
+use Rattle.si_emit.proofs.Seen.{for_seen}
 use Rattle.si_emit.proofs.LoopCode.{entry, while_gains, for_gains}
 use Rattle.si_emit.proofs.Tried.{same_gains, same_number}
 use Rattle.si_emit.proofs.Elifs.{two_number}
 
-pub while_seen : (w : While) (ss ends : List Stmt) → ss ≡ w.body.items → ends ≡ w.last.items → while_of w ≡ tree.While (expr_of w.test) (body_of ss) (body_of ends)
-while_seen w ss ends suite end =
-    ap (λ l. tree.While (expr_of w.test) (body_of l) (body_of w.last.items)) (sym suite) ∙ ap (λ l. tree.While (expr_of w.test) (body_of ss) (body_of l)) (sym end)
-
-pub for_seen : (f : For) (x : Text) (ss ends : List Stmt) → target_of f.target ≡ tree.Named x → ss ≡ f.body.items → ends ≡ f.last.items → for_of f ≡ tree.For (tree.Named x) (expr_of f.items) (body_of ss) (body_of ends)
-for_seen f x ss ends bound suite end =
-    ap (λ g. tree.For g (expr_of f.items) (body_of f.body.items) (body_of f.last.items)) bound
-    ∙ ap (λ l. tree.For (tree.Named x) (expr_of f.items) (body_of l) (body_of f.last.items)) (sym suite)
-    ∙ ap (λ l. tree.For (tree.Named x) (expr_of f.items) (body_of ss) (body_of l)) (sym end)
+-- a `for` whose target is a name
+pub named_for_seen : (f : For) (x : Text) (ss ends : List Stmt) → target_of f.target ≡ tree.Named x → ss ≡ f.body.items → ends ≡ f.last.items → for_of f ≡ tree.For (tree.Named x) (expr_of f.items) (body_of ss) (body_of ends)
+named_for_seen f x ss ends bound suite end = for_seen f ss ends suite end ∙ ap (λ g. tree.For g (expr_of f.items) (body_of ss) (body_of ends)) bound
 
 -- a `while` of its parts; the functions of the else suite are numbered after those of the suite
 pub while_stmt : {t0 t1 t2 t3 t4 t5 : Contents} (ls : List Text) (first then : ℕ) (test : Expr) (ss ends : List Stmt) (t : tree.Stmt) (start body turn : ℕ) → t ≡ tree.While (expr_of test) (body_of ss) (body_of ends)

@@ -9,12 +9,12 @@ use Rattle.si_semantics.specs.Tree.{Expr, functions_in, functions_in_clauses, fu
 use Rattle.si_semantics.specs.Grammar.{clauses_of}
 use Rattle.si_plain.proofs.Begins.{length-Begins}
 use Rattle.si_slots.specs.Machine as machine
-use Rattle.si_slots.specs.Machine.{Instr, Temporary, ToTemporary, ToJump, Ahead}
+use Rattle.si_slots.specs.Machine.{Instr, Temporary, ToTemporary, Ahead}
 use Rattle.si_syntax.specs.declared.stmt.Clause.{Clause as ClauseParts}
-use Rattle.si_syntax.specs.declared.stmt.Finally.{Finally, out-Finally}
+use Rattle.si_syntax.specs.declared.stmt.Finally.{Finally}
 use Rattle.si_syntax.specs.declared.stmt.Stmt.{Stmt}
-use Rattle.si_syntax.specs.declared.stmt.Try.{Try, out-Try}
-use Rattle.si_syntax.specs.Trees.{body_of, clause_of, tried_of, try_of, finally_of}
+use Rattle.si_syntax.specs.declared.stmt.Try.{Try}
+use Rattle.si_syntax.specs.Trees.{body_of, clause_of}
 use Rattle.si_syntax.proofs.Rows.{rest_is}
 use Rattle.si_slots.specs.Code.{stmt_code, stmts_code, finally_code, named_code, bind_code, unbind_code, clause_code, clauses_code, try_code}
 use Rattle.si_slots.specs.Contents.{Contents, Extends}
@@ -32,19 +32,6 @@ same_gains {t0} {t1} ls first t u same h = subst (λ x. Gains t0 t1 (stmt_code l
 
 pub same_number : (now first : ℕ) (t u : tree.Stmt) → t ≡ u → now ≡ first + length (functions_of u) → now ≡ first + length (functions_of t)
 same_number now first t u same h = subst (λ x. now ≡ first + length (functions_of x)) (sym same) h
-
-pub try_seen : (t : Try) (ss ends : List Stmt) (cs : List ClauseParts) → ss ≡ (out-Try t).body.items → cs ≡ (out-Try t).clauses.items → ends ≡ (out-Try t).last.items
-    → try_of t ≡ tree.Try (body_of ss) (clauses_of (map clause_of cs)) (body_of ends)
-try_seen t ss ends cs suite all end =
-    ap (λ l. tree.Try (body_of l) (clauses_of (tried_of t).1) (tried_of t).2) (sym suite)
-    ∙ ap (λ l. tree.Try (body_of ss) (clauses_of (map clause_of l)) (tried_of t).2) (sym all)
-    ∙ ap (λ l. tree.Try (body_of ss) (clauses_of (map clause_of cs)) (body_of l)) (sym end)
-
-pub finally_seen : (f : Finally) (ss : List Stmt) → ss ≡ (out-Finally f).end.items
-    → finally_of f ≡ tree.Finally (tried_of (out-Finally f).tried).0 (clauses_of (tried_of (out-Finally f).tried).1) (tried_of (out-Finally f).tried).2 (body_of ss)
-finally_seen f ss suite =
-    let t = tried_of (out-Finally f).tried in
-    ap (λ l. tree.Finally t.0 (clauses_of t.1) t.2 (body_of l)) (sym suite)
 
 -- what stands in front of a place stays, where a table ended there
 pub place_stays : {front old new : Contents} {at : ℕ} → ((c : Contents) → length c.lines ≤ at → Extends c old → Extends c new) → (seen : Contents) → at ≡ length seen.lines → Extends front seen → Extends front old → Extends front new

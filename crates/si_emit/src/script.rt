@@ -25,6 +25,8 @@ use std::alloc::AllocError;
 /// instructions. The table then is as it was.
 pub fn compile(tree: &Scoped, table: &mut CodeTable) -> Result<usize, NoMemory>
     ensures ok { IfOk result (λ at. (table_of table.new, at) ≡ compiled (table_of table.old) (record { body = script_of tree.now })) }
+    ensures gains { let functions = functions_in (script_of tree.now) in
+        OnOk result (GainsRoutines table.old table.new (functions_code functions ++ module_code (length table.old.routines) (script_of tree.now)) (entries_from (length table.old.lines) functions)) }
     ensures extends { OnOk result (Extends table.old table.new) }
     ensures err { OnErr result (table.new ≡ table.old) }
 {

@@ -28,3 +28,4 @@ pub use instr::Instr;
 pub use operand::{Aim, Constant, Source, Target};
 pub use routine::Routine;
 pub use table::{CodeTable, Mark};
+pub use unpack::{jump_at, source_at, target_at, temporary_at};

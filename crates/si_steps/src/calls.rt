@@ -31,6 +31,7 @@ impl State {
 
     // A call of a value that is no function of a script. Room for its value is made first, so that none is asked for once
     // it is there.
+    #[inline(never)]
     fn call_provided(&mut self, callee: Ref, target: Target, at: u32, count: u32) -> Step
         ghost p: { Moment }
         requires ready { IsReady (machine.Call (target_of target) at count) self.old p }

@@ -24,6 +24,7 @@ mod machine;
 mod names;
 mod raising;
 mod reading;
+mod short;
 mod state;
 mod step;
 mod tries;

@@ -102,6 +102,7 @@ impl Machine {
     }
 
     /// One instruction.
+    #[inline(always)]
     pub fn step(&mut self) -> Step
         ghost c: { Course }
         requires stands { Stands c self.old }

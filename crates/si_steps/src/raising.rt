@@ -13,6 +13,7 @@ use si_stacks::{Block, Leaving};
 
 impl State {
     /// An operation raises an exception.
+    #[inline(never)]
     pub fn raise(&mut self, cause: Cause) -> Step
         ghost p: { Moment }
         requires ready { IsUnderWay self.old p }
@@ -28,6 +29,7 @@ impl State {
 
     /// Leaves what was entered by the exception at an address: for the innermost except clauses or finally suite, also
     /// of a caller, else the run ends.
+    #[inline(never)]
     pub fn leave_raised(&mut self, address: usize) -> Step
         ghost p: { Moment }
         requires ready { IsUnderWay self.old p }

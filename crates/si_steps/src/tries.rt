@@ -14,6 +14,7 @@ use si_stacks::Block;
 
 impl State {
     /// Into the suite of a `try`.
+    #[inline(never)]
     pub fn enter_try(&mut self, count: u32) -> Step
         ghost p: { Moment }
         requires ready { IsReady (machine.EnterTry count) self.old p }
@@ -25,6 +26,7 @@ impl State {
     }
 
     /// Into what stands in front of a finally suite.
+    #[inline(never)]
     pub fn enter_finally(&mut self, count: u32) -> Step
         ghost p: { Moment }
         requires ready { IsReady (machine.EnterFinally count) self.old p }

@@ -12,7 +12,8 @@ use Rattle.si_semantics.specs.Tree.{functions_in}
 use Rattle.si_syntax.specs.Trees.{body_of, branch_of, expr_of, others_of}
 use Rattle.si_emit.specs.inner.Silence.{silent_suite}
 use Rattle.si_emit.proofs.Silent.{loud_code}
-use Rattle.si_emit.proofs.LoopStmts.{while_seen, while_stmt, loop_number, for_seen, for_stmt, for_number, entry_behind}
+use Rattle.si_emit.proofs.Seen.{while_seen, try_seen, finally_seen}
+use Rattle.si_emit.proofs.LoopStmts.{while_stmt, loop_number, named_for_seen, for_stmt, for_number, entry_behind}
 use Rattle.si_plain.proofs.Lengths.{empty, not_empty}
 use Rattle.si_slots.specs.Machine as machine
 use Rattle.si_slots.specs.Code.{stmts_code, named_code}
@@ -22,7 +23,7 @@ use Rattle.si_slots.proofs.Growth.{Extends-same}
 use Rattle.si_emit.proofs.Branches.{MakesAll-step, all_aimed}
 use Rattle.si_emit.proofs.LoopCode.{put_extends}
 use Rattle.si_emit.proofs.TryCode.{clause_test_behind}
-use Rattle.si_emit.proofs.Tried.{front_gains, finally_seen, finally_stmt, finally_number, finally_gains, try_seen, plain_try, plain_number, tried_stmt, tried_number, tried_gains, tried_front, entered_gains, with_clauses, stays, place_stays, jump_more, nameless_suite, named_suite, tested_clause, next_clause, next_clause_number, last_clause_number, clause_behind, clauses_end, no_items, some_items}
+use Rattle.si_emit.proofs.Tried.{front_gains, finally_stmt, finally_number, finally_gains, plain_try, plain_number, tried_stmt, tried_number, tried_gains, tried_front, entered_gains, with_clauses, stays, place_stays, jump_more, nameless_suite, named_suite, tested_clause, next_clause, next_clause_number, last_clause_number, clause_behind, clauses_end, no_items, some_items}
 use Rattle.si_emit.proofs.Elifs.{next_stmt, last_stmt, next_number, last_number, opens_kept, skips_over, jump_at, if_gains, alone_gains, next_elif, last_elif, elifs_end, next_elif_number, last_elif_number, two_number, alone_number, end_behind, follows, none_left, stays_quiet}
 use Rattle.si_emit.proofs.+stmts.Goals as goal
 
@@ -370,7 +371,7 @@ repeats::emit_while-returns-clause-extends t c =
 
 pub repeats::emit_for-returns-clause-ok : goal.repeats::emit_for-returns-clause-ok
 repeats::emit_for-returns-clause-ok t c =
-    let seen = for_seen c.args.statement.now c.bound_by-name.result.now c.deref.result.now c.deref-2.result.now c.bound_by-name.ensures c.deref.ensures.value c.deref-2.ensures.value in
+    let seen = named_for_seen c.args.statement.now c.bound_by-name.result.now c.deref.result.now c.deref-2.result.now c.bound_by-name.ensures c.deref.ensures.value c.deref-2.ensures.value in
     on_ok_weaker c.aim_loop.result
     (for_stmt c.args.locals.now _ _ c.bound_by-name.result.now c.args.statement.now.items c.deref.result.now c.deref-2.result.now _ c.in_ok-entry.entry c.len-item.result seen c.in_ok-emit_suite.ensures.next
     c.in_ok-entry.ensures.at c.len-item.ensures c.in_ok-entry.ensures.ok c.in_ok-emit_suite.ensures.ok c.in_ok-emit_next.ensures.ok c.in_ok-emit_suite-2.ensures.ok)
@@ -378,7 +379,7 @@ repeats::emit_for-returns-clause-ok t c =
 
 pub repeats::emit_for-returns-clause-next : goal.repeats::emit_for-returns-clause-next
 repeats::emit_for-returns-clause-next t c =
-    let seen = for_seen c.args.statement.now c.bound_by-name.result.now c.deref.result.now c.deref-2.result.now c.bound_by-name.ensures c.deref.ensures.value c.deref-2.ensures.value in
+    let seen = named_for_seen c.args.statement.now c.bound_by-name.result.now c.deref.result.now c.deref-2.result.now c.bound_by-name.ensures c.deref.ensures.value c.deref-2.ensures.value in
     on_ok_weaker c.aim_loop.result (λ bounds. for_number _ _ _ c.bound_by-name.result.now c.args.statement.now.items c.deref.result.now c.deref-2.result.now _ seen c.in_ok-emit_suite.ensures.next c.in_ok-emit_suite-2.ensures.next) c.aim_loop.ensures.ok
 
 pub repeats::emit_for-returns-clause-extends : goal.repeats::emit_for-returns-clause-extends

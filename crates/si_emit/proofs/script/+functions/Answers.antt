@@ -10,7 +10,8 @@ use Rattle.si_semantics.specs.Grammar.{elifs_of}
 use Rattle.si_semantics.specs.Tree.{functions_in, functions_of}
 use Rattle.si_slots.proofs.Gained.{Extends-trans}
 use Rattle.si_slots.proofs.Growth.{Extends-same}
-use Rattle.si_emit.proofs.Functions.{while_seen, for_seen, try_seen, walk_from, stmt_stands, elif_stands, functions_none, walk_begins, walk_more, walk_gains, walk_number, stmts_rest, stmts_none, elifs_rest, elifs_last, locals_at, not_missing, found_is, define_functions, part_stands, rest_stands, all_stand, both_gain, both_pass, finally_front, clauses_rest, clauses_none, clause_stands, Handled}
+use Rattle.si_emit.proofs.Seen.{while_seen, for_seen, try_seen}
+use Rattle.si_emit.proofs.Functions.{walk_from, stmt_stands, elif_stands, functions_none, walk_begins, walk_more, walk_gains, walk_number, stmts_rest, stmts_none, elifs_rest, elifs_last, locals_at, not_missing, found_is, define_functions, part_stands, rest_stands, all_stand, both_gain, both_pass, finally_front, clauses_rest, clauses_none, clause_stands, Handled}
 use Rattle.si_emit.proofs.script.+functions.Goals as goal
 
 pub emit_functions-loop-stmt-init : goal.emit_functions-loop-stmt-init

@@ -1,4 +1,4 @@
 use Rattle.si_steps.proofs.state.State.step.Given as goal
 
-abbrev pub ghost-execute : goal.ghost-execute
-ghost-execute g a = g.p
+abbrev pub ghost-execute_short : goal.ghost-execute_short
+ghost-execute_short g a = g.p
