@@ -30,6 +30,54 @@ try:
 except Exception as e:
     print(repr(e))
 try:
+    int()
+except Exception as e:
+    print(repr(e))
+try:
+    bool()
+except Exception as e:
+    print(repr(e))
+try:
+    abs(-9223372036854775807 - 1)
+except Exception as e:
+    print(repr(e))
+try:
+    int('9223372036854775808')
+except Exception as e:
+    print(repr(e))
+try:
+    int('\u0663')
+except Exception as e:
+    print(repr(e))
+try:
+    int('\x1c7')
+except Exception as e:
+    print(repr(e))
+try:
+    int('9' * 5000)
+except Exception as e:
+    print(repr(e))
+try:
+    int('12', 8)
+except Exception as e:
+    print(repr(e))
+try:
+    chr(55296)
+except Exception as e:
+    print(repr(e))
+try:
+    chr(1 << 31)
+except Exception as e:
+    print(repr(e))
+try:
+    min('ba')
+except Exception as e:
+    print(repr(e))
+try:
+    max('ba')
+except Exception as e:
+    print(repr(e))
+try:
     print('a', end='')
 except Exception as e:
     print(repr(e))
@@ -54,7 +102,7 @@ try:
 except Exception as e:
     print(repr(e))
 try:
-    len
+    sum
 except Exception as e:
     print(repr(e))
 __debug__ = 'é'

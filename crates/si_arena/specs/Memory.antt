@@ -27,6 +27,14 @@ built_in_of built.Print = pure.Print
 built_in_of built.Range = pure.MakeRange
 built_in_of built.Str = pure.MakeStr
 built_in_of built.Repr = pure.Repr
+built_in_of built.Len = pure.Len
+built_in_of built.Bool = pure.MakeBool
+built_in_of built.Abs = pure.Abs
+built_in_of built.Int = pure.MakeInt
+built_in_of built.Ord = pure.Ord
+built_in_of built.Chr = pure.Chr
+built_in_of built.Min = pure.Min
+built_in_of built.Max = pure.Max
 
 -- what a value denotes; of what denotes none, None
 abbrev pub value_of : Memory → Ref → pure.Value

@@ -11,6 +11,14 @@ pub enum BuiltIn {
     Range,
     Str,
     Repr,
+    Len,
+    Bool,
+    Abs,
+    Int,
+    Ord,
+    Chr,
+    Min,
+    Max,
 }
 
 /// Which row of the arena has room for a text: the narrow one for characters below 256 alone.

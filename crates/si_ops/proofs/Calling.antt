@@ -1,5 +1,5 @@
 -- Calls that go as their definitions.
-use Rattle.std.proofs.Common.{◌≡◌, ℕ, ◌+◌, ◌<◌, ◌≤◌, List, [], ◌∷◌, length, get_or, Bool, true, false, cond, Option, Some, None, Result, Ok, Err, refl, sym, ap, ◌∙◌, arith, nat_lt, lt-ltb}
+use Rattle.std.proofs.Common.{◌≡◌, ℕ, ◌+◌, ◌<◌, ◌≤◌, List, [], ◌∷◌, length, get_or, Bool, true, false, cond, Option, Some, None, Result, Ok, Err, refl, sym, ap, subst, ◌∙◌, arith, nat_lt, lt-ltb}
 use Rattle.std.specs.declared.string.String.{String}
 use Rattle.std.specs.String.{string_bytes, string_len, string_capacity}
 use Rattle.si_plain.specs.declared.kind.Kind.{Kind}
@@ -14,10 +14,13 @@ use Rattle.si_arena.specs.declared.cause.Cause.TheVariants.{Arithmetic, TooLong,
 use Rattle.si_arena.specs.declared.cause.Fault.{Fault}
 use Rattle.si_arena.specs.declared.cause.Fault.TheVariants.{Raises, NoMemory}
 use Rattle.si_arena.specs.Memory.{Memory, value_of, all_of, PlacesText}
+use Rattle.si_arena.proofs.Lying.{extends_same}
+use Rattle.si_ops.specs.declared.calls.Called.{Called}
 use Rattle.si_ops.specs.declared.calls.Called.TheVariants.{Value}
-use Rattle.si_ops.specs.Runs.{Throws, Runs}
+use Rattle.si_ops.specs.Runs.{Throws, Tells, Runs}
 use Rattle.si_ops.specs.Writing.{Appends, IsUnwritten}
-use Rattle.si_ops.specs.Calls.{Makes, Calls, IsSaid}
+use Rattle.si_ops.specs.Operands.{IsTold}
+use Rattle.si_ops.specs.Calls.{Makes, Calls, IsSaid, call_of}
 
 -- ---- how many arguments
 
@@ -43,6 +46,19 @@ calls_ok f old new s t r h e = (makes_runs f old new (Ok r) h, e)
 
 pub calls_err : {Z : Type 0} (f : World → Ran) (old new : Memory) (s t : String Z) (fault : Fault) → Runs f old new (Err fault) → string_bytes t ≡ string_bytes s → Calls f old new s t (Err fault)
 calls_err f old new s t fault h e = (makes_runs f old new (Err fault) h, e)
+
+-- what takes no memory makes no object
+pub calls_told : {Z : Type 0} (f : World → Ran) (m : Memory) (s : String Z) (answer : Result Ref Cause) (r : Result Called Fault) → r ≡ call_of answer → Tells f m answer → Calls f m m s s r
+calls_told f m s answer r e h = subst (λ x. Calls f m m s s x) (sym e) (by answer h)
+  where
+    by : (answer : Result Ref Cause) → Tells f m answer → Calls f m m s s (call_of answer)
+    by (Ok v) h = calls_ok f m m s s v (h.0, h.1, extends_same m, refl) refl
+    by (Err cause) h = ((h, refl), refl)
+
+-- memory that was not refused for a value was not refused for the call
+pub said_of : (fault : Fault) → IsTold (Err fault) → IsSaid (Err fault)
+said_of (Raises cause) h = tt
+said_of NoMemory h = h
 
 -- ---- texts
 

@@ -35,7 +35,7 @@ differ_long (c ∷ cs) [] h = refl
 differ_long (c ∷ cs) (d ∷ ds) h = elim (nat_eq c d) as (λ b. (b && same_text cs ds) ≡ false) [ true ↦ differ_long cs ds (λ e. h (ap suc e)) | false ↦ refl ]
 
 -- from one index on
-behind : (s : List ℕ) (i : ℕ) → i < length s → drop i s ≡ get_or s i 0 ∷ drop (i + 1) s
+pub behind : (s : List ℕ) (i : ℕ) → i < length s → drop i s ≡ get_or s i 0 ∷ drop (i + 1) s
 behind s i h = drop-cons s i 0 h ∙ ap (λ k. get_or s i 0 ∷ drop k s) (sym (add-one i))
 
 both : {B : Type 0} (f : List ℕ → List ℕ → B) (s t x y : List ℕ) → s ≡ x → t ≡ y → f s t ≡ f x y

@@ -75,7 +75,7 @@ text_behind old new t start e p = text_at old new t start e p.bytes
 -- ---- what was added, by its length
 
 -- what a `?` hands on
-pub passed : {U : Type 0} (r : Result U Fault) (P : Result U Fault → Type 0) (e : Fault) → IsErrAnd r (λ f. f ≡ e) → P (Err e) → P r
+pub passed : {U F : Type 0} (r : Result U F) (P : Result U F → Type 0) (e : F) → IsErrAnd r (λ f. f ≡ e) → P (Err e) → P r
 passed r P e h p = let q = err_from_is_err_and r h in subst P (sym (q.1 ∙ ap Err q.2)) p
 
 some_of : (o : Option Text) → is_some o ≡ true → (t : Text) × (o ≡ Some t)

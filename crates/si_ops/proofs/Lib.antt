@@ -10,3 +10,5 @@ pub mod Ends
 pub mod Named
 pub mod Lines
 pub mod Calling
+pub mod Reading
+pub mod Providing

@@ -1,15 +1,18 @@
 -- Names by their characters.
-use Rattle.std.proofs.Common.{◌≡◌, ℕ, zero, suc, ◌+◌, ◌<◌, Bool, true, false, cond, List, [], ◌∷◌, length, drop, get_or, Option, Some, None, option_map, encode_utf8_all, refl, sym, ap, ◌∙◌, arith, add-one}
+use Rattle.std.proofs.Common.{◌≡◌, ℕ, zero, suc, ◌+◌, ◌<◌, Bool, true, false, cond, List, [], ◌∷◌, length, drop, get_or, Option, Some, None, option_map, map, encode_utf8_all, refl, sym, ap, ap₂, ◌∙◌, arith, add-one}
 use Rattle.std.specs.Prelude.{codes, nat_eq, ◌&&◌, bytes_eq}
 use Rattle.std.specs.Str.{IsUtf8, chars}
 use Rattle.si_plain.specs.Characters.{characters_of}
 use Rattle.si_plain.specs.declared.kind.Kind.{Kind}
 use Rattle.si_plain.specs.declared.kind.Kind.TheVariants as kind
 use Rattle.si_plain.specs.Kinds.{name_of}
-use Rattle.si_semantics.specs.Value.{Text, Value, Str, Provided, Class, Print, MakeRange, MakeStr, Repr}
-use Rattle.si_semantics.specs.Text.{same_text}
-use Rattle.si_semantics.specs.Operations.{kind_named, built_in, built_in_kinds}
+use Rattle.si_semantics.specs.Value as pure
+use Rattle.si_semantics.specs.Value.{Text, Value, Str, Provided, Class}
+use Rattle.si_semantics.specs.Text.{same_text, built_in_name}
+use Rattle.si_semantics.specs.Operations.{kind_named, built_in, built_in_kinds, built_in_named, built_ins, or_else}
 use Rattle.si_semantics.specs.World.{first_world}
+use Rattle.si_arena.specs.declared.value.BuiltIn.{BuiltIn}
+use Rattle.si_arena.specs.Memory.{built_in_of}
 use Rattle.si_semantics.proofs.Names.{same_is, same_self, other_is}
 use Rattle.si_ops.proofs.Quoting.{encoded_characters}
 
@@ -56,6 +59,24 @@ name_characters kind.ExecutionFailed = refl
 name_characters kind.QueueEmpty = refl
 name_characters kind.QueueFull = refl
 
+-- the name of a built-in is ASCII
+built_in_characters : (b : pure.BuiltIn) → characters_of (built_in_name b) ≡ built_in_name b
+unfolding chars
+built_in_characters pure.Print = refl
+built_in_characters pure.MakeRange = refl
+built_in_characters pure.MakeStr = refl
+built_in_characters pure.Repr = refl
+built_in_characters pure.Len = refl
+built_in_characters pure.MakeBool = refl
+built_in_characters pure.Abs = refl
+built_in_characters pure.MakeInt = refl
+built_in_characters pure.Ord = refl
+built_in_characters pure.Chr = refl
+built_in_characters pure.Min = refl
+built_in_characters pure.Max = refl
+
+-- ---- kinds by their names
+
 turn : (x : Text) (kinds : List Kind) (d : Kind) (i : ℕ) → i < length kinds → kind_named x (drop i kinds) ≡ cond (same_text x (name_of (get_or kinds i d))) (Some (get_or kinds i d)) (kind_named x (drop (suc i) kinds))
 turn x [] d i l = absurd (omega arith)
 turn x (k ∷ kinds) d zero l = refl
@@ -76,23 +97,42 @@ passed_over x name kinds d i r same l h n e f = by_kind x name kinds d i r same 
 pub found_kind : (x name : List ℕ) (kinds : List Kind) (d : Kind) (i : ℕ) (r : Option Kind) (same : Bool) → i < length kinds → r ≡ kind_named x (drop i kinds) → name ≡ name_of (get_or kinds i d) → same ≡ same_text x (characters_of name) → same ≡ true → Some (get_or kinds i d) ≡ r
 found_kind x name kinds d i r same l h n e f = sym (by_kind x name kinds d i r same true l h n e f)
 
+-- ---- built-ins by their names
+
+built_in_turn : (x : Text) (bs : List BuiltIn) (d : BuiltIn) (i : ℕ) → i < length bs → built_in_named x (map built_in_of (drop i bs)) ≡ cond (same_text x (built_in_name (built_in_of (get_or bs i d)))) (Some (built_in_of (get_or bs i d))) (built_in_named x (map built_in_of (drop (suc i) bs)))
+built_in_turn x [] d i l = absurd (omega arith)
+built_in_turn x (b ∷ bs) d zero l = refl
+built_in_turn x (b ∷ bs) d (suc i) l = built_in_turn x bs d i (omega arith)
+
+-- by whether the next built-in has the name
+by_built_in : (x name : List ℕ) (bs : List BuiltIn) (d : BuiltIn) (i : ℕ) (r : Option pure.BuiltIn) (same b : Bool) → i < length bs → r ≡ built_in_named x (map built_in_of (drop i bs)) → name ≡ built_in_name (built_in_of (get_or bs i d)) → same ≡ same_text x (characters_of name) → same ≡ b → r ≡ cond b (Some (built_in_of (get_or bs i d))) (built_in_named x (map built_in_of (drop (suc i) bs)))
+by_built_in x name bs d i r same b l h n e f =
+    h ∙ built_in_turn x bs d i l
+    ∙ ap (λ t. cond t (Some (built_in_of (get_or bs i d))) (built_in_named x (map built_in_of (drop (suc i) bs))))
+    (ap (same_text x) (sym (ap characters_of n ∙ built_in_characters (built_in_of (get_or bs i d)))) ∙ sym e ∙ f)
+
+-- a built-in of another name is passed over
+pub other_built_in : (x name : List ℕ) (bs : List BuiltIn) (d : BuiltIn) (i : ℕ) (r : Option pure.BuiltIn) (same : Bool) → i < length bs → r ≡ built_in_named x (map built_in_of (drop i bs)) → name ≡ built_in_name (built_in_of (get_or bs i d)) → same ≡ same_text x (characters_of name) → same ≡ false → r ≡ built_in_named x (map built_in_of (drop (i + 1) bs))
+other_built_in x name bs d i r same l h n e f = by_built_in x name bs d i r same false l h n e f ∙ ap (λ j. built_in_named x (map built_in_of (drop j bs))) (sym (add-one i))
+
+-- the built-in of a name is found
+pub found_built_in : (x name : List ℕ) (bs : List BuiltIn) (d : BuiltIn) (i : ℕ) (r : Option pure.BuiltIn) (same : Bool) → i < length bs → r ≡ built_in_named x (map built_in_of (drop i bs)) → name ≡ built_in_name (built_in_of (get_or bs i d)) → same ≡ same_text x (characters_of name) → same ≡ true → Some (built_in_of (get_or bs i d)) ≡ r
+found_built_in x name bs d i r same l h n e f = sym (by_built_in x name bs d i r same true l h n e f)
+
 -- ---- what the names denote
 
-print_characters : characters_of (codes "print") ≡ codes "print"
-unfolding chars
-print_characters = refl
+module _ (x : Text) (o : Option BuiltIn) (bs : List pure.BuiltIn) (are : bs ≡ built_ins) (named : option_map built_in_of o ≡ built_in_named x bs) where
+  by_both : (p : Option BuiltIn) (q : Option Kind) (ks : List Kind) (r : Option Kind) → o ≡ p → ks ≡ built_in_kinds → r ≡ kind_named x ks → r ≡ q → or_else (option_map Provided (option_map built_in_of p)) (option_map Class q) ≡ built_in x
+  by_both p q ks r e f g h =
+      ap₂ (λ a b. or_else (option_map Provided a) (option_map Class b))
+      (ap (option_map built_in_of) (sym e) ∙ named ∙ ap (built_in_named x) are)
+      (sym h ∙ g ∙ ap (kind_named x) f)
 
-range_characters : characters_of (codes "range") ≡ codes "range"
-unfolding chars
-range_characters = refl
+  pub is_built_in : (b : BuiltIn) → o ≡ Some b → Some (Provided (built_in_of b)) ≡ built_in x
+  is_built_in b e = by_both (Some b) (kind_named x built_in_kinds) built_in_kinds (kind_named x built_in_kinds) e refl refl refl
 
-str_characters : characters_of (codes "str") ≡ codes "str"
-unfolding chars
-str_characters = refl
-
-repr_characters : characters_of (codes "repr") ≡ codes "repr"
-unfolding chars
-repr_characters = refl
+  pub is_kind : (q : Option Kind) (ks : List Kind) (r : Option Kind) → o ≡ None → ks ≡ built_in_kinds → r ≡ kind_named x ks → r ≡ q → option_map Class q ≡ built_in x
+  is_kind q ks r e f g h = by_both None q ks r e f g h
 
 main_characters : characters_of (codes "__name__") ≡ codes "__name__"
 unfolding chars
@@ -106,56 +146,9 @@ flip x y false e = other_is y x (λ p. differ (sym (same_self x) ∙ ap (same_te
     differ : true ≡ false → ⊥
     differ h = cc
 
--- whether a name is a word
-told : (x w : Text) (word : List ℕ) (r b : Bool) → characters_of word ≡ w → r ≡ same_text x (characters_of word) → r ≡ b → same_text x w ≡ b
-told x w word r b e f g = ap (same_text x) (sym e) ∙ sym f ∙ g
-
-pub told_print : (x : Text) (r b : Bool) → r ≡ same_text x (characters_of (codes "print")) → r ≡ b → same_text x (codes "print") ≡ b
-told_print x r b = told x (codes "print") (codes "print") r b print_characters
-
-pub told_range : (x : Text) (r b : Bool) → r ≡ same_text x (characters_of (codes "range")) → r ≡ b → same_text x (codes "range") ≡ b
-told_range x r b = told x (codes "range") (codes "range") r b range_characters
-
-pub told_str : (x : Text) (r b : Bool) → r ≡ same_text x (characters_of (codes "str")) → r ≡ b → same_text x (codes "str") ≡ b
-told_str x r b = told x (codes "str") (codes "str") r b str_characters
-
-pub told_repr : (x : Text) (r b : Bool) → r ≡ same_text x (characters_of (codes "repr")) → r ≡ b → same_text x (codes "repr") ≡ b
-told_repr x r b = told x (codes "repr") (codes "repr") r b repr_characters
-
+-- whether a name is `__name__`
 pub told_main : (x : Text) (r b : Bool) → r ≡ same_text x (characters_of (codes "__name__")) → r ≡ b → same_text x (codes "__name__") ≡ b
-told_main x r b = told x (codes "__name__") (codes "__name__") r b main_characters
-
-abbrev chosen : (a b c d : Bool) → Option Value → Option Value
-chosen a b c d o = cond a (Some (Provided Print)) (cond b (Some (Provided MakeRange)) (cond c (Some (Provided MakeStr)) (cond d (Some (Provided Repr)) o)))
-
-module _ (x : Text) where
-  others : Option Value
-  others = option_map Class (kind_named x built_in_kinds)
-
-  by_names : (a b c d : Bool) → same_text x (codes "print") ≡ a → same_text x (codes "range") ≡ b → same_text x (codes "str") ≡ c → same_text x (codes "repr") ≡ d → built_in x ≡ chosen a b c d others
-  unfolding others
-  by_names a b c d e f g h =
-      let o = option_map Class (kind_named x built_in_kinds) in
-      ap (λ t. chosen t (same_text x (codes "range")) (same_text x (codes "str")) (same_text x (codes "repr")) o) e
-      ∙ ap (λ t. chosen a t (same_text x (codes "str")) (same_text x (codes "repr")) o) f
-      ∙ ap (λ t. chosen a b t (same_text x (codes "repr")) o) g
-      ∙ ap (λ t. chosen a b c t o) h
-
-  pub is_print : same_text x (codes "print") ≡ true → Some (Provided Print) ≡ built_in x
-  is_print e = sym (by_names true _ _ _ e refl refl refl)
-
-  pub is_range : same_text x (codes "print") ≡ false → same_text x (codes "range") ≡ true → Some (Provided MakeRange) ≡ built_in x
-  is_range e f = sym (by_names false true _ _ e f refl refl)
-
-  pub is_str : same_text x (codes "print") ≡ false → same_text x (codes "range") ≡ false → same_text x (codes "str") ≡ true → Some (Provided MakeStr) ≡ built_in x
-  is_str e f g = sym (by_names false false true _ e f g refl)
-
-  pub is_repr : same_text x (codes "print") ≡ false → same_text x (codes "range") ≡ false → same_text x (codes "str") ≡ false → same_text x (codes "repr") ≡ true → Some (Provided Repr) ≡ built_in x
-  is_repr e f g h = sym (by_names false false false true e f g h)
-
-  pub is_kind : (o : Option Kind) (ks : List Kind) (r : Option Kind) → same_text x (codes "print") ≡ false → same_text x (codes "range") ≡ false → same_text x (codes "str") ≡ false → same_text x (codes "repr") ≡ false → ks ≡ built_in_kinds → r ≡ kind_named x ks → r ≡ o → option_map Class o ≡ built_in x
-  unfolding others
-  is_kind o ks r e f g h k l m = ap (option_map Class) (sym m ∙ l ∙ ap (kind_named x) k) ∙ sym (by_names false false false false e f g h)
+told_main x r b f g = ap (same_text x) (sym main_characters) ∙ sym f ∙ g
 
 pub is_main : (x : Text) (v : Option Value) → same_text x (codes "__name__") ≡ true → v ≡ Some (Str (codes "__main__")) → v ≡ first_world.globals x
 is_main x v e f = f ∙ ap (λ b. cond b (Some (Str (codes "__main__"))) None) (sym (flip x (codes "__name__") true e))

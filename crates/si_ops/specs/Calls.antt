@@ -1,11 +1,11 @@
 -- How a call goes over an arena, by its definition, which says what it does in a world. The world's objects are those of
 -- the arena, before it and after it.
-use Rattle.std.specs.Prelude.{◌≡◌, ◌≤◌, ◌+◌, List, ◌++◌, length, Some, Result, Ok, Err, encode_utf8_all}
+use Rattle.std.specs.Prelude.{◌≡◌, ℕ, ℤ, pos, ◌<◌, ◌≤◌, ◌+◌, List, [], ◌∷◌, ◌++◌, length, Option, Some, Result, Ok, Err, encode_utf8_all}
 use Rattle.std.specs.String.{string_bytes, string_len, string_capacity}
 use Rattle.std.specs.declared.string.String.{String}
 use Rattle.si_semantics.specs.Value as pure
 use Rattle.si_semantics.specs.World.{World, Ran, Gave}
-use Rattle.si_semantics.specs.Operations.{gave}
+use Rattle.si_semantics.specs.Operations.{gave, integer_in}
 use Rattle.si_arena.specs.declared.value.Ref.{Ref}
 use Rattle.si_arena.specs.declared.object.Steps.{Steps}
 use Rattle.si_arena.specs.declared.cause.Cause.{Cause}
@@ -39,15 +39,40 @@ Calls f old new line more (Ok (Value r)) = Makes f old new (Ok r) × (string_byt
 Calls f old new line more (Ok Printed) = (t : pure.Text) × Prints f old t × (new ≡ old) × (string_bytes more ≡ string_bytes line ++ encode_utf8_all t)
 Calls f old new line more (Err fault) = Makes f old new (Err fault) × (string_bytes more ≡ string_bytes line)
 
+-- what a call that prints nothing makes of a value, or of why there is none
+abbrev pub call_of : Result Ref Cause → Result Called Fault
+call_of (Ok r) = Ok (Value r)
+call_of (Err cause) = Err (Raises cause)
+
+-- a character, whose str is the value, or why it raises
+abbrev pub Spells : (World → Ran) → Memory → Result ℕ Cause → Type 0
+Spells f m (Ok c) = (w : World) → f w ≡ gave (pure.Str (c ∷ [])) w
+Spells f m (Err cause) = Throws f m cause
+
 -- the integers of a range, or why it raises
 abbrev pub Spans : (World → Ran) → Memory → Result Steps Cause → Type 0
 Spans f m (Ok steps) = (w : World) → f w ≡ gave (range_of steps) w
 Spans f m (Err cause) = Throws f m cause
 
--- no memory is needed for a call: of what can't be called, and of `print` where the line has room for what it prints
+-- what `chr` makes a str of is below 256, or no number of a character
+abbrev pub IsByte : Option ℤ → Type 0
+IsByte (Some (pos n)) = n < 256
+IsByte _ = Unit {0}
+
+-- what `chr` is called with needs no memory
+abbrev pub AreBytes : List pure.Value → Type 0
+AreBytes (v ∷ []) = IsByte (integer_in v)
+AreBytes _ = Unit {0}
+
+-- no memory is needed for a call: of what can't be called, of `print` where the line has room for what it prints, of
+-- `chr` for a character below 256, and of what else makes neither a str nor a range nor an exception
 abbrev pub NeedsNone : {Z : Type 0} → Memory → String Z → pure.Value → List pure.Value → Type 0
 NeedsNone m line (pure.Provided pure.Print) vs = string_len line + length (line_bytes m.store vs) ≤ string_capacity line
-NeedsNone m line (pure.Provided b) vs = ⊥
+NeedsNone m line (pure.Provided pure.MakeRange) vs = ⊥
+NeedsNone m line (pure.Provided pure.MakeStr) vs = ⊥
+NeedsNone m line (pure.Provided pure.Repr) vs = ⊥
+NeedsNone m line (pure.Provided pure.Chr) vs = AreBytes vs
+NeedsNone m line (pure.Provided b) vs = Unit {0}
 NeedsNone m line (pure.Class k) vs = ⊥
 NeedsNone m line v vs = Unit {0}
 

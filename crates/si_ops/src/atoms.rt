@@ -50,8 +50,8 @@ fn put_built_in(out: &mut String, function: BuiltIn) -> Result<(), NoMemory>
     put_within(out, "<built-in ", built_in_name(function), ">")
 }
 
-// The name of a built-in.
-fn built_in_name(function: BuiltIn) -> &'static str
+/// The name of a built-in.
+pub fn built_in_name(function: BuiltIn) -> &'static str
     ensures { result.now ≡ semantics.built_in_name (built_in_of function) }
 {
     match function {
@@ -59,6 +59,14 @@ fn built_in_name(function: BuiltIn) -> &'static str
         BuiltIn::Range => "range",
         BuiltIn::Str => "str",
         BuiltIn::Repr => "repr",
+        BuiltIn::Len => "len",
+        BuiltIn::Bool => "bool",
+        BuiltIn::Abs => "abs",
+        BuiltIn::Int => "int",
+        BuiltIn::Ord => "ord",
+        BuiltIn::Chr => "chr",
+        BuiltIn::Min => "min",
+        BuiltIn::Max => "max",
     }
 }
 

@@ -7,10 +7,13 @@ ghost use Rattle.si_semantics.specs.Value as pure;
 ghost use Rattle.si_semantics.specs.Operations as operations;
 ghost use Rattle.si_arena.specs.Memory.{built_in_of, value_of, all_of, Lies, AllLie, PlacesText};
 ghost use Rattle.si_ops.specs.Runs.{Throws, Runs};
-ghost use Rattle.si_ops.specs.Calls.{Makes, Calls, Spans, NeedsNone, IsSaid};
+ghost use Rattle.si_ops.specs.Calls.{Makes, Calls, Spans, call_of, NeedsNone, IsSaid};
 
 use crate::line::push_line;
 use crate::operand::integer_in;
+use crate::provided::{
+    call_abs, call_bool, call_chr, call_int, call_len, call_max, call_min, call_ord,
+};
 use crate::shown::{push_repr, push_str};
 use si_arena::{Arena, BuiltIn, Cause, Fault, Object, Ref, Steps, View};
 use si_plain::Kind;
@@ -25,11 +28,12 @@ pub enum Called {
 }
 
 /// A call of a value that is no function of a script, with its arguments (Python Language Reference 3.14, 6.3.3; Python
-/// Standard Library 3.14, "Built-in Functions" and "Built-in Exceptions"): of `print`, `range`, `str` or `repr`, or of a
-/// kind of exception, which makes one. What `print` prints is added to `line`, where a `str` is also written before it
-/// is placed. `NotCallable` for any other value, `WrongArguments`, `WrongType`, `Arithmetic`, `TooDeep` and `TooLong` as
-/// the definition raises them. Where nothing is given, the arena and the text of `line` are as before. Memory is asked
-/// for neither by `print`, where the line has room, nor where the value can't be called.
+/// Standard Library 3.14, "Built-in Functions" and "Built-in Exceptions"): of a built-in, or of a kind of exception,
+/// which makes one. What `print` prints is added to `line`, where a `str` is also written before it is placed.
+/// `NotCallable` for any other value, `WrongArguments`, `WrongType`, `Arithmetic`, `TooDeep` and `TooLong` as the
+/// definition raises them. Where nothing is given, the arena and the text of `line` are as before. Memory is asked for
+/// neither by `print`, where the line has room, nor by what makes neither a str nor a range nor an exception, nor where
+/// the value can't be called.
 pub fn call(
     arena: &mut Arena,
     line: &mut String,
@@ -90,6 +94,28 @@ fn call_built_in(
             let text = make_repr(arena, line, arguments)?;
             Ok(Called::Value(text))
         }
+        BuiltIn::Len => told(call_len(arena, arguments)),
+        BuiltIn::Bool => told(call_bool(arena, arguments)),
+        BuiltIn::Abs => told(call_abs(arena, arguments)),
+        BuiltIn::Int => told(call_int(arena, arguments)),
+        BuiltIn::Ord => told(call_ord(arena, arguments)),
+        BuiltIn::Chr => {
+            let text = call_chr(arena, arguments)?;
+            Ok(Called::Value(text))
+        }
+        BuiltIn::Min => told(call_min(arena, arguments)),
+        BuiltIn::Max => told(call_max(arena, arguments)),
+    }
+}
+
+// What a call makes of a value that takes no memory, or of why there is none.
+fn told(answer: Result<Ref, Cause>) -> Result<Called, Fault>
+    ensures call { result ≡ call_of answer }
+    ensures said { IsSaid result }
+{
+    match answer {
+        Ok(value) => Ok(Called::Value(value)),
+        Err(cause) => Err(Fault::Raises(cause)),
     }
 }
 

@@ -137,6 +137,14 @@ fn is_same_built_in(x: BuiltIn, y: BuiltIn) -> bool
         (BuiltIn::Range, BuiltIn::Range) => true,
         (BuiltIn::Str, BuiltIn::Str) => true,
         (BuiltIn::Repr, BuiltIn::Repr) => true,
+        (BuiltIn::Len, BuiltIn::Len) => true,
+        (BuiltIn::Bool, BuiltIn::Bool) => true,
+        (BuiltIn::Abs, BuiltIn::Abs) => true,
+        (BuiltIn::Int, BuiltIn::Int) => true,
+        (BuiltIn::Ord, BuiltIn::Ord) => true,
+        (BuiltIn::Chr, BuiltIn::Chr) => true,
+        (BuiltIn::Min, BuiltIn::Min) => true,
+        (BuiltIn::Max, BuiltIn::Max) => true,
         _ => false,
     }
 }

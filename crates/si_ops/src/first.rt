@@ -1,13 +1,14 @@
 // The names that are there from the first.
 
-ghost use Rattle.std.specs.Prelude.{◌≡◌, codes, Some};
+ghost use Rattle.std.specs.Prelude.{◌≡◌, codes, Some, map, option_map};
 ghost use Rattle.si_plain.specs.Characters.{characters_of};
 ghost use Rattle.si_semantics.specs.Operations as operations;
 ghost use Rattle.si_semantics.specs.World.{first_world};
 ghost use Rattle.si_semantics.specs.Text.{same_text};
 ghost use Rattle.si_semantics.specs.Value.{Str};
-ghost use Rattle.si_arena.specs.Memory.{Memory, bound_of, Holds};
+ghost use Rattle.si_arena.specs.Memory.{Memory, built_in_of, bound_of, Holds};
 
+use crate::atoms::built_in_name;
 use si_arena::{BuiltIn, Ref, Short};
 use si_plain::Kind;
 
@@ -16,19 +17,12 @@ pub fn built_in(name: &str) -> Ref
     ensures value { (m : Memory) → bound_of m result ≡ operations.built_in (characters_of name.now) }
     ensures holds { (m : Memory) → Holds m result }
 {
-    if is_spelled(name, "print") {
-        Ref::BuiltIn(BuiltIn::Print)
-    } else if is_spelled(name, "range") {
-        Ref::BuiltIn(BuiltIn::Range)
-    } else if is_spelled(name, "str") {
-        Ref::BuiltIn(BuiltIn::Str)
-    } else if is_spelled(name, "repr") {
-        Ref::BuiltIn(BuiltIn::Repr)
-    } else {
-        match kind_named(name, &built_in_kinds()) {
-            Some(kind) => Ref::Kind(kind),
-            None => Ref::Unbound,
-        }
+    if let Some(function) = built_in_named(name, &built_ins()) {
+        return Ref::BuiltIn(function);
+    }
+    match kind_named(name, &built_in_kinds()) {
+        Some(kind) => Ref::Kind(kind),
+        None => Ref::Unbound,
     }
 }
 
@@ -54,6 +48,18 @@ fn main_name() -> Ref
     Ref::Short(name)
 }
 
+// The built-in of a name among these.
+fn built_in_named(name: &str, functions: &[BuiltIn]) -> Option<BuiltIn>
+    ensures { option_map built_in_of result ≡ operations.built_in_named (characters_of name.now) (map built_in_of functions.now) }
+{
+    for function in functions {
+        if is_spelled(name, built_in_name(*function)) {
+            return Some(*function);
+        }
+    }
+    None
+}
+
 // The kind of a name among these.
 fn kind_named(name: &str, kinds: &[Kind]) -> Option<Kind>
     ensures { result ≡ operations.kind_named (characters_of name.now) kinds.now }
@@ -71,6 +77,26 @@ fn is_spelled(name: &str, word: &str) -> bool
     ensures { result ≡ same_text (characters_of name.now) (characters_of word.now) }
 {
     name == word
+}
+
+// The built-ins that are no kinds (Python Standard Library 3.14, "Built-in Functions").
+fn built_ins() -> [BuiltIn; 12]
+    ensures { map built_in_of result ≡ operations.built_ins }
+{
+    [
+        BuiltIn::Print,
+        BuiltIn::Range,
+        BuiltIn::Str,
+        BuiltIn::Repr,
+        BuiltIn::Len,
+        BuiltIn::Bool,
+        BuiltIn::Abs,
+        BuiltIn::Int,
+        BuiltIn::Ord,
+        BuiltIn::Chr,
+        BuiltIn::Min,
+        BuiltIn::Max,
+    ]
 }
 
 // The kinds that have built-in names (Python Standard Library 3.14, "Built-in Exceptions").

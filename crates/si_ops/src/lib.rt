@@ -9,7 +9,8 @@
 // value counts as true), `operand` (what a value is to an operator), `arithmetic` (operators before a value and between
 // two), `comparison`, `items` (what a `for` goes over), `exceptions` (which clause catches what, and what `raise` raises),
 // `pieces`, `quoted`, `atoms` and `messages` (the parts of what is written), `shown` (`str` and `repr`), `line` (what
-// `print` writes), `first` (the names that are there from the first) and `calls` (of these).
+// `print` writes), `first` (the names that are there from the first), `numerals` (the integers that texts write),
+// `provided` (the built-ins that give a value) and `calls` (of what is there from the first).
 #![tactic(auto)]
 
 mod arithmetic;
@@ -22,8 +23,10 @@ mod first;
 mod items;
 mod line;
 mod messages;
+mod numerals;
 mod operand;
 mod pieces;
+mod provided;
 mod quoted;
 mod ranges;
 mod shown;

@@ -47,8 +47,8 @@ pub fn is_same_range(left: &Steps, right: &Steps) -> bool
     have_same_items(items_in(left), items_in(right), starts, steps)
 }
 
-// How many items a range has.
-fn items_in(steps: &Steps) -> u64
+/// How many items a range has.
+pub fn items_in(steps: &Steps) -> u64
     ensures { result ≡ operations.range_length steps.now.start steps.now.stop steps.now.step }
 {
     range_length(steps.start, steps.stop, steps.step)

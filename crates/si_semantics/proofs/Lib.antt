@@ -4,6 +4,7 @@ pub mod WorkedFunctions
 pub mod WorkedExceptions
 pub mod WorkedFinally
 pub mod WorkedItems
+pub mod WorkedBuiltIns
 pub mod WorkedScope
 pub mod Names
 pub mod WorkedLiterals

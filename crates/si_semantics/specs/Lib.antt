@@ -13,6 +13,7 @@ pub mod Parcels
 pub mod Shareable
 pub mod Actions
 pub mod Literals
+pub mod Numerals
 pub mod Grammar
 pub mod Limits
 pub mod Words

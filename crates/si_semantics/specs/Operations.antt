@@ -3,12 +3,14 @@ use Rattle.std.specs.Prelude.{codes, ℕ, zero, suc, ◌+◌, ◌-◌, ◌*◌, 
 use Rattle.si_plain.specs.declared.kind.Kind.{Kind}
 use Rattle.si_plain.specs.declared.kind.Kind.TheVariants.{BaseException, Exception, ArithmeticError, OverflowError, ZeroDivisionError, AttributeError, LookupError, IndexError, KeyError, NameError, UnboundLocalError, RuntimeError, RecursionError, SyntaxError, TypeError, ValueError}
 use Rattle.si_plain.specs.Kinds.{name_of, same_kind, is_a}
-use Rattle.si_plain.specs.Integers.{sum_of, difference_of, product_of, floor_quotient, floor_remainder, power_result, negative_of, shifted_left, shifted_right, inverted, bits_and, bits_or, bits_xor}
-use Rattle.si_semantics.specs.Value.{Text, Value, Nothing, Truth, Int, Str, Provided, Function, Range, Class, Address, BuiltIn, Print, MakeRange, MakeStr, Repr, Object}
+use Rattle.si_plain.specs.Integers.{in_range, sum_of, difference_of, product_of, floor_quotient, floor_remainder, power_result, negative_of, shifted_left, shifted_right, inverted, bits_and, bits_or, bits_xor}
+use Rattle.si_semantics.specs.Value.{Text, Value, Nothing, Truth, Int, Str, Provided, Function, Range, Class, Address, BuiltIn, Print, MakeRange, MakeStr, Repr, Len, MakeBool, Abs, MakeInt, Ord, Chr, Min, Max, Object}
 use Rattle.si_semantics.specs.Value as value
 use Rattle.si_semantics.specs.Tree as tree
 use Rattle.si_semantics.specs.Tree.{BinaryOperator, UnaryOperator, ComparisonOperator}
-use Rattle.si_semantics.specs.Text.{max_length, same_text, same_int, str_in, repr_in, line_of}
+use Rattle.si_semantics.specs.Text.{max_length, built_in_name, same_text, same_int, str_in, repr_in, line_of}
+use Rattle.si_semantics.specs.Numerals.{read_integer}
+use Rattle.si_semantics.specs.Literals.{is_character}
 use Rattle.si_semantics.specs.World.{World, Request, Answer, Ran, Gave, Threw, Replied}
 
 -- a new exception of a kind with an argument, by its address, and the world with it
@@ -148,6 +150,14 @@ same_built_in Print Print = true
 same_built_in MakeRange MakeRange = true
 same_built_in MakeStr MakeStr = true
 same_built_in Repr Repr = true
+same_built_in Len Len = true
+same_built_in MakeBool MakeBool = true
+same_built_in Abs Abs = true
+same_built_in MakeInt MakeInt = true
+same_built_in Ord Ord = true
+same_built_in Chr Chr = true
+same_built_in Min Min = true
+same_built_in Max Max = true
 same_built_in _ _ = false
 
 -- two ranges have the same items (Standard Library, "Built-in Types": ranges)
@@ -226,19 +236,23 @@ abbrev pub kind_named : Text → List Kind → Option Kind
 kind_named x [] = None
 kind_named x (k ∷ ks) = if same_text x (name_of k) then Some k else kind_named x ks
 
--- the value of a built-in name (Language Reference, 4.2.2)
-abbrev pub built_in : Text → Option Value
-built_in x =
-    if same_text x (codes "print") then Some (Provided Print)
-    else (if same_text x (codes "range") then Some (Provided MakeRange)
-    else (if same_text x (codes "str") then Some (Provided MakeStr)
-    else (if same_text x (codes "repr") then Some (Provided Repr)
-    else option_map Class (kind_named x built_in_kinds))))
+-- the built-ins that are no kinds (Standard Library, "Built-in Functions"), this project's own choice among them
+abbrev pub built_ins : List BuiltIn
+built_ins = Print ∷ MakeRange ∷ MakeStr ∷ Repr ∷ Len ∷ MakeBool ∷ Abs ∷ MakeInt ∷ Ord ∷ Chr ∷ Min ∷ Max ∷ []
+
+-- the built-in of a name among these
+abbrev pub built_in_named : Text → List BuiltIn → Option BuiltIn
+built_in_named x [] = None
+built_in_named x (b ∷ bs) = if same_text x (built_in_name b) then Some b else built_in_named x bs
 
 -- the first of two that is there
 abbrev pub or_else : Option Value → Option Value → Option Value
 or_else (Some v) other = Some v
 or_else None other = other
+
+-- the value of a built-in name (Language Reference, 4.2.2)
+abbrev pub built_in : Text → Option Value
+built_in x = or_else (option_map Provided (built_in_named x built_ins)) (option_map Class (kind_named x built_in_kinds))
 
 -- the value of a name, where there is one
 abbrev pub found : Text → Option Value → World → Ran
@@ -294,7 +308,49 @@ range_of (Some a) (Some b) (Some (pos zero)) w = refused ValueError (codes "wron
 range_of (Some a) (Some b) (Some c) w = gave (Range a b c) w
 range_of _ _ _ w = wrong_type w
 
--- a call of a built-in (Standard Library, "Built-in Functions": print, range, str, repr)
+-- how many characters or items a value has: a str and a range have them (Standard Library, "Built-in Functions": len);
+-- past the integers an OverflowError (this project's own)
+abbrev pub length_of : Value → World → Ran
+length_of (Str s) w = gave (Int (pos (length s))) w
+length_of (Range a b c) w = integer (in_range (pos (range_length a b c))) w
+length_of _ w = wrong_type w
+
+-- an integer without its sign (Standard Library, "Built-in Functions": abs)
+abbrev pub absolute : Option ℤ → World → Ran
+absolute (Some i) w = integer (in_range (pos (unsigned_abs i))) w
+absolute None w = wrong_type w
+
+-- the integer that a value is, counts as or writes (Standard Library, "Built-in Functions": int)
+abbrev pub integer_of : Value → World → Ran
+integer_of (Int i) w = gave (Int i) w
+integer_of (Truth b) w = gave (Int (int_of_truth b)) w
+integer_of (Str s) w = integer (read_integer s) w
+integer_of _ w = wrong_type w
+
+-- the number of the one character of a str (Standard Library, "Built-in Functions": ord)
+abbrev pub code_of : Value → World → Ran
+code_of (Str (c ∷ [])) w = gave (Int (pos c)) w
+code_of _ w = wrong_type w
+
+-- the str of the character with a number (Standard Library, "Built-in Functions": chr); a surrogate is no character
+-- (this project's own, as is the message)
+abbrev pub character_of : Option ℤ → World → Ran
+character_of (Some (pos n)) w = if is_character n then gave (Str (n ∷ [])) w else refused ValueError (codes "wrong value") w
+character_of (Some (negsuc n)) w = refused ValueError (codes "wrong value") w
+character_of None w = wrong_type w
+
+-- the least of a value and more, the first of equal ones (Standard Library, "Built-in Functions": min)
+abbrev pub least : Value → List Value → World → Ran
+least u [] w = gave u w
+least u (v ∷ vs) w = elim (is_less v u w) [ Err k ↦ refused k (comparison_message k) w | Ok true ↦ least v vs w | Ok false ↦ least u vs w ]
+
+-- the greatest of a value and more, the first of equal ones (Standard Library, "Built-in Functions": max)
+abbrev pub greatest : Value → List Value → World → Ran
+greatest u [] w = gave u w
+greatest u (v ∷ vs) w = elim (is_less u v w) [ Err k ↦ refused k (comparison_message k) w | Ok true ↦ greatest v vs w | Ok false ↦ greatest u vs w ]
+
+-- a call of a built-in (Standard Library, "Built-in Functions": print, range, str, repr, len, bool, abs, int, ord, chr,
+-- min, max); min and max take two values or more (this project's own)
 abbrev pub call_built_in : BuiltIn → List Value → World → Ran
 call_built_in Print vs w = printing (line_of w.store vs) w
 call_built_in MakeRange (b ∷ []) w = range_of (Some (pos 0)) (integer_in b) (Some (pos 1)) w
@@ -302,6 +358,14 @@ call_built_in MakeRange (a ∷ b ∷ []) w = range_of (integer_in a) (integer_in
 call_built_in MakeRange (a ∷ b ∷ c ∷ []) w = range_of (integer_in a) (integer_in b) (integer_in c) w
 call_built_in MakeStr (v ∷ []) w = text (str_in w.store v) w
 call_built_in Repr (v ∷ []) w = text (repr_in w.store v) w
+call_built_in Len (v ∷ []) w = length_of v w
+call_built_in MakeBool (v ∷ []) w = gave (Truth (is_true v w)) w
+call_built_in Abs (v ∷ []) w = absolute (integer_in v) w
+call_built_in MakeInt (v ∷ []) w = integer_of v w
+call_built_in Ord (v ∷ []) w = code_of v w
+call_built_in Chr (v ∷ []) w = character_of (integer_in v) w
+call_built_in Min (u ∷ v ∷ vs) w = least u (v ∷ vs) w
+call_built_in Max (u ∷ v ∷ vs) w = greatest u (v ∷ vs) w
 call_built_in _ _ w = wrong_arguments w
 
 -- a new exception as a value

@@ -5,7 +5,7 @@ use Rattle.si_plain.specs.declared.kind.Kind.TheVariants.{KeyError, RecursionErr
 use Rattle.si_plain.specs.Kinds.{name_of}
 use Rattle.si_plain.specs.Repr as plain
 use Rattle.std.specs.Fmt.{signed_decimal}
-use Rattle.si_semantics.specs.Value.{Text, Value, Nothing, Truth, Int, Str, Provided, Function, Range, Class, Address, BuiltIn, Print, MakeRange, MakeStr, Repr, Object, Exception}
+use Rattle.si_semantics.specs.Value.{Text, Value, Nothing, Truth, Int, Str, Provided, Function, Range, Class, Address, BuiltIn, Print, MakeRange, MakeStr, Repr, Len, MakeBool, Abs, MakeInt, Ord, Chr, Min, Max, Object, Exception}
 
 -- the most characters of a str (this project's own)
 abbrev pub max_length : ℕ
@@ -36,6 +36,14 @@ built_in_name Print = codes "print"
 built_in_name MakeRange = codes "range"
 built_in_name MakeStr = codes "str"
 built_in_name Repr = codes "repr"
+built_in_name Len = codes "len"
+built_in_name MakeBool = codes "bool"
+built_in_name Abs = codes "abs"
+built_in_name MakeInt = codes "int"
+built_in_name Ord = codes "ord"
+built_in_name Chr = codes "chr"
+built_in_name Min = codes "min"
+built_in_name Max = codes "max"
 
 -- the repr of a range: its step is left out where it is 1
 abbrev pub repr_range : ℤ → ℤ → ℤ → Text

@@ -12,6 +12,14 @@ pub data BuiltIn : Type 0 where
   MakeRange : BuiltIn
   MakeStr : BuiltIn
   Repr : BuiltIn
+  Len : BuiltIn
+  MakeBool : BuiltIn
+  Abs : BuiltIn
+  MakeInt : BuiltIn
+  Ord : BuiltIn
+  Chr : BuiltIn
+  Min : BuiltIn
+  Max : BuiltIn
 
 pub data Value : Type 0 where
   Nothing : Value

@@ -5,6 +5,7 @@ pub mod Functions
 pub mod Exceptions
 pub mod Finally
 pub mod Items
+pub mod BuiltIns
 pub mod Scope
 pub mod Literals
 pub mod Layout
