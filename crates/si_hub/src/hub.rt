@@ -24,6 +24,9 @@ pub struct Call {
     pub answer: Answer,
 }
 
+// A call is written to memory that is in no cache: two lines of it.
+const _: () = prove!(std::mem::size_of::<Call>() <= 128);
+
 impl Model for Call {
     ghost use Rattle.si_semantics.specs.History.{Call};
     ghost use Rattle.si_hub.specs.HubCode.{call_code};

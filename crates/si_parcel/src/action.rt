@@ -43,6 +43,9 @@ pub enum Action {
     End(Outcome),
 }
 
+// Each call of the journal has an action.
+const _: () = prove!(std::mem::size_of::<Action>() <= 56);
+
 impl Action {
     ghost use Rattle.si_parcel.specs.Shared.{action_of};
     ghost use Rattle.si_parcel.specs.Bare.{is_bare_action};

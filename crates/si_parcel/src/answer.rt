@@ -48,6 +48,9 @@ pub enum Answer {
     Given(Job),
 }
 
+// Each call of the journal has an answer.
+const _: () = prove!(std::mem::size_of::<Answer>() <= 64);
+
 impl Answer {
     ghost use Rattle.si_semantics.specs.Actions.{fits};
     ghost use Rattle.si_parcel.specs.Shared.{action_of, answer_of};

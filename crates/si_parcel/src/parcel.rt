@@ -1,20 +1,19 @@
 // A parcel: a value on its way from one interpreter to another.
 
 ghost use Rattle.std.specs.Prelude.{◌≡◌, ◌↔◌, ◌++◌, ◌<◌, ◌≤◌, Err, length, IsTrue, IfOk, IfErr, IsOk, OnOk, string_bytes, encode_utf8_all};
-ghost use Rattle.si_semantics.specs.Parcels.{Leaf, tuple_of, size_of, levels_of, length_of, IsParcel, shown, separator, closing};
+ghost use Rattle.si_semantics.specs.Parcels.{Leaf, tuple_of, size_of, levels_of, IsParcel, shown, separator, closing};
 ghost use Rattle.si_semantics.specs.Parcels as tree;
-ghost use Rattle.si_parcel.specs.Atoms.{atom_of};
 ghost use Rattle.si_parcel.specs.Tops.{tree_of_top};
 ghost use Rattle.si_parcel.specs.TreeCode.{tree_code};
 ghost use Rattle.si_parcel.specs.Same.{same_by, same_by_per, same_by_equiv};
 ghost use Rattle.si_parcel.specs.declared.refused.TupleFault.TheVariants.{TooLarge, TooDeep};
 
-use crate::atom::Atom;
+use crate::atom::{Atom, show_int, show_queue};
 use crate::octets::Octets;
 use crate::refused::{TooLong, TupleFault};
 use crate::top::Top;
-use si_plain::Text;
 use si_plain::limits::MAX_STR_LENGTH;
+use si_plain::{Text, repr_bytes, repr_str};
 use std::alloc::{AllocError, Global};
 use std::marker::Model;
 
@@ -35,13 +34,19 @@ pub struct Parcel {
 #[cycle(parcel)]
 #[derive(Drop)]
 enum Node {
-    Leaf(Atom),
+    // the atoms stand here and not in an enum of their own, which would have a tag of 8 bytes more
+    Nothing,
+    Truth(bool),
+    Int(i64),
+    Str(Text),
+    Bytes(Octets),
+    Queue(u32, u64),
     // how many values and levels it has, and its items
     Tuple(u32, u8, Vec<Parcel>),
 }
 
 // Each byte of a parcel is paid for twice in each call of the journal.
-const _: () = prove!(std::mem::size_of::<Parcel>() <= 56);
+const _: () = prove!(std::mem::size_of::<Parcel>() <= 48);
 
 impl Model for Parcel {
     ghost use Rattle.si_semantics.specs.Parcels.{Tree, size_of};
@@ -69,28 +74,36 @@ impl Parcel {
     pub fn none() -> Parcel
         ensures { result ≡ Leaf tree.Nothing }
     {
-        Parcel::short_atom(Atom::Nothing)
+        Parcel {
+            node: Node::Nothing,
+        }
     }
 
     /// True or False.
     pub fn truth(truth: bool) -> Parcel
         ensures { result ≡ Leaf (tree.Truth truth) }
     {
-        Parcel::short_atom(Atom::Truth(truth))
+        Parcel {
+            node: Node::Truth(truth),
+        }
     }
 
     /// An int.
     pub fn int(int: i64) -> Parcel
         ensures { result ≡ Leaf (tree.Int int) }
     {
-        Parcel::short_atom(Atom::Int(int))
+        Parcel {
+            node: Node::Int(int),
+        }
     }
 
     /// The queue of this number, which holds at most `maxsize` items, or any number if that is 0.
     pub fn queue(id: u32, maxsize: u64) -> Parcel
         ensures { result ≡ Leaf (tree.Queue id maxsize) }
     {
-        Parcel::short_atom(Atom::Queue(id, maxsize))
+        Parcel {
+            node: Node::Queue(id, maxsize),
+        }
     }
 
     /// A str. `TooLong`, with the text, where it has more than 1,048,576 characters.
@@ -102,7 +115,9 @@ impl Parcel {
         if text.len() > MAX_STR_LENGTH {
             return Err(TooLong { given: text });
         }
-        Ok(Parcel::short_atom(Atom::Str(text)))
+        Ok(Parcel {
+            node: Node::Str(text),
+        })
     }
 
     /// A bytes. `TooLong`, with the bytes, where it has more than 1,048,576 of them.
@@ -114,7 +129,9 @@ impl Parcel {
         if bytes.as_slice().len() > MAX_STR_LENGTH {
             return Err(TooLong { given: bytes });
         }
-        Ok(Parcel::short_atom(Atom::Bytes(bytes)))
+        Ok(Parcel {
+            node: Node::Bytes(bytes),
+        })
     }
 
     /// A tuple of these items. `TooLarge`, with the items, where it would have more than 65,536 values; else `TooDeep`, with
@@ -144,24 +161,13 @@ impl Parcel {
         Ok(Parcel { node })
     }
 
-    // One atom, which is not too long.
-    #[inline]
-    fn short_atom(atom: Atom) -> Parcel
-        requires { length_of (atom_of atom) ≤ 1048576 }
-        ensures { result ≡ Leaf (atom_of atom) }
-    {
-        Parcel {
-            node: Node::Leaf(atom),
-        }
-    }
-
     /// How many values it has: an atom counts 1, a tuple 1 and its items.
     pub fn size(&self) -> u32
         ensures { result ≡ size_of self.now }
     {
         match &self.node {
-            Node::Leaf(_) => 1,
             Node::Tuple(size, _, _) => *size,
+            _ => 1,
         }
     }
 
@@ -170,8 +176,8 @@ impl Parcel {
         ensures { result ≡ levels_of self.now }
     {
         match &self.node {
-            Node::Leaf(_) => 0,
             Node::Tuple(_, levels, _) => *levels,
+            _ => 0,
         }
     }
 
@@ -180,7 +186,12 @@ impl Parcel {
         ensures { tree_of_top result ≡ self.now }
     {
         match &self.node {
-            Node::Leaf(atom) => Top::Atom(atom),
+            Node::Nothing => Top::Atom(Atom::Nothing),
+            Node::Truth(truth) => Top::Atom(Atom::Truth(*truth)),
+            Node::Int(int) => Top::Atom(Atom::Int(*int)),
+            Node::Str(text) => Top::Atom(Atom::Str(text)),
+            Node::Bytes(bytes) => Top::Atom(Atom::Bytes(bytes)),
+            Node::Queue(id, maxsize) => Top::Atom(Atom::Queue(*id, *maxsize)),
             Node::Tuple(_, _, items) => Top::Tuple(items.as_slice()),
         }
     }
@@ -198,9 +209,27 @@ impl Parcel {
         ensures { IfOk result (λ p. p ≡ self.now) }
     {
         match &self.node {
-            Node::Leaf(atom) => Ok(Parcel::short_atom(atom.clone_atom()?)),
             Node::Tuple(_, _, _) => self.clone_tree(alloc),
+            _ => self.clone_atom(),
         }
+    }
+
+    // The same atom again.
+    #[inline]
+    fn clone_atom(&self) -> Result<Parcel, AllocError>
+        requires { levels_of self.now ≡ 0 }
+        ensures { IfOk result (λ p. p ≡ self.now) }
+    {
+        let node = match &self.node {
+            Node::Nothing => Node::Nothing,
+            Node::Truth(truth) => Node::Truth(*truth),
+            Node::Int(int) => Node::Int(*int),
+            Node::Str(text) => Node::Str(text.clone()?),
+            Node::Bytes(bytes) => Node::Bytes(bytes.clone()?),
+            Node::Queue(id, maxsize) => Node::Queue(*id, *maxsize),
+            Node::Tuple(_, _, _) => unreachable!(),
+        };
+        Ok(Parcel { node })
     }
 
     // The same tree again; out of line, since it calls itself.
@@ -209,19 +238,19 @@ impl Parcel {
         ensures { IfOk result (λ p. p ≡ self.now) }
     {
         match &self.node {
-            Node::Leaf(atom) => Ok(Parcel::short_atom(atom.clone_atom()?)),
             Node::Tuple(size, levels, items) => {
                 let mut copies = Vec::with_capacity(alloc, items.len())?;
                 'copies: for item in items {
                     let copy = match &item.node {
-                        Node::Leaf(atom) => Parcel::short_atom(atom.clone_atom()?),
                         Node::Tuple(_, _, _) => item.clone_tree(alloc)?,
+                        _ => item.clone_atom()?,
                     };
                     copies.push(copy)?;
                 }
                 let node = Node::Tuple(*size, *levels, copies);
                 Ok(Parcel { node })
             }
+            _ => self.clone_atom(),
         }
     }
 
@@ -230,7 +259,14 @@ impl Parcel {
         ensures { IsTrue result ↔ (self.now ≡ other.now) }
     {
         match (&self.node, &other.node) {
-            (Node::Leaf(atom), Node::Leaf(other)) => atom.same(other),
+            (Node::Nothing, Node::Nothing) => true,
+            (Node::Truth(b), Node::Truth(c)) => *b == *c,
+            (Node::Int(n), Node::Int(m)) => *n == *m,
+            (Node::Str(text), Node::Str(other)) => text == other,
+            (Node::Bytes(bytes), Node::Bytes(other)) => bytes == other,
+            (Node::Queue(id, maxsize), Node::Queue(other, size)) => {
+                *id == *other && *maxsize == *size
+            }
             (Node::Tuple(_, _, items), Node::Tuple(_, _, others)) => {
                 let len = items.len();
                 if len != others.len() {
@@ -261,7 +297,13 @@ impl Parcel {
         ensures { OnOk result (string_bytes out.new ≡ string_bytes out.old ++ encode_utf8_all (shown self.now)) }
     {
         match &self.node {
-            Node::Leaf(atom) => atom.show_into(alloc, out),
+            Node::Nothing => out.push_str("None"),
+            Node::Truth(true) => out.push_str("True"),
+            Node::Truth(false) => out.push_str("False"),
+            Node::Int(n) => show_int(*n, out),
+            Node::Str(text) => out.push_str(repr_str(alloc, text.as_str())?.as_str()),
+            Node::Bytes(bytes) => out.push_str(repr_bytes(alloc, bytes.as_slice())?.as_str()),
+            Node::Queue(id, _) => show_queue(*id, out),
             Node::Tuple(_, _, items) => {
                 out.push_str("(")?;
                 'items: for (at, item) in items.iter().enumerate() {

@@ -6,6 +6,6 @@ use crate::parcel::Parcel;
 /// The top of a parcel: its atom, or the items of a tuple in order.
 #[derive(Clone, Copy)]
 pub enum Top<'a> {
-    Atom(&'a Atom),
+    Atom(Atom<'a>),
     Tuple(&'a [Parcel]),
 }

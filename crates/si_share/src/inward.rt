@@ -22,8 +22,8 @@ pub fn copy_in(arena: &mut Arena, parcel: &Parcel) -> Result<Ref, ReceiveFault>
     parcel.facts();
     match parcel.top() {
         Top::Atom(Atom::Nothing) => Ok(Ref::None),
-        Top::Atom(Atom::Truth(truth)) => Ok(Ref::Truth(*truth)),
-        Top::Atom(Atom::Int(int)) => Ok(Ref::Int(*int)),
+        Top::Atom(Atom::Truth(truth)) => Ok(Ref::Truth(truth)),
+        Top::Atom(Atom::Int(int)) => Ok(Ref::Int(int)),
         Top::Atom(Atom::Str(text)) => str_in(arena, text),
         Top::Atom(Atom::Bytes(_)) => Err(ReceiveFault::NoSuchValue),
         Top::Atom(Atom::Queue(_, _)) => Err(ReceiveFault::NoSuchValue),

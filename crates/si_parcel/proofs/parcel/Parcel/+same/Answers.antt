@@ -16,6 +16,6 @@ returns-then-not-same t c = (
   λ e. let same = tuple_injective _ _ ((rw c.in-Tuple-Tuple.is-0 at c.self.view_is) ∙ e ∙ sym (rw c.in-Tuple-Tuple.is-1 at c.other.view_is)) in
       let n : c.items.i < length c.in-Tuple-Tuple.items.items = omega arith in
       let k = same_at _ _ c.items.i c.index.result.now c.index-in-items.result.now same n c.index.ensures c.index-in-items.ensures in
-      let h = c.same-in-items.ensures.1 k in
+      let h = c.same.ensures.1 k in
       cc,
 )
