@@ -11,7 +11,8 @@
 // exceptions are raised), `reading` (how operands are read), `flow` (the instructions of branches, chains and loops),
 // `tries` (those of `try` and of unbinding), `values` (those of operands and operations), `names` (those of globals),
 // `calls` (calls of functions and of other values), `leaving` (`break`, `continue`, `return` and the end of a finally
-// suite), `execute` (one instruction), `begin` (how a run begins), `machine`.
+// suite), `short` (frequent instructions as they stand in 8 bytes), `execute` (one instruction), `begin` (how a run begins),
+// `machine`.
 #![tactic(auto)]
 
 mod begin;
