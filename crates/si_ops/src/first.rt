@@ -96,6 +96,7 @@ fn built_ins() -> [BuiltIn; 12]
         BuiltIn::Chr,
         BuiltIn::Min,
         BuiltIn::Max,
+        BuiltIn::Tuple,
     ]
 }
 
