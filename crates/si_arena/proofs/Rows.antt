@@ -24,7 +24,6 @@ text-grows old new (value.Wide n i) g h = ap (λ xs. take n (drop i xs)) g.wide.
 text-grows old new (value.BuiltIn b) g h = refl
 text-grows old new (value.Function n m) g h = refl
 text-grows old new (value.Range p) g h = refl
-text-grows old new (value.Tuple p) g h = refl
 text-grows old new (value.Kind k) g h = refl
 text-grows old new (value.Object x) g h = refl
 
@@ -39,7 +38,6 @@ text_lies-grows old new (value.Wide n i) g h = omega (arith, h, ap length g.wide
 text_lies-grows old new (value.BuiltIn b) g h = h
 text_lies-grows old new (value.Function n m) g h = h
 text_lies-grows old new (value.Range p) g h = h
-text_lies-grows old new (value.Tuple p) g h = h
 text_lies-grows old new (value.Kind k) g h = h
 text_lies-grows old new (value.Object x) g h = h
 

@@ -9,14 +9,13 @@ use Rattle.si_arena.specs.declared.cause.Fault.TheVariants.{NoMemory}
 use Rattle.si_arena.specs.Memory.{Memory, value_of}
 use Rattle.si_arena.specs.Texts.{text_of, repeated_text, IsNarrow}
 use Rattle.si_ops.specs.declared.operand.Operand.{Operand}
-use Rattle.si_ops.specs.declared.operand.Operand.TheVariants.{Integer, Truth, Text, Tuple, Other}
+use Rattle.si_ops.specs.declared.operand.Operand.TheVariants.{Integer, Truth, Text, Other}
 
 -- a value of a kind that no operator on integers or texts takes: what denotes None is one
 abbrev pub IsOther : pure.Value → Type 0
 IsOther (pure.Int i) = ⊥
 IsOther (pure.Truth b) = ⊥
 IsOther (pure.Str t) = ⊥
-IsOther (pure.Tuple vs) = ⊥
 IsOther _ = Unit {0}
 
 -- a value that counts as no integer
@@ -30,7 +29,6 @@ abbrev pub Stands : Memory → Ref → Operand → Type 0
 Stands m r (Integer n) = value_of m r ≡ pure.Int n
 Stands m r (Truth b) = value_of m r ≡ pure.Truth b
 Stands m r Text = value_of m r ≡ pure.Str (text_of m.texts r)
-Stands m r Tuple = (vs : pure.Values) × (value_of m r ≡ pure.Tuple vs)
 Stands m r Other = IsOther (value_of m r)
 
 -- the text that a binary operator makes of values, however long; of no others does it make one

@@ -96,7 +96,6 @@ fn built_ins() -> [BuiltIn; 12]
         BuiltIn::Chr,
         BuiltIn::Min,
         BuiltIn::Max,
-        BuiltIn::Tuple,
     ]
 }
 

@@ -17,8 +17,7 @@ pub enum Operand {
     Truth(bool),
     /// A str.
     Text,
-    Tuple,
-    /// Of a kind that no operator on integers, on texts or on tuples takes.
+    /// Of a kind that no operator on integers or on texts takes.
     Other,
 }
 
@@ -36,7 +35,6 @@ impl Operand {
             View::BuiltIn(_) => Operand::Other,
             View::Function(_, _) => Operand::Other,
             View::Range(_) => Operand::Other,
-            View::Tuple(_) => Operand::Tuple,
             View::Kind(_) => Operand::Other,
             View::Object(_) => Operand::Other,
         }
@@ -57,7 +55,6 @@ pub fn integer_in(arena: &Arena, value: Ref) -> Result<i64, Cause>
         View::BuiltIn(_) => Err(Cause::WrongType),
         View::Function(_, _) => Err(Cause::WrongType),
         View::Range(_) => Err(Cause::WrongType),
-        View::Tuple(_) => Err(Cause::WrongType),
         View::Kind(_) => Err(Cause::WrongType),
         View::Object(_) => Err(Cause::WrongType),
     }

@@ -38,7 +38,6 @@ fn length_in(arena: &Arena, value: Ref) -> Result<Ref, Cause>
     match arena.view(&value) {
         View::Str(text) => Ok(Ref::Int(length_of(text) as i64)),
         View::Range(steps) => integer(with_sign(items_in(steps), false)),
-        View::Tuple(items) => Ok(Ref::Int(items.len() as i64)),
         _ => Err(Cause::WrongType),
     }
 }

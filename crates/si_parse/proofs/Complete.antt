@@ -3,7 +3,7 @@ use Rattle.std.proofs.Common.{◌≡◌, ℕ, zero, suc, ◌+◌, ◌-◌, ◌<�
 use Rattle.std.specs.Prelude.{nat_lt, not, ◌&&◌, if◌then◌else◌}
 use Rattle.std.proofs.lemmas.Bool.Decides.{nat_tests}
 use Rattle.std.proofs.lemmas.List.{append-nil}
-use Rattle.si_semantics.specs.Value.{Nothing, Truth, Int, Str, Provided, Function, Range, Tuple, Class, Address}
+use Rattle.si_semantics.specs.Value.{Nothing, Truth, Int, Str, Provided, Function, Range, Class, Address}
 use Rattle.si_semantics.specs.Tree.{BinaryOperator, UnaryOperator, ComparisonOperator, BooleanOperator, Expr}
 use Rattle.si_semantics.specs.Tree as tree
 use Rattle.si_semantics.specs.Tokens.{Symbol, Keyword}
@@ -431,7 +431,6 @@ module _ (n : ℕ) (sub : Parser) (complete : IsComplete n sub) where
         moved (suc m) (tree.Binary op a b) (h.0 ++ Sign (symbol_of op) ∷ h.1) front rest h.2 (binary_reached m (omega arith) (reached m (omega arith)) level op a b h.0 h.1 rest h.3 h.4 h.5 weak plain at)
     reached (suc m) le level (tree.Constant (Function x i)) front rest (inl h) weak plain at = absurd h
     reached (suc m) le level (tree.Constant (Range a b c)) front rest (inl h) weak plain at = absurd h
-    reached (suc m) le level (tree.Constant (Tuple us)) front rest (inl h) weak plain at = absurd h
     reached (suc m) le level (tree.Constant (Class i)) front rest (inl h) weak plain at = absurd h
     reached (suc m) le level (tree.Constant (Address x)) front rest (inl h) weak plain at = absurd h
     reached (suc m) le level (tree.Call a args names) front rest (inl h) weak plain at =

@@ -1,7 +1,7 @@
 -- Laws of the grammar: a limit may be raised, and a looser level asked.
 use Rattle.std.proofs.Common.{◌≡◌, ℕ, zero, suc, ◌+◌, ◌≤◌, List, [], ◌∷◌, ◌++◌, inl, inr, Option, Some, None, refl, sym, ap, ◌∙◌, subst, arith, add-one}
 use Rattle.std.specs.Prelude.{option_map}
-use Rattle.si_semantics.specs.Value.{Nothing, Truth, Int, Str, Provided, Function, Range, Tuple, Class, Address}
+use Rattle.si_semantics.specs.Value.{Nothing, Truth, Int, Str, Provided, Function, Range, Class, Address}
 use Rattle.si_semantics.specs.Tree.{UnaryOperator, ComparisonOperator, BooleanOperator, Expr, Exprs, Comparisons}
 use Rattle.si_semantics.specs.Tree as tree
 use Rattle.si_semantics.specs.Tokens.{Symbol, Keyword}
@@ -54,7 +54,6 @@ produces_mono E F w l (tree.Unary op a) ts h = (h.0, h.1, h.2, w (prefix_level o
 produces_mono E F w l (tree.Binary op a b) ts h = (h.0, h.1, h.2, h.3, w _ a h.0 h.4, w _ b h.1 h.5)
 produces_mono E F w l (tree.Constant (Function x k)) ts h = h
 produces_mono E F w l (tree.Constant (Range a b c)) ts h = h
-produces_mono E F w l (tree.Constant (Tuple us)) ts h = h
 produces_mono E F w l (tree.Constant (Class k)) ts h = h
 produces_mono E F w l (tree.Constant (Address x)) ts h = h
 produces_mono E F w l (tree.Call a args names) ts h = (h.0, h.1, h.2, h.3, h.4, w _ a h.0 h.5, h.6, separated_mono (Passes E) (Passes F) token.Comma (passes_mono E F w) h.2 h.1 h.7)
@@ -81,7 +80,6 @@ produces_looser E k l (tree.Unary op a) ts le h = (h.0, h.1, omega (arith, h.2),
 produces_looser E k l (tree.Binary op a b) ts le h = (h.0, h.1, h.2, omega (arith, h.3), h.4, h.5)
 produces_looser E k l (tree.Constant (Function x i)) ts le h = h
 produces_looser E k l (tree.Constant (Range a b c)) ts le h = h
-produces_looser E k l (tree.Constant (Tuple us)) ts le h = h
 produces_looser E k l (tree.Constant (Class i)) ts le h = h
 produces_looser E k l (tree.Constant (Address x)) ts le h = h
 produces_looser E k l (tree.Call a args names) ts le h = (h.0, h.1, h.2, h.3, omega (arith, h.4), h.5, h.6, h.7)

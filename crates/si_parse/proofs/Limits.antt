@@ -1,7 +1,7 @@
 -- A tree that is derived is within the limits.
 use Rattle.std.proofs.Common.{◌≡◌, ℕ, zero, suc, ◌+◌, ◌≤◌, List, [], ◌∷◌, ◌++◌, Bool, true, false, inl, inr, map, Option, Some, None, refl, sym, ap, ◌∙◌, subst, arith}
 use Rattle.std.specs.Prelude.{flat_map, if◌then◌else◌}
-use Rattle.si_semantics.specs.Value.{Text, Nothing, Truth, Int, Str, Provided, Function, Range, Tuple, Class, Address}
+use Rattle.si_semantics.specs.Value.{Text, Nothing, Truth, Int, Str, Provided, Function, Range, Class, Address}
 use Rattle.si_semantics.specs.Tree as tree
 use Rattle.si_semantics.specs.Tree.{BooleanOperator, Expr, Exprs, Comparisons, Stmt, Stmts, Clauses}
 use Rattle.si_semantics.specs.Tokens as token
@@ -89,7 +89,6 @@ bounded (suc n) l (tree.Constant (Truth b)) f (inl h) = leaf_low n (tree.Constan
 bounded (suc n) l (tree.Constant (Provided b)) f (inl h) = absurd h
 bounded (suc n) l (tree.Constant (Function x k)) f (inl h) = absurd h
 bounded (suc n) l (tree.Constant (Range a b c)) f (inl h) = absurd h
-bounded (suc n) l (tree.Constant (Tuple us)) f (inl h) = absurd h
 bounded (suc n) l (tree.Constant (Class k)) f (inl h) = absurd h
 bounded (suc n) l (tree.Constant (Address x)) f (inl h) = absurd h
 bounded (suc n) l (tree.Unary op a) f (inl h) = let x = bounded n (prefix_level op) a h.0 h.3 in record { depth = omega (arith, x.depth); literals = x.literals }

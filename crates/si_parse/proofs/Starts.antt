@@ -1,6 +1,6 @@
 -- How an expression begins: with a terminal of its own kind, and at least one.
 use Rattle.std.proofs.Common.{◌≡◌, ℕ, zero, suc, ◌<◌, ◌≤◌, List, [], ◌∷◌, ◌++◌, inl, inr, length, Bool, None, true, false, refl, sym, ap, ◌∙◌, subst, arith, append_assoc, length-append}
-use Rattle.si_semantics.specs.Value.{Nothing, Truth, Int, Str, Provided, Function, Range, Tuple, Class, Address}
+use Rattle.si_semantics.specs.Value.{Nothing, Truth, Int, Str, Provided, Function, Range, Class, Address}
 use Rattle.si_semantics.specs.Tree.{UnaryOperator, Expr}
 use Rattle.si_semantics.specs.Tree as tree
 use Rattle.si_semantics.specs.Tokens.{Keyword}
@@ -56,7 +56,6 @@ expression_begins (suc m) l (tree.Binary op a b) f (inl h) x =
     ap (λ t. begins (t ++ x)) h.2 ∙ ap begins (append_assoc h.0 (Sign (symbol_of op) ∷ h.1) x) ∙ expression_begins m (left_level op) a h.0 h.4 (Sign (symbol_of op) ∷ (h.1 ++ x))
 expression_begins (suc m) l (tree.Constant (Function i k)) f (inl h) x = absurd h
 expression_begins (suc m) l (tree.Constant (Range a b c)) f (inl h) x = absurd h
-expression_begins (suc m) l (tree.Constant (Tuple us)) f (inl h) x = absurd h
 expression_begins (suc m) l (tree.Constant (Class k)) f (inl h) x = absurd h
 expression_begins (suc m) l (tree.Constant (Address i)) f (inl h) x = absurd h
 expression_begins (suc m) l (tree.Call a args names) f (inl h) x =
@@ -219,7 +218,6 @@ singleton (suc m) (tree.Binary op a b) w (inl h) =
     absurd (omega (arith, ap length h.2, length-append h.0 (Sign (symbol_of op) ∷ h.1), some_terminals m (left_level op) a h.0 h.4))
 singleton (suc m) (tree.Constant (Function x k)) w (inl h) = absurd h
 singleton (suc m) (tree.Constant (Range a b c)) w (inl h) = absurd h
-singleton (suc m) (tree.Constant (Tuple us)) w (inl h) = absurd h
 singleton (suc m) (tree.Constant (Class k)) w (inl h) = absurd h
 singleton (suc m) (tree.Constant (Address x)) w (inl h) = absurd h
 singleton (suc m) (tree.Call a args names) w (inl h) =

@@ -1,7 +1,4 @@
 pub mod Value
-pub mod Opened
-pub mod Tuples
-pub mod Code
 pub mod Tree
 pub mod Tokens
 pub mod Text

@@ -4,12 +4,11 @@ use Rattle.si_plain.specs.declared.kind.Kind.{Kind}
 use Rattle.si_plain.specs.declared.kind.Kind.TheVariants.{BaseException, Exception, ArithmeticError, OverflowError, ZeroDivisionError, AttributeError, LookupError, IndexError, KeyError, NameError, UnboundLocalError, RuntimeError, RecursionError, SyntaxError, TypeError, ValueError}
 use Rattle.si_plain.specs.Kinds.{name_of, same_kind, is_a}
 use Rattle.si_plain.specs.Integers.{in_range, sum_of, difference_of, product_of, floor_quotient, floor_remainder, power_result, negative_of, shifted_left, shifted_right, inverted, bits_and, bits_or, bits_xor}
-use Rattle.si_semantics.specs.Value.{Text, Value, NoValues, Nothing, Truth, Int, Str, Provided, Function, Range, Tuple, Class, Address, BuiltIn, Print, MakeRange, MakeStr, Repr, Len, MakeBool, Abs, MakeInt, Ord, Chr, Min, Max, MakeTuple, Object, items_of, tuple_of}
+use Rattle.si_semantics.specs.Value.{Text, Value, Nothing, Truth, Int, Str, Provided, Function, Range, Class, Address, BuiltIn, Print, MakeRange, MakeStr, Repr, Len, MakeBool, Abs, MakeInt, Ord, Chr, Min, Max, Object}
 use Rattle.si_semantics.specs.Value as value
 use Rattle.si_semantics.specs.Tree as tree
 use Rattle.si_semantics.specs.Tree.{BinaryOperator, UnaryOperator, ComparisonOperator}
-use Rattle.si_semantics.specs.Text.{max_length, max_nested, built_in_name, same_text, same_int, str_in, repr_in, line_of}
-use Rattle.si_semantics.specs.Tuples.{is_too_large, characters_in, integers_from, repeated_items}
+use Rattle.si_semantics.specs.Text.{max_length, built_in_name, same_text, same_int, str_in, repr_in, line_of}
 use Rattle.si_semantics.specs.Numerals.{read_integer}
 use Rattle.si_semantics.specs.Literals.{is_character}
 use Rattle.si_semantics.specs.World.{World, Request, Answer, Ran, Gave, Threw, Replied}
@@ -95,10 +94,6 @@ operate_truths tree.BitXor a b w = gave (Truth (differ a b)) w
 operate_truths tree.BitAnd a b w = gave (Truth (a && b)) w
 operate_truths o a b w = integer (operate_integers o (int_of_truth a) (int_of_truth b)) w
 
--- a tuple of these items, where it is not too large (this project's own)
-abbrev pub tuple_within : List Value → World → Ran
-tuple_within vs w = if is_too_large (tuple_of vs) then too_long w else gave (tuple_of vs) w
-
 -- an operator between two values (Language Reference, 6.5 and 6.7 to 6.9)
 abbrev pub operate : BinaryOperator → Value → Value → World → Ran
 operate o (Int i) (Int j) w = integer (operate_integers o i j) w
@@ -110,11 +105,6 @@ operate tree.Multiply (Str s) (Int j) w = repeated s j w
 operate tree.Multiply (Str s) (Truth b) w = repeated s (int_of_truth b) w
 operate tree.Multiply (Int i) (Str t) w = repeated t i w
 operate tree.Multiply (Truth a) (Str t) w = repeated t (int_of_truth a) w
-operate tree.Add (Tuple us) (Tuple vs) w = tuple_within (items_of us ++ items_of vs) w
-operate tree.Multiply (Tuple us) (Int j) w = tuple_within (repeated_items (items_of us) j) w
-operate tree.Multiply (Tuple us) (Truth b) w = tuple_within (repeated_items (items_of us) (int_of_truth b)) w
-operate tree.Multiply (Int i) (Tuple vs) w = tuple_within (repeated_items (items_of vs) i) w
-operate tree.Multiply (Truth a) (Tuple vs) w = tuple_within (repeated_items (items_of vs) (int_of_truth a)) w
 operate _ _ _ w = wrong_type w
 
 -- an item of a range lies before its stop, the way that the step goes (Standard Library, "Built-in Types": ranges)
@@ -134,7 +124,6 @@ is_true (Truth b) w = b
 is_true (Int (pos zero)) w = false
 is_true (Str []) w = false
 is_true (Range a b c) w = is_item a b c
-is_true (Tuple NoValues) w = false
 is_true _ w = true
 
 -- an operator before a value (Language Reference, 6.6; `not`: 6.11)
@@ -169,7 +158,6 @@ same_built_in Ord Ord = true
 same_built_in Chr Chr = true
 same_built_in Min Min = true
 same_built_in Max Max = true
-same_built_in MakeTuple MakeTuple = true
 same_built_in _ _ = false
 
 -- two ranges have the same items (Standard Library, "Built-in Types": ranges)
@@ -177,47 +165,22 @@ abbrev pub same_range : (a b c d e f : ℤ) → Bool
 same_range a b c d e f =
     let n = range_length a b c in nat_eq n (range_length d e f) && (nat_eq n 0 || (same_int a d && (nat_eq n 1 || same_int c f)))
 
--- `==` of two values, by that of the items of two tuples: integers, True and False by their values, str by their
--- characters, ranges by their items, built-ins and kinds by name, exceptions by address, None is equal to itself; what is of
--- different kinds is unequal (Language Reference, 6.10.1); two functions are not compared (this project's own)
-abbrev pub equal_by : (List Value → List Value → Result Bool Kind) → Value → Value → World → Result Bool Kind
-equal_by items Nothing Nothing w = Ok true
-equal_by items (Int i) (Int j) w = Ok (same_int i j)
-equal_by items (Int i) (Truth b) w = Ok (same_int i (int_of_truth b))
-equal_by items (Truth a) (Int j) w = Ok (same_int (int_of_truth a) j)
-equal_by items (Truth a) (Truth b) w = Ok (not (differ a b))
-equal_by items (Str s) (Str t) w = Ok (same_text s t)
-equal_by items (Provided f) (Provided g) w = Ok (same_built_in f g)
-equal_by items (Function f k) (Function g l) w = Err TypeError
-equal_by items (Range a b c) (Range d e f) w = Ok (same_range a b c d e f)
-equal_by items (Tuple us) (Tuple vs) w = items (items_of us) (items_of vs)
-equal_by items (Class k) (Class l) w = Ok (same_kind k l)
-equal_by items (Address x) (Address y) w = Ok (nat_eq x y)
-equal_by items _ _ w = Ok false
-
--- where what came first is equal, what comes after it decides
-abbrev pub and_then : Result Bool Kind → Result Bool Kind → Result Bool Kind
-and_then (Ok true) rest = rest
-and_then decided rest = decided
-
--- items from the left, up to the first that are not equal
-abbrev pub each_equal : (Value → Value → Result Bool Kind) → List Value → List Value → Result Bool Kind
-each_equal equal [] [] = Ok true
-each_equal equal (u ∷ us) (v ∷ vs) = and_then (equal u v) (each_equal equal us vs)
-each_equal equal _ _ = Ok false
-
--- the items of two sequences: those of different lengths are not compared (Language Reference, 6.10.1)
-abbrev pub items_equal : (Value → Value → Result Bool Kind) → List Value → List Value → Result Bool Kind
-items_equal equal us vs = if nat_eq (length us) (length vs) then each_equal equal us vs else Ok false
-
--- `==`, where tuples are within each other at most so deep (this project's own)
-abbrev pub equal_within : ℕ → Value → Value → World → Result Bool Kind
-equal_within zero u v w = equal_by (λ us vs. Err RecursionError) u v w
-equal_within (suc n) u v w = equal_by (items_equal (λ a b. equal_within n a b w)) u v w
-
--- `==` (Language Reference, 6.10.1)
+-- `==`: integers, True and False by their values, str by their characters, ranges by their items, built-ins and kinds
+-- by name, exceptions by address, None is equal to itself; what is of different kinds is unequal (Language Reference,
+-- 6.10.1); two functions are not compared (this project's own)
 abbrev pub are_equal : Value → Value → World → Result Bool Kind
-are_equal u v w = equal_within max_nested u v w
+are_equal Nothing Nothing w = Ok true
+are_equal (Int i) (Int j) w = Ok (same_int i j)
+are_equal (Int i) (Truth b) w = Ok (same_int i (int_of_truth b))
+are_equal (Truth a) (Int j) w = Ok (same_int (int_of_truth a) j)
+are_equal (Truth a) (Truth b) w = Ok (not (differ a b))
+are_equal (Str s) (Str t) w = Ok (same_text s t)
+are_equal (Provided f) (Provided g) w = Ok (same_built_in f g)
+are_equal (Function f k) (Function g l) w = Err TypeError
+are_equal (Range a b c) (Range d e f) w = Ok (same_range a b c d e f)
+are_equal (Class k) (Class l) w = Ok (same_kind k l)
+are_equal (Address x) (Address y) w = Ok (nat_eq x y)
+are_equal _ _ w = Ok false
 
 -- `is`: None, True and False are each itself and nothing else (Language Reference, 6.10.3); the grammar lets nothing
 -- else stand after it
@@ -275,7 +238,7 @@ kind_named x (k ∷ ks) = if same_text x (name_of k) then Some k else kind_named
 
 -- the built-ins that are no kinds (Standard Library, "Built-in Functions"), this project's own choice among them
 abbrev pub built_ins : List BuiltIn
-built_ins = Print ∷ MakeRange ∷ MakeStr ∷ Repr ∷ Len ∷ MakeBool ∷ Abs ∷ MakeInt ∷ Ord ∷ Chr ∷ Min ∷ Max ∷ MakeTuple ∷ []
+built_ins = Print ∷ MakeRange ∷ MakeStr ∷ Repr ∷ Len ∷ MakeBool ∷ Abs ∷ MakeInt ∷ Ord ∷ Chr ∷ Min ∷ Max ∷ []
 
 -- the built-in of a name among these
 abbrev pub built_in_named : Text → List BuiltIn → Option BuiltIn
@@ -345,12 +308,11 @@ range_of (Some a) (Some b) (Some (pos zero)) w = refused ValueError (codes "wron
 range_of (Some a) (Some b) (Some c) w = gave (Range a b c) w
 range_of _ _ _ w = wrong_type w
 
--- how many characters or items a value has: a str, a range and a tuple have them (Standard Library, "Built-in Functions": len);
+-- how many characters or items a value has: a str and a range have them (Standard Library, "Built-in Functions": len);
 -- past the integers an OverflowError (this project's own)
 abbrev pub length_of : Value → World → Ran
 length_of (Str s) w = gave (Int (pos (length s))) w
 length_of (Range a b c) w = integer (in_range (pos (range_length a b c))) w
-length_of (Tuple vs) w = gave (Int (pos (length (items_of vs)))) w
 length_of _ w = wrong_type w
 
 -- an integer without its sign (Standard Library, "Built-in Functions": abs)
@@ -387,15 +349,8 @@ abbrev pub greatest : Value → List Value → World → Ran
 greatest u [] w = gave u w
 greatest u (v ∷ vs) w = elim (is_less u v w) [ Err k ↦ refused k (comparison_message k) w | Ok true ↦ greatest v vs w | Ok false ↦ greatest u vs w ]
 
--- the tuple of a value's items; a tuple is its own (Standard Library, "Built-in Types": tuple)
-abbrev pub tuple_from : Value → World → Ran
-tuple_from (Tuple vs) w = gave (Tuple vs) w
-tuple_from (Str s) w = tuple_within (characters_in s) w
-tuple_from (Range a b c) w = tuple_within (integers_from (range_length a b c) a c) w
-tuple_from _ w = wrong_type w
-
 -- a call of a built-in (Standard Library, "Built-in Functions": print, range, str, repr, len, bool, abs, int, ord, chr,
--- min, max, tuple); min and max take two values or more (this project's own)
+-- min, max); min and max take two values or more (this project's own)
 abbrev pub call_built_in : BuiltIn → List Value → World → Ran
 call_built_in Print vs w = printing (line_of w.store vs) w
 call_built_in MakeRange (b ∷ []) w = range_of (Some (pos 0)) (integer_in b) (Some (pos 1)) w
@@ -411,7 +366,6 @@ call_built_in Ord (v ∷ []) w = code_of v w
 call_built_in Chr (v ∷ []) w = character_of (integer_in v) w
 call_built_in Min (u ∷ v ∷ vs) w = least u (v ∷ vs) w
 call_built_in Max (u ∷ v ∷ vs) w = greatest u (v ∷ vs) w
-call_built_in MakeTuple (v ∷ []) w = tuple_from v w
 call_built_in _ _ w = wrong_arguments w
 
 -- a new exception as a value
@@ -460,22 +414,9 @@ abbrev pub is_of : Kind → Option Object → Bool
 is_of top None = false
 is_of top (Some (value.Exception k a)) = is_a k top
 
--- an object is an exception of one of these kinds, or of one under it; values that are no kinds have no answer, whatever
--- stands before them (this project's own)
-abbrev pub is_of_one : List Value → Option Object → Option Bool
-is_of_one [] o = Some false
-is_of_one (Class top ∷ vs) o = option_map (λ b. is_of top o || b) (is_of_one vs o)
-is_of_one _ o = None
-
--- the truth that a test gives, or that what was tested is of a wrong kind
-abbrev pub tested : Option Bool → World → Ran
-tested (Some b) w = gave (Truth b) w
-tested None w = wrong_type w
-
--- whether an except clause with this value, a kind or a tuple of kinds, matches an exception (Language Reference, 8.4.1)
+-- whether an except clause with this value matches an exception (Language Reference, 8.4.1)
 abbrev pub catches : Value → ℕ → World → Ran
 catches (Class top) x w = gave (Truth (is_of top (slice_get w.store x))) w
-catches (Tuple vs) x w = tested (is_of_one (items_of vs) (slice_get w.store x)) w
 catches _ x w = wrong_type w
 
 -- ---- items
@@ -486,15 +427,12 @@ pub data Iterator : Type 0 where
   Numbers : (at stop step : ℤ) → Iterator
   -- the characters of a text, each as a str
   Characters : Text → Iterator
-  -- the items of a tuple
-  Items : List Value → Iterator
   NoMore : Iterator
 
 -- what a value gives in a world, where it can be gone over
 abbrev pub iterator_of : Value → World → Option Iterator
 iterator_of (Range a b c) w = Some (Numbers a b c)
 iterator_of (Str s) w = Some (Characters s)
-iterator_of (Tuple vs) w = Some (Items (items_of vs))
 iterator_of _ w = None
 
 -- the items of a range after one: what lies past the integers lies past the stop
@@ -514,8 +452,6 @@ abbrev pub next_item : Iterator → World → Next
 next_item (Numbers at stop step) w = if is_item at stop step then Item (Int at) (numbers_from (sum_of at step) stop step) else Exhausted
 next_item (Characters []) w = Exhausted
 next_item (Characters (c ∷ cs)) w = Item (Str (c ∷ [])) (Characters cs)
-next_item (Items []) w = Exhausted
-next_item (Items (v ∷ vs)) w = Item v (Items vs)
 next_item NoMore w = Exhausted
 
 -- what an answer makes of a request

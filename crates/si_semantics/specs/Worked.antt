@@ -6,7 +6,6 @@ pub mod Exceptions
 pub mod Finally
 pub mod Items
 pub mod BuiltIns
-pub mod Tuples
 pub mod Scope
 pub mod Literals
 pub mod Layout

@@ -6,7 +6,6 @@ ghost use Rattle.si_semantics.specs.Worked.Exceptions.{ExceptionCases};
 ghost use Rattle.si_semantics.specs.Worked.Finally.{FinallyCases};
 ghost use Rattle.si_semantics.specs.Worked.BuiltIns.{BuiltInCases};
 ghost use Rattle.si_semantics.specs.Worked.Items.{ItemCases};
-ghost use Rattle.si_semantics.specs.Worked.Tuples.{TupleCases};
 ghost use Rattle.si_semantics.specs.Worked.Scope.{ScopeCases};
 ghost use Rattle.si_semantics.specs.Worked.Literals.{LiteralCases};
 ghost use Rattle.si_semantics.specs.Worked.Layout.{LayoutCases};
@@ -44,11 +43,6 @@ pub fn worked_items()
 /// The worked cases of the built-ins that give a value: what scripts print and how they end.
 pub fn worked_built_ins()
     ensures { BuiltInCases }
-{}
-
-/// The worked cases of tuples: what operations give for them.
-pub fn worked_tuples()
-    ensures { TupleCases }
 {}
 
 /// The worked cases of scopes: which texts are well scoped, and which names are local.
