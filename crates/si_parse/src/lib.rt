@@ -17,6 +17,7 @@ mod handler;
 mod literal;
 mod lookahead;
 mod name;
+mod octets;
 mod parser;
 mod precedence;
 mod statement;

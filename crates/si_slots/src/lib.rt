@@ -17,6 +17,7 @@ mod frame;
 mod full;
 mod instr;
 pub mod laws;
+mod literal;
 mod operand;
 mod pack;
 mod routine;
@@ -25,6 +26,7 @@ mod unpack;
 
 pub use full::FullInstr;
 pub use instr::Instr;
+pub use literal::Literal;
 pub use operand::{Aim, Constant, Source, Target};
 pub use routine::Routine;
 pub use table::{CodeTable, Mark};
