@@ -1,6 +1,5 @@
 pub mod Short
 pub mod Texts
-pub mod Bytes
 pub mod Causes
 pub mod Memory
 pub mod Views

@@ -80,7 +80,6 @@ fn row_of(expr: &Expr) -> Option<(BooleanOperator, &Expr, &[Expr])>
         Expr::Nothing => None,
         Expr::Truth(_) => None,
         Expr::Str(_) => None,
-        Expr::Bytes(_) => None,
         Expr::Unary(_, _) => None,
         Expr::Binary(_, _, _) => None,
         Expr::Call(_, _, _) => None,

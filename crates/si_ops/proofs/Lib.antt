@@ -1,7 +1,5 @@
 pub mod SameItems
 pub mod Running
-pub mod RunningBytes
-pub mod MadeBytes
 pub mod Compared
 pub mod Given
 pub mod Adding

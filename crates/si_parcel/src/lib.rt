@@ -3,7 +3,7 @@
 // Each value stands for pure data of `si_semantics`: a `Parcel` for a tree (`Parcels`), an `Action` and an `Answer` for
 // those of `Actions`. A contract sees a parcel as its tree alone; specs/Shared.antt says for which action a value stands.
 //
-// In reading order: `atom` (what has no parts), `parcel`, `refused` (what is past its limits) and
+// In reading order: `octets` (a row of bytes), `atom` (what has no parts), `parcel`, `refused` (what is past its limits) and
 // `top` (one level of it), `binds` and `ids` (lists in actions and answers), `outcome`, `job`, `action`, `answer`.
 #![tactic(auto)]
 
@@ -13,6 +13,7 @@ mod atom;
 mod binds;
 mod ids;
 mod job;
+mod octets;
 mod outcome;
 mod parcel;
 mod refused;
@@ -24,6 +25,7 @@ pub use atom::Atom;
 pub use binds::Binds;
 pub use ids::Ids;
 pub use job::Job;
+pub use octets::Octets;
 pub use outcome::Outcome;
 pub use parcel::Parcel;
 pub use refused::{TooLong, TupleFault};

@@ -9,6 +9,7 @@ ghost use Rattle.si_parcel.specs.Same.{same_by, same_by_per, same_by_equiv};
 ghost use Rattle.si_parcel.specs.declared.refused.TupleFault.TheVariants.{TooLarge, TooDeep};
 
 use crate::atom::{Atom, show_int, show_queue};
+use crate::octets::Octets;
 use crate::refused::{TooLong, TupleFault};
 use crate::top::Top;
 use si_plain::limits::MAX_STR_LENGTH;

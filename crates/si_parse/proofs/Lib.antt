@@ -5,7 +5,6 @@ pub mod Turns
 pub mod Built
 pub mod Literals
 pub mod Strings
-pub mod Octets
 pub mod Laws
 pub mod Levels
 pub mod Lists

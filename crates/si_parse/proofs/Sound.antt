@@ -10,8 +10,8 @@ use Rattle.si_semantics.specs.Tree as tree
 use Rattle.si_semantics.specs.Tokens.{Symbol, Keyword}
 use Rattle.si_semantics.specs.Tokens as token
 use Rattle.si_semantics.specs.Text.{max_length}
-use Rattle.si_semantics.specs.Grammar.{Terminal, NAME, NUMBER, STRING, BYTES, Sign, Word, value_of_int, value_of_str, value_of_bytes, level_of, left_level, right_level, symbol_of, prefix_level, prefix_of, boolean_level, item_level, word_of, comparison_of, is_identity, Many, Behind, Following, Separated, Argument, Positional, ByName, Passes, IsPassed, exprs_of, items_of, links_of, chain_of, Compares, Strings, Octets, Spells}
-use Rattle.si_parse.specs.inner.Reading.{short, str_by, octets_by, bytes_by, Argued, named_at, argument_from, argument_by, passed_from, called, boolean, continuation_at, strength_of, strength_at, then_read, rest_of, after_boolean, with_word, comparison_at, Found, Parser, with_argument, arguments_from, arguments_by, within, binary_by, call_by, operands_by, boolean_by, is_singleton, compared_to, compared_by, links_by, compare_by, other_by, conditional_by, extended_by, identity_from, continued_by, closed, strings_by, prefix_at, unary_by, bracketed_by, atom_by, operand_from, operand_by, expression_at, after}
+use Rattle.si_semantics.specs.Grammar.{Terminal, NAME, NUMBER, STRING, Sign, Word, value_of_int, value_of_str, level_of, left_level, right_level, symbol_of, prefix_level, prefix_of, boolean_level, item_level, word_of, comparison_of, is_identity, Many, Behind, Following, Separated, Argument, Positional, ByName, Passes, IsPassed, exprs_of, items_of, links_of, chain_of, Compares, Strings, Spells}
+use Rattle.si_parse.specs.inner.Reading.{short, str_by, Argued, named_at, argument_from, argument_by, passed_from, called, boolean, continuation_at, strength_of, strength_at, then_read, rest_of, after_boolean, with_word, comparison_at, Found, Parser, with_argument, arguments_from, arguments_by, within, binary_by, call_by, operands_by, boolean_by, is_singleton, compared_to, compared_by, links_by, compare_by, other_by, conditional_by, extended_by, identity_from, continued_by, closed, strings_by, prefix_at, unary_by, bracketed_by, atom_by, operand_from, operand_by, expression_at, after}
 use Rattle.si_parse.proofs.Laws.{named_at_some, passes_mono, spells_looser, spells_deeper, node, bracketed, then_read_some, some_inj, after_close_some, after_comma_some, after_else_some, with_word_some, with_word_none, prefix_at_some, comparison_at_some, links_of_chain, items_of_exprs, separated_mono, many_mono, compares_mono, behind_mono}
 use Rattle.si_parse.proofs.Levels.{strength_at_most, right_stops, right_bound, level_reached, Apart, high, at_condition, at_disjunction, at_comparison, right_apart, level_apart, prefix_apart, prefix_bound, boolean_apart, item_apart, item_bound, condition_up, condition_down, comparison_up, comparison_down, boolean_up, boolean_down, boolean_strength, after_word, boolean_ends, comparison_ends}
 use Rattle.si_parse.proofs.Lists.{le_from, chosen, added, separated_sound}
@@ -67,28 +67,6 @@ short_read ts r h =
     let s = then_read_some (strings_by [] ts) short r h in
     let c = cond_some (nat_le (length s.0.0) max_length) s.0 r s.2 in
     let P : List ℕ × List Terminal → Type 0 = λ r. (strings_by [] ts ≡ Some r) × (length r.0 ≤ max_length) in
-    subst P c.1 (s.1, le_from (length s.0.0) max_length c.0)
-
--- ---- bytes literals
-
-octets_read : (text : List ℕ) (ts : List Terminal) (r : List ℕ × List Terminal) → octets_by text ts ≡ Some r → (f : List Terminal) × (s : List ℕ) × (r.0 ≡ text ++ s) × (ts ≡ f ++ r.1) × Octets s f
-octets_read text [] r h =
-    let P : List ℕ × List Terminal → Type 0 = λ r. (f : List Terminal) × (s : List ℕ) × (r.0 ≡ text ++ s) × ([] ≡ f ++ r.1) × Octets s f in
-    subst P (some_inj (text, []) r h) ([], [], sym (append-nil text), refl, refl)
-octets_read text (BYTES literal ∷ ts) r h =
-    let s = then_read_some (value_of_bytes literal) (λ s. octets_by (text ++ s) ts) r h in
-    let y = octets_read (text ++ s.0) ts r s.2 in
-    (BYTES literal ∷ y.0, s.0 ++ y.1, y.2 ∙ append_assoc text s.0 y.1, ap (λ l. BYTES literal ∷ l) y.3, (s.0, y.1, refl, s.1, y.4))
-octets_read text (t ∷ ts) r h =
-    let P : List ℕ × List Terminal → Type 0 = λ r. (f : List Terminal) × (s : List ℕ) × (r.0 ≡ text ++ s) × (t ∷ ts ≡ f ++ r.1) × Octets s f in
-    subst P (some_inj (text, t ∷ ts) r h) ([], [], sym (append-nil text), refl, refl)
-
--- what is short was read, and is no longer than the limit
-few_read : (ts : List Terminal) (r : List ℕ × List Terminal) → bytes_by ts ≡ Some r → (octets_by [] ts ≡ Some r) × (length r.0 ≤ max_length)
-few_read ts r h =
-    let s = then_read_some (octets_by [] ts) short r h in
-    let c = cond_some (nat_le (length s.0.0) max_length) s.0 r s.2 in
-    let P : List ℕ × List Terminal → Type 0 = λ r. (octets_by [] ts ≡ Some r) × (length r.0 ≤ max_length) in
     subst P c.1 (s.1, le_from (length s.0.0) max_length c.0)
 
 -- ---- arguments
@@ -251,26 +229,11 @@ module _ (n : ℕ) (sub : Parser) (sound : IsSound n sub) where
         subst B (sym y.3) (
         atom (STRING literal ∷ y.0) w.0.1 (tree.Constant (Str w.0.0)) (node 0 18 (tree.Constant (Str w.0.0)) (STRING literal ∷ y.0) (omega arith, s.1, whole))))
 
-    bytes_reads : (literal : List ℕ) (ts : List Terminal) (r : Found) → atom_by sub (BYTES literal ∷ ts) ≡ Some r → Begins (BYTES literal ∷ ts) r
-    bytes_reads literal ts r h =
-        let w = then_read_some (bytes_by (BYTES literal ∷ ts)) (λ r. Some (tree.Constant (Bytes r.0), 1, r.1)) r h in
-        let s = few_read (BYTES literal ∷ ts) w.0 w.1 in
-        let v = then_read_some (value_of_bytes literal) (λ s. octets_by s ts) w.0 s.0 in
-        let y = octets_read v.0 ts w.0 v.2 in
-        let P : Found → Type 0 = Begins (BYTES literal ∷ ts) in
-        let Q : List ℕ → Type 0 = λ t. Octets t (BYTES literal ∷ y.0) in
-        let whole : Octets w.0.0 (BYTES literal ∷ y.0) = subst Q (sym y.2) (v.0, y.1, refl, v.1, y.4) in
-        let B : List Terminal → Type 0 = λ l. Begins (BYTES literal ∷ l) (tree.Constant (Bytes w.0.0), 1, w.0.1) in
-        subst P (some_inj (tree.Constant (Bytes w.0.0), 1, w.0.1) r w.2) (
-        subst B (sym y.3) (
-        atom (BYTES literal ∷ y.0) w.0.1 (tree.Constant (Bytes w.0.0)) (node 0 18 (tree.Constant (Bytes w.0.0)) (BYTES literal ∷ y.0) (omega arith, s.1, whole))))
-
     atom_reads : (ts : List Terminal) (r : Found) → atom_by sub ts ≡ Some r → Begins ts r
     atom_reads [] r h = cc
     atom_reads (NAME x ∷ ts) r h = name_reads x ts r h
     atom_reads (NUMBER digits ∷ ts) r h = number_reads digits ts r h
     atom_reads (STRING literal ∷ ts) r h = string_reads literal ts r h
-    atom_reads (BYTES literal ∷ ts) r h = bytes_reads literal ts r h
     atom_reads (Word token.NoneWord ∷ ts) r h =
         let P : Found → Type 0 = Begins (Word token.NoneWord ∷ ts) in
         subst P (some_inj (tree.Constant Nothing, 1, ts) r h) (atom (Word token.NoneWord ∷ []) ts (tree.Constant Nothing) (node 0 18 (tree.Constant Nothing) (Word token.NoneWord ∷ []) refl))

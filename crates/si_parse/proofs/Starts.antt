@@ -1,11 +1,11 @@
 -- How an expression begins: with a terminal of its own kind, and at least one.
 use Rattle.std.proofs.Common.{◌≡◌, ℕ, zero, suc, ◌<◌, ◌≤◌, List, [], ◌∷◌, ◌++◌, inl, inr, length, Bool, None, true, false, refl, sym, ap, ◌∙◌, subst, arith, append_assoc, length-append}
-use Rattle.si_semantics.specs.Value.{Nothing, Truth, Int, Str, Bytes, Provided, Function, Range, Class, Address}
+use Rattle.si_semantics.specs.Value.{Nothing, Truth, Int, Str, Provided, Function, Range, Class, Address}
 use Rattle.si_semantics.specs.Tree.{UnaryOperator, Expr}
 use Rattle.si_semantics.specs.Tree as tree
 use Rattle.si_semantics.specs.Tokens.{Keyword}
 use Rattle.si_semantics.specs.Tokens as token
-use Rattle.si_semantics.specs.Grammar.{Terminal, NAME, NUMBER, STRING, BYTES, Sign, Word, NEWLINE, DEDENT, symbol_of, left_level, prefix_of, prefix_level, item_level, truth_word, Strings, Octets, Spells}
+use Rattle.si_semantics.specs.Grammar.{Terminal, NAME, NUMBER, STRING, Sign, Word, NEWLINE, DEDENT, symbol_of, left_level, prefix_of, prefix_level, item_level, truth_word, Strings, Spells}
 use Rattle.si_parse.specs.inner.Reading.{header_at, ends_small, is_dedent, word_statement, is_singleton, after}
 
 -- whether an operand may begin so
@@ -13,7 +13,6 @@ abbrev pub is_operand : Terminal → Bool
 is_operand (NAME x) = true
 is_operand (NUMBER x) = true
 is_operand (STRING x) = true
-is_operand (BYTES x) = true
 is_operand (Sign token.Plus) = true
 is_operand (Sign token.Minus) = true
 is_operand (Sign token.Tilde) = true
@@ -32,11 +31,6 @@ begins_strings : (s : List ℕ) (f : List Terminal) → 0 < length f → Strings
 begins_strings s [] some h x = absurd (omega arith)
 begins_strings s (STRING literal ∷ ts) some h x = refl
 begins_strings s (_ ∷ ts) some h x = absurd h
-
-begins_octets : (s : List ℕ) (f : List Terminal) → 0 < length f → Octets s f → (x : List Terminal) → begins (f ++ x) ≡ true
-begins_octets s [] some h x = absurd (omega arith)
-begins_octets s (BYTES literal ∷ ts) some h x = refl
-begins_octets s (_ ∷ ts) some h x = absurd h
 
 begins_prefix : (op : UnaryOperator) → is_operand (prefix_of op) ≡ true
 begins_prefix tree.Plus = refl
@@ -57,7 +51,6 @@ expression_begins (suc m) l (tree.Constant (Str s)) f (inl h) x = begins_strings
 expression_begins (suc m) l (tree.Constant Nothing) f (inl h) x = ap (λ t. begins (t ++ x)) h
 expression_begins (suc m) l (tree.Constant (Truth b)) f (inl h) x = ap (λ t. begins (t ++ x)) h ∙ begins_truth b
 expression_begins (suc m) l (tree.Constant (Provided b)) f (inl h) x = absurd h
-expression_begins (suc m) l (tree.Constant (Bytes bs)) f (inl h) x = begins_octets bs f h.0 h.2 x
 expression_begins (suc m) l (tree.Unary op a) f (inl h) x = ap (λ t. begins (t ++ x)) h.1 ∙ begins_prefix op
 expression_begins (suc m) l (tree.Binary op a b) f (inl h) x =
     ap (λ t. begins (t ++ x)) h.2 ∙ ap begins (append_assoc h.0 (Sign (symbol_of op) ∷ h.1) x) ∙ expression_begins m (left_level op) a h.0 h.4 (Sign (symbol_of op) ∷ (h.1 ++ x))
@@ -220,7 +213,6 @@ singleton (suc m) (tree.Constant (Str s)) w (inl h) = absurd h.2
 singleton (suc m) (tree.Constant Nothing) w (inl h) = spelled_none w h
 singleton (suc m) (tree.Constant (Truth b)) w (inl h) = spelled_truth b w h
 singleton (suc m) (tree.Constant (Provided b)) w (inl h) = absurd h
-singleton (suc m) (tree.Constant (Bytes bs)) w (inl h) = absurd h.2
 singleton (suc m) (tree.Unary op a) w (inl h) = absurd (no_prefix op w h.0 h.2 h.1)
 singleton (suc m) (tree.Binary op a b) w (inl h) =
     absurd (omega (arith, ap length h.2, length-append h.0 (Sign (symbol_of op) ∷ h.1), some_terminals m (left_level op) a h.0 h.4))

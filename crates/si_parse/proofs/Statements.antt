@@ -8,7 +8,7 @@ use Rattle.si_semantics.specs.Tree.{BinaryOperator, Expr, Stmt}
 use Rattle.si_semantics.specs.Tokens.{Symbol}
 use Rattle.si_semantics.specs.Tokens as token
 use Rattle.si_semantics.specs.Grammar.{Terminal, Sign, Word, NEWLINE, Following, Separated, max_depth, IsExpression, augmented_of, Small, Simple}
-use Rattle.si_parse.specs.inner.Reading.{then_read, rest_of, strength_at, begins_literal, no_comma, names_by, ends_small, value_by, returned_by, raised_by, global_by, expression_at, assignment_symbol, assignment_at, assigned, statement_from, spelled_by, word_statement, small_from, statement_by, with_statement, line_by, after}
+use Rattle.si_parse.specs.inner.Reading.{then_read, rest_of, strength_at, begins_str, no_comma, names_by, ends_small, value_by, returned_by, raised_by, global_by, expression_at, assignment_symbol, assignment_at, assigned, statement_from, spelled_by, word_statement, small_from, statement_by, with_statement, line_by, after}
 use Rattle.si_parse.proofs.Laws.{then_read_some, some_inj, spells_deeper, after_semicolon_some, after_newline_some, after_return_some, after_global_some, after_raise_some}
 use Rattle.si_parse.proofs.Levels.{at_condition}
 use Rattle.si_parse.proofs.Lists.{chosen, added, Pairwise, separated_sound, separated_complete}
@@ -62,7 +62,7 @@ assignment_is (Some tree.FloorDivide) ts = refl
 assignment_is (Some tree.Modulo) ts = refl
 assignment_is (Some tree.Power) ts = refl
 
-sign_weak : (a : Option BinaryOperator) (ts : List Terminal) → (strength_at (Sign (sign_of a) ∷ ts) < 1) × (begins_literal (Sign (sign_of a) ∷ ts) ≡ false)
+sign_weak : (a : Option BinaryOperator) (ts : List Terminal) → (strength_at (Sign (sign_of a) ∷ ts) < 1) × (begins_str (Sign (sign_of a) ∷ ts) ≡ false)
 sign_weak None ts = (omega arith, refl)
 sign_weak (Some tree.BitOr) ts = (omega arith, refl)
 sign_weak (Some tree.BitXor) ts = (omega arith, refl)
@@ -183,7 +183,7 @@ statement_reads ts r h = small_reads ts (word_statement ts) (after (Word token.R
 
 -- what may stand after a statement
 abbrev Follows : List Terminal → Type 0
-Follows more = (strength_at more < 1) × (begins_literal more ≡ false) × (assignment_at more ≡ None) × (ends_small more ≡ true)
+Follows more = (strength_at more < 1) × (begins_str more ≡ false) × (assignment_at more ≡ None) × (ends_small more ≡ true)
 
 by_expression : (m : ℕ) (e : Expr) (f more : List Terminal) → IsExpression e f → statement_by (expression_at max_depth) (f ++ more) ≡ spelled_by (expression_at max_depth) (f ++ more)
 by_expression m e f more h =

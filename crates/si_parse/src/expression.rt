@@ -9,14 +9,13 @@ ghost use Rattle.si_parse.specs.inner.Gives.{Gives, from, continuation_view, arg
 use crate::argument::{Argument, named_at, passed};
 use crate::fault::ParseFault;
 use crate::literal::str_value;
-use crate::octets::bytes_at;
 use crate::lookahead::{after, after_arguments, after_boolean, after_word, line_at, token_at};
 use crate::precedence::{
     BIT_OR, Continuation, DISJUNCTION, EXPRESSION, comparison_at, item_level, prefix_at,
     prefix_level, right_level, strength, what_follows,
 };
 use si_plain::limits::MAX_STR_LENGTH;
-use si_plain::{Octets, BinaryOperator, BooleanOperator, ComparisonOperator, Text, UnaryOperator};
+use si_plain::{BinaryOperator, BooleanOperator, ComparisonOperator, Text, UnaryOperator};
 use si_syntax::Expr;
 use si_token::{Keyword, Symbol, Token, TokenKind, int_value};
 use std::alloc::Global;
@@ -118,10 +117,6 @@ fn atom(alloc: Global, parts: u32, tokens: &[Token], at: usize) -> Read
         TokenKind::Str => {
             let (text, at) = str_at(alloc, tokens, at)?;
             Ok((Expr::Str(text), 1, at))
-        }
-        TokenKind::Bytes => {
-            let (bytes, at) = bytes_at(alloc, tokens, at)?;
-            Ok((Expr::Bytes(Octets::new(bytes)), 1, at))
         }
         TokenKind::Keyword(Keyword::None) => Ok((Expr::Nothing, 1, at + 1)),
         TokenKind::Keyword(Keyword::True) => Ok((Expr::Truth(true), 1, at + 1)),

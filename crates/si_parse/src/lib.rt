@@ -17,7 +17,6 @@ mod handler;
 mod literal;
 mod lookahead;
 mod name;
-mod octets;
 mod parser;
 mod precedence;
 mod statement;

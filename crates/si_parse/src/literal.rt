@@ -1,9 +1,8 @@
-// The values of literals of strs and bytes.
+// The value of a str literal.
 
-ghost use Rattle.std.specs.Prelude.{◌≡◌, ◌==◌, ◌||◌, ◌++◌, not, chars, IfOk, OnOk};
+ghost use Rattle.std.specs.Prelude.{◌≡◌, ◌==◌, ◌||◌, ◌++◌, not, OnOk};
 ghost use Rattle.std.specs.Option.{option_to_list};
-ghost use Rattle.si_semantics.specs.Literals.{value_of_literal, value_of_str, value_of_bytes};
-ghost use Rattle.si_parse.specs.inner.Literals.{bytes_of, found_of};
+ghost use Rattle.si_semantics.specs.Literals.{value_of_str};
 ghost use Rattle.si_parse.specs.inner.Gives.{Gives};
 
 use crate::fault::ParseFault;
@@ -32,46 +31,6 @@ fn is_plain(raw: bool, character: char) -> bool
 pub(crate) fn str_value(alloc: Global, literal: &str, line: usize) -> Result<Text, ParseFault>
     ensures { Gives (λ text. text) result (value_of_str literal.now) }
 {
-    written(alloc, false, literal, line)
-}
-
-// The value of a bytes literal, which stands in the line.
-pub(crate) fn bytes_value(alloc: Global, literal: &str, line: usize) -> Result<Vec<u8>, ParseFault>
-    ensures { Gives (λ bytes. bytes.items) result (value_of_bytes literal.now) }
-{
-    if !literal.is_ascii() {
-        return Err(ParseFault::Syntax(line));
-    }
-    let text = written(alloc, true, literal, line)?;
-    match bytes_of(alloc, text.as_str())? {
-        Some(bytes) => Ok(bytes),
-        None => Err(ParseFault::Syntax(line)),
-    }
-}
-
-// The numbers of characters as bytes, where each is below 256.
-fn bytes_of(alloc: Global, text: &str) -> Result<Option<Vec<u8>>, AllocError>
-    ensures { IfOk result (λ found. found_of found ≡ bytes_of (chars text.now)) }
-{
-    let mut bytes = Vec::new(alloc);
-    for character in text.chars() {
-        let Ok(byte) = u8::try_from(u32::from(character)) else {
-            return Ok(None);
-        };
-        bytes.push(byte)?;
-    }
-    Ok(Some(bytes))
-}
-
-// What a literal writes, of bytes or of a text.
-fn written(
-    alloc: Global,
-    bytes: bool,
-    literal: &str,
-    line: usize,
-) -> Result<Text, ParseFault>
-    ensures { Gives (λ text. text) result (value_of_literal bytes (chars literal.now)) }
-{
     let raw = begins_raw(literal);
     let mut rest = between_quotes(unprefixed(literal));
     let mut text = Text::new(alloc);
@@ -84,10 +43,10 @@ fn written(
         } else if is_plain(raw, character) {
             text.push(character)?;
         } else {
-            let Some((character, count)) = escape(bytes, behind) else {
+            let Some((written, count)) = escape(behind) else {
                 return Err(ParseFault::Syntax(line));
             };
-            keep(&mut text, character)?;
+            keep(&mut text, written)?;
             skipped = count;
         }
     }

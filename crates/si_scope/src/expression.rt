@@ -18,7 +18,7 @@ pub(crate) fn use_names(expr: &Expr, used: &mut Names) -> Result<(), NoMemory>
             used.slot_of(name.as_str())?;
             Ok(())
         }
-        Expr::Int(_) | Expr::Nothing | Expr::Truth(_) | Expr::Str(_) | Expr::Bytes(_) => Ok(()),
+        Expr::Int(_) | Expr::Nothing | Expr::Truth(_) | Expr::Str(_) => Ok(()),
         Expr::Unary(_, operand) => use_names(operand, used),
         Expr::Binary(_, left, right) => {
             use_names(left, used)?;

@@ -5,7 +5,6 @@ pub mod WorkedExceptions
 pub mod WorkedFinally
 pub mod WorkedItems
 pub mod WorkedBuiltIns
-pub mod WorkedBytes
 pub mod WorkedScope
 pub mod Names
 pub mod WorkedLiterals

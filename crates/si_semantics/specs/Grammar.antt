@@ -1,14 +1,14 @@
 -- The grammar: which tokens derive which tree (Python Language Reference 3.14, 6, 7, 8 and 10).
 -- Each rule stands in the line above its production, in the notation of the reference.
 use Rattle.std.specs.Prelude.{◌≡◌, ℕ, zero, suc, ◌<◌, ◌≤◌, Bool, true, false, List, [], ◌∷◌, ◌++◌, length, map, flat_map, ◌⊎◌, Option, Some, None}
-use Rattle.si_semantics.specs.Value.{Text, Nothing, Truth, Int, Str, Bytes, Provided, Function, Range, Class, Address}
+use Rattle.si_semantics.specs.Value.{Text, Nothing, Truth, Int, Str, Provided, Function, Range, Class, Address}
 use Rattle.si_semantics.specs.Tree.{BinaryOperator, UnaryOperator, ComparisonOperator, BooleanOperator, Expr, Exprs, Comparisons, Stmt, Target, Stmts, Clauses}
 use Rattle.si_semantics.specs.Tree as tree
 use Rattle.si_semantics.specs.Scope.{are_distinct}
 use Rattle.si_semantics.specs.Text.{max_length}
 use Rattle.si_semantics.specs.Tokens.{Symbol, Keyword, TokenKind, Token}
 use Rattle.si_semantics.specs.Tokens as token
-pub use Rattle.si_semantics.specs.Literals.{value_of_int, value_of_str, value_of_bytes}
+pub use Rattle.si_semantics.specs.Literals.{value_of_int, value_of_str}
 
 -- ---- terminals
 
@@ -17,7 +17,6 @@ pub data Terminal : Type 0 where
   NAME : List ℕ → Terminal
   NUMBER : List ℕ → Terminal
   STRING : List ℕ → Terminal
-  BYTES : List ℕ → Terminal
   Sign : Symbol → Terminal
   Word : Keyword → Terminal
   NEWLINE : Terminal
@@ -29,7 +28,6 @@ abbrev pub terminal : TokenKind → List ℕ → Terminal
 terminal token.Name text = NAME text
 terminal token.Int text = NUMBER text
 terminal token.Str text = STRING text
-terminal token.Bytes text = BYTES text
 terminal (token.Sign s) text = Sign s
 terminal (token.Word w) text = Word w
 terminal token.Newline text = NEWLINE
@@ -246,12 +244,6 @@ Strings s [] = s ≡ []
 Strings s (STRING literal ∷ ts) = (a : Text) × (b : Text) × (s ≡ a ++ b) × (value_of_str literal ≡ Some a) × Strings b ts
 Strings s (_ ∷ ts) = ⊥
 
--- the bytes of bytes literals beside each other (6.2.3.2)
-abbrev pub Octets : List ℕ → List Terminal → Type 0
-Octets bs [] = bs ≡ []
-Octets bs (BYTES literal ∷ ts) = (a : List ℕ) × (b : List ℕ) × (bs ≡ a ++ b) × (value_of_bytes literal ≡ Some a) × Octets b ts
-Octets bs (_ ∷ ts) = ⊥
-
 -- an argument of a call: an expression, or a name and the expression that is passed by it
 pub data Argument : Type 0 where
   Positional : Expr → Argument
@@ -273,13 +265,11 @@ pub record IsPassed (arguments : List Argument) (values : List Expr) (names : Li
 
 -- one production for each kind of tree, over the language of the parts
 abbrev pub Produces : Language → Language
--- atom: NAME | NUMBER | STRING+ | BYTES+ | 'None' | 'True' | 'False'
--- The text of str literals beside each other is no longer than a str may be, and no more are the bytes of bytes literals,
--- which is a choice of this project.
+-- atom: NAME | NUMBER | STRING+ | 'None' | 'True' | 'False'
+-- The text of str literals beside each other is no longer than a str may be, which is a choice of this project.
 Produces E l (tree.Name x) ts = ts ≡ NAME x ∷ []
 Produces E l (tree.Constant (Int n)) ts = (digits : List ℕ) × (ts ≡ NUMBER digits ∷ []) × (value_of_int digits ≡ Some n)
 Produces E l (tree.Constant (Str s)) ts = (0 < length ts) × (length s ≤ max_length) × Strings s ts
-Produces E l (tree.Constant (Bytes bs)) ts = (0 < length ts) × (length bs ≤ max_length) × Octets bs ts
 Produces E l (tree.Constant Nothing) ts = ts ≡ Word token.NoneWord ∷ []
 Produces E l (tree.Constant (Truth b)) ts = ts ≡ Word (truth_word b) ∷ []
 Produces E l (tree.Constant (Provided b)) ts = ⊥

@@ -6,7 +6,6 @@ pub mod Exceptions
 pub mod Finally
 pub mod Items
 pub mod BuiltIns
-pub mod Bytes
 pub mod Scope
 pub mod Literals
 pub mod Layout

@@ -5,7 +5,6 @@ ghost use Rattle.si_semantics.specs.Worked.Functions.{FunctionCases};
 ghost use Rattle.si_semantics.specs.Worked.Exceptions.{ExceptionCases};
 ghost use Rattle.si_semantics.specs.Worked.Finally.{FinallyCases};
 ghost use Rattle.si_semantics.specs.Worked.BuiltIns.{BuiltInCases};
-ghost use Rattle.si_semantics.specs.Worked.Bytes.{BytesCases};
 ghost use Rattle.si_semantics.specs.Worked.Items.{ItemCases};
 ghost use Rattle.si_semantics.specs.Worked.Scope.{ScopeCases};
 ghost use Rattle.si_semantics.specs.Worked.Literals.{LiteralCases};
@@ -44,11 +43,6 @@ pub fn worked_items()
 /// The worked cases of the built-ins that give a value: what scripts print and how they end.
 pub fn worked_built_ins()
     ensures { BuiltInCases }
-{}
-
-/// The worked cases of bytes: what scripts print and how they end, and their parcels.
-pub fn worked_bytes()
-    ensures { BytesCases }
 {}
 
 /// The worked cases of scopes: which texts are well scoped, and which names are local.

@@ -17,7 +17,6 @@ mod frame;
 mod full;
 mod instr;
 pub mod laws;
-mod literal;
 mod operand;
 mod pack;
 mod routine;
@@ -26,7 +25,6 @@ mod unpack;
 
 pub use full::FullInstr;
 pub use instr::Instr;
-pub use literal::Literal;
 pub use operand::{Aim, Constant, Source, Target};
 pub use routine::Routine;
 pub use table::{CodeTable, Mark};

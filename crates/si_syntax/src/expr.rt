@@ -1,6 +1,6 @@
 // Expressions.
 
-use si_plain::{BinaryOperator, BooleanOperator, ComparisonOperator, Octets, Text, UnaryOperator};
+use si_plain::{BinaryOperator, BooleanOperator, ComparisonOperator, Text, UnaryOperator};
 
 /// An expression.
 #[derive(Debug, Drop)]
@@ -15,8 +15,6 @@ pub enum Expr {
     Truth(bool),
     /// One str literal or several beside each other, with their escapes read.
     Str(Text),
-    /// One bytes literal or several beside each other, with their escapes read.
-    Bytes(Octets),
     Unary(UnaryOperator, Box<Expr>),
     Binary(BinaryOperator, Box<Expr>, Box<Expr>),
     /// A callee, its arguments, and the names of those that are passed by name, which are the last ones. No name comes

@@ -34,7 +34,7 @@ fn instruction_by_instruction(rt: HostRuntime) -> Result<(), Fail> {
         FullInstr::StoreGlobal(0, Source::Temporary(0)),
         FullInstr::LoadGlobal(Target::Temporary(0), 1),
         FullInstr::LoadGlobal(Target::Temporary(1), 0),
-        FullInstr::Copy(Target::Temporary(2), Source::Literal(Constant::Placed(0))),
+        FullInstr::Copy(Target::Temporary(2), Source::Literal(Constant::Str(0))),
         FullInstr::Call(Target::Nowhere, 0, 2),
         FullInstr::Finish,
     ];

@@ -1,6 +1,6 @@
 -- Reading as a function on lists of terminals, which the parser computes: what stands between grammar and code.
 use Rattle.std.specs.Prelude.{ℕ, zero, suc, ◌+◌, max, List, [], ◌∷◌, ◌++◌, length, Option, Some, None, option_map, nat_lt, nat_le, nat_eq, Bool, true, false, not, ◌&&◌, if◌then◌else◌}
-use Rattle.si_semantics.specs.Value.{Text, Nothing, Truth, Int, Str, Bytes}
+use Rattle.si_semantics.specs.Value.{Text, Nothing, Truth, Int, Str}
 use Rattle.si_semantics.specs.Tree.{BinaryOperator, UnaryOperator, ComparisonOperator, BooleanOperator, Expr, Stmt, Target, Stmts}
 use Rattle.si_semantics.specs.Tree as tree
 use Rattle.si_semantics.specs.Scope.{is_in}
@@ -8,7 +8,7 @@ use Rattle.si_semantics.specs.Tokens.{Symbol, Keyword}
 use Rattle.si_semantics.specs.Tokens as token
 use Rattle.si_semantics.specs.Text.{max_length}
 use Rattle.si_parse.specs.inner.Numbers.{same_symbol, same_keyword}
-use Rattle.si_semantics.specs.Grammar.{Terminal, NAME, NUMBER, STRING, BYTES, Sign, Word, NEWLINE, INDENT, DEDENT, ENDMARKER, Argument, Positional, ByName, value_of_int, value_of_str, value_of_bytes, left_level, right_level, prefix_level, item_level, is_identity, Link, chain_of, exprs_of, max_depth, Branch, stmts_of, elifs_of, Clause, clauses_of, max_nesting, max_parameters, word_of}
+use Rattle.si_semantics.specs.Grammar.{Terminal, NAME, NUMBER, STRING, Sign, Word, NEWLINE, INDENT, DEDENT, ENDMARKER, Argument, Positional, ByName, value_of_int, value_of_str, left_level, right_level, prefix_level, item_level, is_identity, Link, chain_of, exprs_of, max_depth, Branch, stmts_of, elifs_of, Clause, clauses_of, max_nesting, max_parameters, word_of}
 
 -- ---- one terminal of look-ahead
 
@@ -73,11 +73,10 @@ abbrev pub strength_at : List Terminal → ℕ
 strength_at ts = strength_of (continuation_at ts)
 
 -- whether a str literal stands first
-abbrev pub begins_literal : List Terminal → Bool
-begins_literal [] = false
-begins_literal (STRING literal ∷ ts) = true
-begins_literal (BYTES literal ∷ ts) = true
-begins_literal (_ ∷ ts) = false
+abbrev pub begins_str : List Terminal → Bool
+begins_str [] = false
+begins_str (STRING literal ∷ ts) = true
+begins_str (_ ∷ ts) = false
 
 -- the terminals after the first
 abbrev pub rest_of : List Terminal → List Terminal
@@ -388,16 +387,6 @@ short r = if nat_le (length r.0) max_length then Some r else None
 abbrev pub str_by : List Terminal → Option (Text × List Terminal)
 str_by ts = then_read (strings_by [] ts) short
 
--- the joined bytes of the bytes literals that stand first, after others
-abbrev pub octets_by : List ℕ → List Terminal → Option (List ℕ × List Terminal)
-octets_by bs [] = Some (bs, [])
-octets_by bs (BYTES literal ∷ ts) = then_read (value_of_bytes literal) (λ s. octets_by (bs ++ s) ts)
-octets_by bs (t ∷ ts) = Some (bs, t ∷ ts)
-
--- the bytes of the bytes literals that stand first, where they are few enough
-abbrev pub bytes_by : List Terminal → Option (List ℕ × List Terminal)
-bytes_by ts = then_read (octets_by [] ts) short
-
 -- the operator that stands before an operand
 abbrev pub prefix_at : List Terminal → Option UnaryOperator
 prefix_at [] = None
@@ -418,7 +407,6 @@ atom_by sub [] = None
 atom_by sub (NAME x ∷ ts) = Some (tree.Name x, 1, ts)
 atom_by sub (NUMBER digits ∷ ts) = then_read (value_of_int digits) (λ n. Some (tree.Constant (Int n), 1, ts))
 atom_by sub (STRING literal ∷ ts) = then_read (str_by (STRING literal ∷ ts)) (λ r. Some (tree.Constant (Str r.0), 1, r.1))
-atom_by sub (BYTES literal ∷ ts) = then_read (bytes_by (BYTES literal ∷ ts)) (λ r. Some (tree.Constant (Bytes r.0), 1, r.1))
 atom_by sub (Word token.NoneWord ∷ ts) = Some (tree.Constant Nothing, 1, ts)
 atom_by sub (Word token.TrueWord ∷ ts) = Some (tree.Constant (Truth true), 1, ts)
 atom_by sub (Word token.FalseWord ∷ ts) = Some (tree.Constant (Truth false), 1, ts)

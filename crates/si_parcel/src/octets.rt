@@ -29,13 +29,6 @@ impl Octets {
         Ok(Octets { bytes })
     }
 
-    /// These bytes.
-    pub fn new(bytes: Vec<u8>) -> Octets
-        ensures { result ≡ bytes.items }
-    {
-        Octets { bytes }
-    }
-
     /// Its bytes, in order.
     pub fn as_slice(&self) -> &[u8]
         ensures { result.now ≡ self.now }
