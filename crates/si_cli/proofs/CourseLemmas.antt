@@ -2,7 +2,6 @@
 use Rattle.std.proofs.Common.{◌≡◌, ◌∙◌, ◌++◌, ◌+◌, ◌<◌, ℕ, zero, suc, List, [], ◌∷◌, None, Some, ap, ap₂, append_assoc, arith, chars, encode_utf8_all, refl, string_bytes, subst, sym}
 use Rattle.std.proofs.lemmas.Str.{chars-nil, chars_from_encodes, encodes-append, IsUtf8-string_bytes}
 use Rattle.si_semantics.specs.Tree.{Module}
-use Rattle.si_semantics.specs.Value.{Text}
 use Rattle.si_semantics.specs.World.{Answer, World, first_world}
 use Rattle.si_semantics.specs.Life.{joined, not_read}
 use Rattle.si_slots.specs.Code.{compiled}
@@ -16,6 +15,7 @@ use Rattle.si_slots.proofs.Courses.{adds}
 use Rattle.si_slots.proofs.Interpreter.{after_shows, line_keeps}
 use Rattle.si_steps.specs.declared.state.State.{State}
 use Rattle.si_steps.specs.declared.step.Outcome.{Outcome}
+use Rattle.si_steps.specs.declared.step.Step.{Step}
 use Rattle.si_steps.specs.declared.step.Step.TheVariants as step
 use Rattle.si_steps.specs.Machines as machines
 use Rattle.si_steps.specs.Machines.{HasPrinted, IsRunning, Steps, printed_of}
@@ -24,7 +24,7 @@ use Rattle.si_steps.specs.Outcomes.{told}
 use Rattle.si_cli.specs.declared.interpreter.Standing.{Standing}
 use Rattle.si_cli.specs.declared.interpreter.Standing.TheVariants.{AtEnd, Ready, Starved}
 use Rattle.si_cli.specs.declared.interpreter.Solo.{Solo}
-use Rattle.si_cli.specs.inner.Courses.{HasRun, IsLeft, IsUnderWay, Prints}
+use Rattle.si_cli.specs.inner.Courses.{HasRun, HasStepped, IsLeft, IsUnderWay, Prints}
 use Rattle.si_cli.specs.Runs.{ShowsLife, Stands, one_run}
 use Rattle.si_cli.specs.Views.{AreUsed}
 
@@ -64,6 +64,12 @@ prints_more c d s t e h =
 -- one line more, and the run goes on
 pub goes_on : (c : Course) (s t : State) → IsUnderWay c s → Steps c s t step.Local → IsUnderWay (next compiled c) t
 goes_on c s t u did = record { stands = did.stands; running = did.running; printed = prints_more c (next compiled c) s t u.printed did.printed }
+
+-- what a step did
+pub stepped : (c : Course) (s t : State) (r : Step) → IsUnderWay c s → Steps c s t r → HasStepped c t r
+stepped c s t step.Local u did = goes_on c s t u did
+stepped c s t step.Ended u did = (s, u, did)
+stepped c s t step.Starved u did = (s, u, did)
 
 -- one line more, with which the run has ended
 pub has_ended : (c : Course) (turn : ℕ) (o : Outcome) (s t : State) → IsUnderWay c s → Steps c s t step.Ended → (next compiled c).place ≡ Ending (told o) → IsLeft c turn (turn + 1) (AtEnd o) t

@@ -1,12 +1,11 @@
 // Running a script in interpreter 0, with no other.
 
-ghost use Rattle.std.specs.Prelude.{◌≡◌, ◌≤◌, ◌<◌, ℕ, None, Some, IfErr, IfOk, IfSome, IfNone};
+ghost use Rattle.std.specs.Prelude.{◌≡◌, ◌≢◌, ◌≤◌, ◌<◌, ℕ, None, Some, IfErr, IfOk};
 ghost use Rattle.si_semantics.specs.Tree.{Stmts};
 ghost use Rattle.si_parse.specs.inner.Gives.{IsSyntax};
 ghost use Rattle.si_scope.specs.Scripts.{script_of};
-ghost use Rattle.si_slots.specs.Code.{compiled};
-ghost use Rattle.si_slots.specs.Machine.{Course, next};
-ghost use Rattle.si_cli.specs.inner.Courses.{HasRun, IsLeft, IsUnderWay};
+ghost use Rattle.si_slots.specs.Machine.{Course};
+ghost use Rattle.si_cli.specs.inner.Courses.{HasRun, HasStepped, IsLeft, IsUnderWay};
 ghost use Rattle.si_cli.specs.Runs.{IsRunOf, IsTaken, ShowsLife, one_run};
 ghost use Rattle.si_cli.specs.Views.{AreUsed, HasUsed};
 
@@ -99,29 +98,41 @@ fn run(machine: &mut Machine, turns: u64) -> (u64, Standing)
     ensures ran { HasRun c result.0 result.1 machine.new }
 {
     for turn in 0..turns {
-        if let Some(left) = take_turn(machine, turn) {
-            return left;
+        match take_turn(machine, turn) {
+            Step::Local => {}
+            step => return left(machine, turn, step),
         }
     }
     (turns, Standing::Ready)
 }
 
-/// The step after the first `turn` of a run. Where the run doesn't go on, how many steps were made, and how the machine
-/// then stands.
+/// The step after the first `turn` of a run, of which its contract speaks alone.
 #[inline(always)]
-fn take_turn(machine: &mut Machine, turn: u64) -> Option<(u64, Standing)>
+fn take_turn(machine: &mut Machine, turn: u64) -> Step
+    ghost c: { Course }
+    requires { IsUnderWay c machine.old }
+    ensures { HasStepped c machine.new result }
+{
+    let _ = turn;
+    machine.step()
+}
+
+/// How many steps were made, and how the machine stands, where the run doesn't go on after the step that follows the
+/// first `turn`. It stands apart from the loop, which would build its answer anew in each turn.
+#[inline(never)]
+fn left(machine: &Machine, turn: u64, step: Step) -> (u64, Standing)
     ghost c: { Course }
     requires few { turn < 1099511627776 }
-    requires under_way { IsUnderWay c machine.old }
-    ensures goes_on { IfNone result (IsUnderWay (next compiled c) machine.new) }
-    ensures left { IfSome result (λ left. IsLeft c turn left.0 left.1 machine.new) }
+    requires stepped { HasStepped c machine.now step }
+    requires over { step ≢ Step.Local }
+    ensures { IsLeft c turn result.0 result.1 machine.now }
 {
-    match machine.step() {
-        Step::Local => None,
+    match step {
+        Step::Local => unreachable!(),
         Step::Ended => match machine.take_outcome() {
-            Ok(outcome) => Some((turn + 1, Standing::AtEnd(outcome))),
-            Err(_) => Some((turn, Standing::Starved)),
+            Ok(outcome) => (turn + 1, Standing::AtEnd(outcome)),
+            Err(_) => (turn, Standing::Starved),
         },
-        Step::Starved => Some((turn, Standing::Starved)),
+        Step::Starved => (turn, Standing::Starved),
     }
 }

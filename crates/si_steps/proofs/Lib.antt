@@ -14,3 +14,4 @@ pub mod Along
 pub mod Told
 pub mod Callees
 pub mod Provided
+pub mod Fast

@@ -1,6 +1,7 @@
 // What calls make of a state.
 ghost use Rattle.std.specs.Prelude.{◌≡◌, ◌+◌, ◌-◌, ◌<◌, ◌≤◌, ◌^◌, length, slice_get, Some, None};
 ghost use Rattle.si_arena.specs.Memory.{Lies, value_of};
+ghost use Rattle.si_arena.specs.Views.{value_in};
 ghost use Rattle.si_slots.specs.Machine as machine;
 ghost use Rattle.si_slots.specs.Views.{target_of};
 ghost use Rattle.si_steps.specs.Moments.{Moment, IsReady, Does};
@@ -135,11 +136,23 @@ impl State {
 }
 
 // The number of the function of a script that a value is.
+#[inline(always)]
 fn function_in(arena: &Arena, callee: Ref) -> Option<u32>
     requires { Lies arena.now callee }
     ensures { result ≡ function_number (value_of arena.now callee) }
 {
-    match arena.view(&callee) {
+    match callee {
+        Ref::Function { number, name: _ } => Some(number),
+        _ => function_shown(arena.view(&callee)),
+    }
+}
+
+// The same of what is shown.
+#[inline(never)]
+fn function_shown(view: View) -> Option<u32>
+    ensures { result ≡ function_number (value_in view.entry) }
+{
+    match view {
         View::Function(number, _) => Some(number),
         _ => None,
     }

@@ -2,11 +2,13 @@
 use Rattle.std.specs.Prelude.{◌≡◌, ℕ, ◌+◌, encode_utf8_all}
 use Rattle.si_semantics.specs.Life.{joined}
 use Rattle.si_slots.specs.Code.{compiled}
-use Rattle.si_slots.specs.Machine.{Course, course}
+use Rattle.si_slots.specs.Machine.{Course, course, next}
 use Rattle.si_slots.specs.Shows.{texts}
 use Rattle.si_steps.specs.declared.state.State.{State}
 use Rattle.si_steps.specs.Machines as machines
-use Rattle.si_steps.specs.Machines.{IsRunning, printed_of}
+use Rattle.si_steps.specs.declared.step.Step.{Step}
+use Rattle.si_steps.specs.declared.step.Step.TheVariants as step
+use Rattle.si_steps.specs.Machines.{IsRunning, Steps, printed_of}
 use Rattle.si_cli.specs.declared.interpreter.Standing.{Standing}
 use Rattle.si_cli.specs.declared.interpreter.Standing.TheVariants.{Ready, AtEnd, Starved}
 use Rattle.si_cli.specs.Runs.{Stands}
@@ -32,3 +34,9 @@ abbrev pub IsLeft : Course → (turn used : ℕ) → Standing → State → Type
 IsLeft c turn used Ready m = ⊥
 IsLeft c turn used (AtEnd outcome) m = (used ≡ turn + 1) × HasRun c 1 (AtEnd outcome) m
 IsLeft c turn used Starved m = (used ≡ turn) × HasRun c 0 Starved m
+
+-- what a step from a moment of a course did, at which a machine was under way: one line, and it is so at the next; or the
+-- run has ended, or memory was refused
+abbrev pub HasStepped : Course → State → Step → Type 0
+HasStepped c m step.Local = IsUnderWay (next compiled c) m
+HasStepped c m r = (old : State) × IsUnderWay c old × Steps c old m r

@@ -1,4 +1,4 @@
-use Rattle.std.proofs.Common.{◌≡◌, ◌∙◌, ℕ, [], ap, refl, subst, sym}
+use Rattle.std.proofs.Common.{◌∙◌, ℕ, [], ap, refl, subst, sym}
 use Rattle.si_semantics.specs.Tree.{Module}
 use Rattle.si_semantics.specs.World.{first_world}
 use Rattle.si_scope.specs.Scripts.{script_of}

@@ -1,5 +1,5 @@
-use Rattle.si_cli.proofs.CourseLemmas.{goes_on, has_ended, has_not_told, has_starved}
+use Rattle.si_cli.proofs.CourseLemmas.{stepped}
 use Rattle.si_cli.proofs.alone.take_turn.Goals as goal
 
-pub returns-in-Local-clause-goes_on : goal.returns-in-Local-clause-goes_on
-returns-in-Local-clause-goes_on g c = goes_on g.c c.args.machine.now c.step.new.self c.requires.1 c.in-Local.ensures
+pub returns : goal.returns
+returns g c = stepped g.c c.args.machine.now c.step.new.self c.step.result c.requires c.step.ensures

@@ -1,9 +1,4 @@
-use Rattle.si_slots.specs.Code.{compiled}
-use Rattle.si_slots.specs.Machine.{next}
 use Rattle.si_cli.proofs.alone.take_turn.Given as goal
 
 abbrev pub ghost-step : goal.ghost-step
 ghost-step g a = g.c
-
-abbrev pub ghost-take_outcome : goal.ghost-take_outcome
-ghost-take_outcome g a = next compiled g.c
