@@ -121,6 +121,7 @@ cause-lasts old more cause.NotCallable h = refl
 cause-lasts old more cause.WrongArguments h = refl
 cause-lasts old more cause.TooDeep h = refl
 cause-lasts old more cause.NoneActive h = refl
+cause-lasts old more cause.Outside h = refl
 cause-lasts old more (cause.NotDefined n) h = ap not_defined (cause_name old more n h)
 cause-lasts old more (cause.NotBound n) h = ap not_bound (cause_name old more n h)
 
@@ -132,6 +133,7 @@ cause_lies-more old new cause.NotCallable l h = h
 cause_lies-more old new cause.WrongArguments l h = h
 cause_lies-more old new cause.TooDeep l h = h
 cause_lies-more old new cause.NoneActive l h = h
+cause_lies-more old new cause.Outside l h = h
 cause_lies-more old new (cause.NotDefined n) l h = omega (arith, l, h)
 cause_lies-more old new (cause.NotBound n) l h = omega (arith, l, h)
 

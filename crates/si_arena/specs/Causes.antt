@@ -1,11 +1,11 @@
 -- What causes of exceptions stand for: a kind and a message (the messages are this project's own).
 use Rattle.std.specs.Prelude.{codes, ℕ, ◌<◌, List, [], ◌++◌, length, get_or}
 use Rattle.si_plain.specs.declared.kind.Kind.{Kind}
-use Rattle.si_plain.specs.declared.kind.Kind.TheVariants.{OverflowError, TypeError, NameError, UnboundLocalError, RuntimeError, RecursionError}
+use Rattle.si_plain.specs.declared.kind.Kind.TheVariants.{OverflowError, TypeError, NameError, UnboundLocalError, RuntimeError, RecursionError, IndexError}
 use Rattle.si_semantics.specs.Value.{Text}
 use Rattle.si_semantics.specs.Operations.{arithmetic_message}
 use Rattle.si_arena.specs.declared.cause.Cause.{Cause}
-use Rattle.si_arena.specs.declared.cause.Cause.TheVariants.{Arithmetic, TooLong, WrongType, NotCallable, WrongArguments, TooDeep, NoneActive, NotDefined, NotBound}
+use Rattle.si_arena.specs.declared.cause.Cause.TheVariants.{Arithmetic, TooLong, WrongType, NotCallable, WrongArguments, TooDeep, NoneActive, Outside, NotDefined, NotBound}
 
 -- the kind of the exception
 abbrev pub kind_of : Cause → Kind
@@ -16,6 +16,7 @@ kind_of NotCallable = TypeError
 kind_of WrongArguments = TypeError
 kind_of TooDeep = RecursionError
 kind_of NoneActive = RuntimeError
+kind_of Outside = IndexError
 kind_of (NotDefined name) = NameError
 kind_of (NotBound name) = UnboundLocalError
 
@@ -40,6 +41,7 @@ message_of names NotCallable = codes "not callable"
 message_of names WrongArguments = codes "wrong arguments"
 message_of names TooDeep = codes "too deep"
 message_of names NoneActive = codes "no active exception"
+message_of names Outside = codes "index out of range"
 message_of names (NotDefined name) = not_defined (name_at names name)
 message_of names (NotBound name) = not_bound (name_at names name)
 

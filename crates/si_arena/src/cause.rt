@@ -24,6 +24,8 @@ pub enum Cause {
     TooDeep,
     /// A bare `raise` where no exception is active (Python Language Reference 3.14, 7.8).
     NoneActive,
+    /// An index that lies outside of what it is to be found in (Python Language Reference 3.14, 6.3.2).
+    Outside,
     /// No value is bound to the global of this name, by its number among the arena's names.
     NotDefined(usize),
     /// No value is bound to the local of this name (Python Language Reference 3.14, 4.2.2).
@@ -66,6 +68,7 @@ impl Cause {
             Cause::WrongArguments => Kind::TypeError,
             Cause::TooDeep => Kind::RecursionError,
             Cause::NoneActive => Kind::RuntimeError,
+            Cause::Outside => Kind::IndexError,
             Cause::NotDefined(_) => Kind::NameError,
             Cause::NotBound(_) => Kind::UnboundLocalError,
         }
@@ -87,6 +90,7 @@ impl Cause {
             Cause::WrongArguments => ascii(alloc, "wrong arguments"),
             Cause::TooDeep => ascii(alloc, "too deep"),
             Cause::NoneActive => ascii(alloc, "no active exception"),
+            Cause::Outside => ascii(alloc, "index out of range"),
             Cause::NotDefined(name) => name_is_not_defined(alloc, &names[name]),
             Cause::NotBound(name) => local_is_not_bound(alloc, &names[name]),
         }

@@ -83,6 +83,7 @@ fn row_of(expr: &Expr) -> Option<(BooleanOperator, &Expr, &[Expr])>
         Expr::Unary(_, _) => None,
         Expr::Binary(_, _, _) => None,
         Expr::Call(_, _, _) => None,
+        Expr::Subscript(_, _) => None,
         Expr::Compare(_, _) => None,
         Expr::Conditional(_, _, _) => None,
     }

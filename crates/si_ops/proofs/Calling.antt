@@ -10,7 +10,7 @@ use Rattle.si_semantics.specs.Text.{written, max_length}
 use Rattle.si_semantics.specs.Operations.{gave, text}
 use Rattle.si_arena.specs.declared.value.Ref.{Ref}
 use Rattle.si_arena.specs.declared.cause.Cause.{Cause}
-use Rattle.si_arena.specs.declared.cause.Cause.TheVariants.{Arithmetic, TooLong, WrongType, NotCallable, WrongArguments, TooDeep, NoneActive, NotDefined, NotBound}
+use Rattle.si_arena.specs.declared.cause.Cause.TheVariants.{Arithmetic, TooLong, WrongType, NotCallable, WrongArguments, TooDeep, NoneActive, Outside, NotDefined, NotBound}
 use Rattle.si_arena.specs.declared.cause.Fault.{Fault}
 use Rattle.si_arena.specs.declared.cause.Fault.TheVariants.{Raises, NoMemory}
 use Rattle.si_arena.specs.Memory.{Memory, value_of, all_of, PlacesText}
@@ -93,6 +93,7 @@ text_throws o m WrongType h = absurd h
 text_throws o m NotCallable h = absurd h
 text_throws o m WrongArguments h = absurd h
 text_throws o m NoneActive h = absurd h
+text_throws o m Outside h = absurd h
 text_throws o m (NotDefined s) h = absurd h
 text_throws o m (NotBound s) h = absurd h
 

@@ -38,7 +38,7 @@ differ_long (c ∷ cs) (d ∷ ds) h = elim (nat_eq c d) as (λ b. (b && same_tex
 pub behind : (s : List ℕ) (i : ℕ) → i < length s → drop i s ≡ get_or s i 0 ∷ drop (i + 1) s
 behind s i h = drop-cons s i 0 h ∙ ap (λ k. get_or s i 0 ∷ drop k s) (sym (add-one i))
 
-both : {B : Type 0} (f : List ℕ → List ℕ → B) (s t x y : List ℕ) → s ≡ x → t ≡ y → f s t ≡ f x y
+pub both : {B : Type 0} (f : List ℕ → List ℕ → B) (s t x y : List ℕ) → s ≡ x → t ≡ y → f s t ≡ f x y
 both f s t x y e k = ap (λ z. f z t) e ∙ ap (f x) k
 
 same_heads : (c d : ℕ) (s t : List ℕ) → c ≡ d → same_text (c ∷ s) (d ∷ t) ≡ same_text s t

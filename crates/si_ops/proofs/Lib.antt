@@ -1,6 +1,9 @@
 pub mod SameItems
 pub mod Running
 pub mod Compared
+pub mod Parts
+pub mod Reached
+pub mod Indexed
 pub mod Given
 pub mod Adding
 pub mod Quoting

@@ -2,13 +2,14 @@
 
 ghost use Rattle.std.specs.Prelude.{◌≡◌};
 ghost use Rattle.si_semantics.specs.World.{World};
-ghost use Rattle.si_semantics.specs.Value.{Int, Truth};
+ghost use Rattle.si_semantics.specs.Value.{Int};
 ghost use Rattle.si_semantics.specs.Operations as operations;
 ghost use Rattle.si_arena.specs.Memory.{value_of, built_in_of, Lies};
 ghost use Rattle.si_arena.specs.Views.{value_in};
 ghost use Rattle.si_ops.specs.Runs.{Decides, answer_of};
 
 use crate::characters::{are_same, is_before};
+use crate::membership::contains;
 use crate::ranges::is_same_range;
 use crate::truth::int_of_truth;
 use si_arena::{Arena, BuiltIn, Cause, Ref, View};
@@ -27,7 +28,10 @@ pub fn compare(
     ensures { Decides (λ w. operations.compare operator (value_of arena.now left) (value_of arena.now right) w) arena.now result }
 {
     match (left, right) {
-        (Ref::Int(x), Ref::Int(y)) => Ok(compare_integers(operator, x, y)),
+        (Ref::Int(x), Ref::Int(y)) => match compare_integers(operator, x, y) {
+            Some(truth) => Ok(truth),
+            None => Err(Cause::WrongType),
+        },
         _ => compare_others(arena, operator, left, right),
     }
 }
@@ -51,20 +55,21 @@ fn compare_others(
     }
 }
 
-/// A comparison of two integers, which no exception leaves (Python Language Reference 3.14, 6.10.1).
+/// A comparison of two integers, where it has an answer (Python Language Reference 3.14, 6.10.1): neither is in the other.
 #[inline(always)]
-pub fn compare_integers(operator: ComparisonOperator, x: i64, y: i64) -> bool
-    ensures { (w : World) → operations.compare operator (Int x) (Int y) w ≡ operations.gave (Truth result) w }
+pub fn compare_integers(operator: ComparisonOperator, x: i64, y: i64) -> Option<bool>
+    ensures { (w : World) → operations.compare operator (Int x) (Int y) w ≡ operations.truth (answer_of result) w }
 {
     match operator {
-        ComparisonOperator::Less => x < y,
-        ComparisonOperator::Greater => y < x,
-        ComparisonOperator::LessEqual => x <= y,
-        ComparisonOperator::GreaterEqual => y <= x,
-        ComparisonOperator::Equal => x == y,
-        ComparisonOperator::NotEqual => x != y,
-        ComparisonOperator::Is => false,
-        ComparisonOperator::IsNot => true,
+        ComparisonOperator::Less => Some(x < y),
+        ComparisonOperator::Greater => Some(y < x),
+        ComparisonOperator::LessEqual => Some(x <= y),
+        ComparisonOperator::GreaterEqual => Some(y <= x),
+        ComparisonOperator::Equal => Some(x == y),
+        ComparisonOperator::NotEqual => Some(x != y),
+        ComparisonOperator::Is => Some(false),
+        ComparisonOperator::IsNot => Some(true),
+        ComparisonOperator::In | ComparisonOperator::NotIn => None,
     }
 }
 
@@ -81,6 +86,8 @@ fn answer(operator: ComparisonOperator, left: View, right: View) -> Option<bool>
         ComparisonOperator::NotEqual => opposite(are_equal(left, right)),
         ComparisonOperator::Is => Some(is_same(left, right)),
         ComparisonOperator::IsNot => Some(!is_same(left, right)),
+        ComparisonOperator::In => contains(right, left),
+        ComparisonOperator::NotIn => opposite(contains(right, left)),
     }
 }
 

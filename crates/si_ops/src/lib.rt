@@ -7,7 +7,8 @@
 //
 // In reading order: `ranges` (the integers of a range), `characters` (texts compared where they lie), `truth` (whether a
 // value counts as true), `operand` (what a value is to an operator), `arithmetic` (operators before a value and between
-// two), `comparison`, `items` (what a `for` goes over), `exceptions` (which clause catches what, and what `raise` raises),
+// two), `membership` (what is in a
+// value), `comparison`, `subscripts` (`E[i]`), `items` (what a `for` goes over), `exceptions` (which clause catches what, and what `raise` raises),
 // `pieces`, `quoted`, `atoms` and `messages` (the parts of what is written), `shown` (`str` and `repr`), `line` (what
 // `print` writes), `first` (the names that are there from the first), `numerals` (the integers that texts write),
 // `provided` (the built-ins that give a value) and `calls` (of what is there from the first).
@@ -22,6 +23,7 @@ mod exceptions;
 mod first;
 mod items;
 mod line;
+mod membership;
 mod messages;
 mod numerals;
 mod operand;
@@ -30,6 +32,7 @@ mod provided;
 mod quoted;
 mod ranges;
 mod shown;
+mod subscripts;
 mod truth;
 
 pub use arithmetic::{binary, on_integers, unary};
@@ -41,4 +44,5 @@ pub use items::Items;
 pub use line::push_line;
 pub use operand::integer_in;
 pub use shown::{push_repr, push_str};
+pub use subscripts::subscript;
 pub use truth::{decides, int_of_truth, is_true};

@@ -1,6 +1,7 @@
 // The integers of a range.
 
-ghost use Rattle.std.specs.Prelude.{◌≡◌, ◌-◌, ◌+◌, ◌/◌, ◌-ℤ◌, ◌&&◌, ◌||◌, nat_eq, int_lt, unsigned_abs, if◌then◌else◌};
+ghost use Rattle.std.specs.Prelude.{◌≡◌, ◌-◌, ◌+◌, ◌/◌, ◌%◌, ◌-ℤ◌, ◌+ℤ◌, ◌*ℤ◌, ◌<◌, pos, ◌&&◌, ◌||◌, nat_eq, int_lt, unsigned_abs, FitsSigned, if◌then◌else◌};
+ghost use Rattle.std.specs.Int.{w64};
 ghost use Rattle.si_semantics.specs.Text.{same_int};
 ghost use Rattle.si_semantics.specs.Operations as operations;
 
@@ -52,6 +53,55 @@ pub fn items_in(steps: &Steps) -> u64
     ensures { result ≡ operations.range_length steps.now.start steps.now.stop steps.now.step }
 {
     range_length(steps.start, steps.stop, steps.step)
+}
+
+/// The item of a range that lies so many steps from its start.
+pub fn item_of(steps: &Steps, place: u64) -> i64
+    requires { place < operations.range_length steps.now.start steps.now.stop steps.now.step }
+    ensures { result ≡ steps.now.start +ℤ pos place *ℤ steps.now.step }
+{
+    let distance = place * steps.step.unsigned_abs();
+    if steps.step >= 0 {
+        above(steps.start, distance)
+    } else {
+        below(steps.start, distance)
+    }
+}
+
+// The integer so far above another.
+fn above(start: i64, distance: u64) -> i64
+    requires { FitsSigned w64 (start +ℤ pos distance) }
+    ensures { result ≡ start +ℤ pos distance }
+{
+    (i128::from(start) + i128::from(distance)) as i64
+}
+
+// The integer so far below another.
+fn below(start: i64, distance: u64) -> i64
+    requires { FitsSigned w64 (start -ℤ pos distance) }
+    ensures { result ≡ start -ℤ pos distance }
+{
+    (i128::from(start) - i128::from(distance)) as i64
+}
+
+/// Whether an integer is an item of a range.
+pub fn is_among(at: i64, steps: &Steps) -> bool
+    ensures { result ≡ operations.is_among at steps.now.start steps.now.stop steps.now.step }
+{
+    if is_item(at, steps.start, steps.step) || !is_item(at, steps.stop, steps.step) {
+        return false;
+    }
+    is_multiple(at.abs_diff(steps.start), steps.step.unsigned_abs())
+}
+
+// Whether a number of units is a whole number of steps.
+fn is_multiple(distance: u64, step: u64) -> bool
+    ensures { result ≡ nat_eq (distance % step) 0 }
+{
+    if step == 0 {
+        return distance == 0;
+    }
+    distance % step == 0
 }
 
 // Whether two integers are equal.

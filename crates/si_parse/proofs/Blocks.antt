@@ -53,6 +53,7 @@ target_is f ts (tree.Constant v) spelled x h = cc
 target_is f ts (tree.Unary op e) spelled x h = cc
 target_is f ts (tree.Binary op e g) spelled x h = cc
 target_is f ts (tree.Call e args names) spelled x h = cc
+target_is f ts (tree.Subscript e i) spelled x h = cc
 target_is f ts (tree.Boolean op e others) spelled x h = cc
 target_is f ts (tree.Compare e cs) spelled x h = cc
 target_is f ts (tree.Conditional e g i) spelled x h = cc

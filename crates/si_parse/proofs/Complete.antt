@@ -10,7 +10,7 @@ use Rattle.si_semantics.specs.Tokens.{Symbol, Keyword}
 use Rattle.si_semantics.specs.Tokens as token
 use Rattle.si_semantics.specs.Text.{max_length}
 use Rattle.si_semantics.specs.Grammar.{Terminal, NAME, NUMBER, STRING, Sign, Word, level_of, left_level, right_level, symbol_of, prefix_level, prefix_of, boolean_level, item_level, word_of, comparison_of, is_identity, Many, Behind, Separated, Argument, Positional, ByName, Passes, IsPassed, exprs_of, items_of, Link, links_of, chain_of, Compares, Strings, Spells}
-use Rattle.si_parse.specs.inner.Reading.{short, Argued, named_at, argument_from, argument_by, called, comparison, boolean, continuation_at, strength_of, strength_at, begins_str, then_read, after_boolean, with_word, comparison_at, identity_from, Found, Parsed, Parser, with_argument, arguments_from, arguments_by, within, call_by, is_singleton, compared_to, compared_by, other_by, conditional_by, extended_by, continued_by, closed, strings_by, bracketed_by, operand_from, operand_by, expression_at, after}
+use Rattle.si_parse.specs.inner.Reading.{short, Argued, named_at, argument_from, argument_by, called, comparison, boolean, continuation_at, strength_of, strength_at, begins_str, then_read, after_boolean, with_word, comparison_at, identity_from, Found, Parsed, Parser, with_argument, arguments_from, arguments_by, within, call_by, indexed, subscript_by, is_singleton, compared_to, compared_by, other_by, conditional_by, extended_by, continued_by, closed, strings_by, bracketed_by, operand_from, operand_by, expression_at, after}
 use Rattle.si_parse.proofs.Laws.{some_inj, named_at_some, exprs_of_items, chain_of_links}
 use Rattle.si_parse.proofs.Levels.{right_weaker, right_bound, level_under, role_of_symbol, prefix_gap, prefix_bound, prefix_begins, conditional_gap, boolean_strength, item_bound, role_of_word, after_word, role_of_comparison, boolean_none, comparison_none}
 use Rattle.si_parse.proofs.Lists.{le_to, added, Pairwise, separated_complete}
@@ -72,6 +72,8 @@ no_str tree.Equal ts = refl
 no_str tree.NotEqual ts = refl
 no_str tree.Is ts = refl
 no_str tree.IsNot ts = refl
+no_str tree.In ts = refl
+no_str tree.NotIn ts = refl
 
 comparison_long : (op : ComparisonOperator) → 1 ≤ length (comparison_of op)
 comparison_long tree.Less = omega arith
@@ -82,6 +84,8 @@ comparison_long tree.Equal = omega arith
 comparison_long tree.NotEqual = omega arith
 comparison_long tree.Is = omega arith
 comparison_long tree.IsNot = omega arith
+comparison_long tree.In = omega arith
+comparison_long tree.NotIn = omega arith
 
 compared_if : (i s : Bool) (r : Found) → s ≡ true → (if i && not s then None else Some r) ≡ Some r
 compared_if true true r h = refl
@@ -165,7 +169,7 @@ module _ (n : ℕ) (sub : Parser) (complete : IsComplete n sub) where
   Item m op = Behind (Word (word_of op)) (Spells m (item_level op))
 
   item_begin : (m : ℕ) (op : BooleanOperator) (x : Expr) (f more : List Terminal) → Item m op x f → (continuation_at (f ++ more) ≡ boolean op) × (begins_str (f ++ more) ≡ false)
-  item_begin m op x f more h = (ap (λ t. continuation_at (t ++ more)) h.1 ∙ role_of_word op, ap (λ t. begins_str (t ++ more)) h.1)
+  item_begin m op x f more h = (ap (λ t. continuation_at (t ++ more)) h.1 ∙ role_of_word op (h.0 ++ more), ap (λ t. begins_str (t ++ more)) h.1)
 
   item_begins : (m : ℕ) (op : BooleanOperator) (x : Expr) (f more : List Terminal) → Item m op x f → (strength_at (f ++ more) < item_level op) × (begins_str (f ++ more) ≡ false)
   item_begins m op x f more h =
@@ -237,6 +241,8 @@ module _ (n : ℕ) (sub : Parser) (complete : IsComplete n sub) where
   operand_complete m le tree.NotEqual e g more h one weak plain = ordered m le tree.NotEqual e g more refl refl h weak plain
   operand_complete m le tree.Is e g more h one weak plain = let w = one refl in identical m le tree.Is e g more w.0 w.1 (λ a. ap (λ o. Some (identity_from (g ++ more) o)) a) h weak plain
   operand_complete m le tree.IsNot e g more h one weak plain = let w = one refl in identical m le tree.IsNot e g more w.0 w.1 (λ a. refl) h weak plain
+  operand_complete m le tree.In e g more h one weak plain = ordered m le tree.In e g more refl refl h weak plain
+  operand_complete m le tree.NotIn e g more h one weak plain = ordered m le tree.NotIn e g more refl refl h weak plain
 
   link_complete : (m : ℕ) → m ≤ n → (x : Link) (f more : List Terminal) → Compares (Spells m) x f → strength_at more < 10 → begins_str more ≡ false
       → (o : ComparisonOperator) × (rest : List Terminal) × (e : Expr) × (d : ℕ) × (comparison_at (f ++ more) ≡ Some (o, rest)) × (compared_by sub o rest ≡ Some (e, d, more)) × ((o, e) ≡ x) × (d ≤ m)
@@ -325,6 +331,22 @@ module _ (n : ℕ) (sub : Parser) (complete : IsComplete n sub) where
         ∙ ap (λ p. then_read p (λ p. within (n + 1) (tree.Call a (exprs_of p.0) p.1) d rest)) (passed_complete passed (items_of args) names once)
         ∙ ap (λ t. within (n + 1) (tree.Call a t names) d rest) (exprs_of_items args)
         ∙ within_ok (n + 1) (tree.Call a args names) d rest shallow
+        )
+
+    subscript_reached : (m : ℕ) → m ≤ n → Hypothesis m → (a b : Expr) (f g rest : List Terminal) → Spells m 18 a f → Spells m 1 b g
+        → Reaches (suc m) (tree.Subscript a b) (f ++ Sign token.LeftBracket ∷ (g ++ Sign token.RightBracket ∷ [])) rest
+    subscript_reached m le ih a b f g rest ha hb =
+        let tail = Sign token.LeftBracket ∷ (g ++ Sign token.RightBracket ∷ []) in
+        let left = ih 18 a f (tail ++ rest) ha (omega arith) refl (omega arith) in
+        let right = complete m 1 b g (Sign token.RightBracket ∷ rest) le (omega arith) hb (omega arith) refl in
+        let d = max left.0 right.0 + 1 in
+        let shallow : d ≤ n + 1 = omega (arith, left.2, right.1) in
+        let same : (g ++ Sign token.RightBracket ∷ []) ++ rest ≡ g ++ Sign token.RightBracket ∷ rest = append_assoc g (Sign token.RightBracket ∷ []) rest in
+        extends m a (tree.Subscript a b) f tail rest d left (omega arith) (omega (arith, left.2, right.1)) (omega arith)
+        (
+        ap (λ t. subscript_by sub (n + 1) a left.0 t) same
+        ∙ ap (λ i. then_read i (λ i. then_read (after (Sign token.RightBracket) i.2) (indexed (n + 1) a left.0 i))) right.3
+        ∙ within_ok (n + 1) (tree.Subscript a b) d rest shallow
         )
 
     unary_reached : (m : ℕ) → m ≤ n → (level : ℕ) (op : UnaryOperator) (a : Expr) (f rest : List Terminal) → level ≤ prefix_level op → Spells m (prefix_level op) a f → strength_at rest ≤ level → begins_str rest ≡ false → l ≤ level
@@ -436,6 +458,9 @@ module _ (n : ℕ) (sub : Parser) (complete : IsComplete n sub) where
     reached (suc m) le level (tree.Call a args names) front rest (inl h) weak plain at =
         moved (suc m) (tree.Call a args names) (h.0 ++ Sign token.LeftParenthesis ∷ (h.1 ++ Sign token.RightParenthesis ∷ [])) front rest h.3
         (call_reached m (omega arith) (reached m (omega arith)) a args names h.2 h.0 h.1 rest h.5 h.6 h.7)
+    reached (suc m) le level (tree.Subscript a b) front rest (inl h) weak plain at =
+        moved (suc m) (tree.Subscript a b) (h.0 ++ Sign token.LeftBracket ∷ (h.1 ++ Sign token.RightBracket ∷ [])) front rest h.2
+        (subscript_reached m (omega arith) (reached m (omega arith)) a b h.0 h.1 rest h.4 h.5)
     reached (suc m) le level (tree.Compare a cs) front rest (inl h) weak plain at =
         moved (suc m) (tree.Compare a cs) (h.0 ++ h.1) front rest h.2 (compare_reached m (omega arith) (reached m (omega arith)) level a cs h.0 h.1 rest h.3 h.4 h.5 h.6 weak plain at)
     reached (suc m) le level (tree.Boolean op a others) front rest (inl h) weak plain at =

@@ -57,6 +57,7 @@ produces_mono E F w l (tree.Constant (Range a b c)) ts h = h
 produces_mono E F w l (tree.Constant (Class k)) ts h = h
 produces_mono E F w l (tree.Constant (Address x)) ts h = h
 produces_mono E F w l (tree.Call a args names) ts h = (h.0, h.1, h.2, h.3, h.4, w _ a h.0 h.5, h.6, separated_mono (Passes E) (Passes F) token.Comma (passes_mono E F w) h.2 h.1 h.7)
+produces_mono E F w l (tree.Subscript a b) ts h = (h.0, h.1, h.2, h.3, w _ a h.0 h.4, w _ b h.1 h.5)
 produces_mono E F w l (tree.Compare a cs) ts h = (h.0, h.1, h.2, h.3, w 10 a h.0 h.4, h.5, many_mono (Compares E) (Compares F) (compares_mono E F w) (links_of cs) h.1 h.6)
 produces_mono E F w l (tree.Boolean op a others) ts h = (
   h.0,
@@ -83,6 +84,7 @@ produces_looser E k l (tree.Constant (Range a b c)) ts le h = h
 produces_looser E k l (tree.Constant (Class i)) ts le h = h
 produces_looser E k l (tree.Constant (Address x)) ts le h = h
 produces_looser E k l (tree.Call a args names) ts le h = (h.0, h.1, h.2, h.3, omega (arith, h.4), h.5, h.6, h.7)
+produces_looser E k l (tree.Subscript a b) ts le h = (h.0, h.1, h.2, omega (arith, h.3), h.4, h.5)
 produces_looser E k l (tree.Compare a cs) ts le h = (h.0, h.1, h.2, omega (arith, h.3), h.4, h.5, h.6)
 produces_looser E k l (tree.Boolean op a others) ts le h = (h.0, h.1, h.2, omega (arith, h.3), h.4, h.5, h.6)
 produces_looser E k l (tree.Conditional test value other) ts le h = (h.0, h.1, h.2, h.3, omega (arith, h.4), h.5, h.6, h.7)
@@ -220,6 +222,11 @@ after_not_some [] rest h = cc
 after_not_some (Word token.NotWord ∷ ts) rest h = let e : ts ≡ rest = cc in ap (λ l. Word token.NotWord ∷ l) e
 after_not_some (_ ∷ ts) rest h = cc
 
+pub after_bracket_some : (ts rest : List Terminal) → after (Sign token.RightBracket) ts ≡ Some rest → ts ≡ Sign token.RightBracket ∷ rest
+after_bracket_some [] rest h = cc
+after_bracket_some (Sign token.RightBracket ∷ ts) rest h = let e : ts ≡ rest = cc in ap (λ l. Sign token.RightBracket ∷ l) e
+after_bracket_some (_ ∷ ts) rest h = cc
+
 pub after_else_some : (ts rest : List Terminal) → after (Word token.ElseWord) ts ≡ Some rest → ts ≡ Word token.ElseWord ∷ rest
 after_else_some [] rest h = cc
 after_else_some (Word token.ElseWord ∷ ts) rest h = let e : ts ≡ rest = cc in ap (λ l. Word token.ElseWord ∷ l) e
@@ -303,6 +310,9 @@ pub comparison_at_some : (ts : List Terminal) (o : ComparisonOperator) (rest : L
 comparison_at_some [] o rest h = cc
 comparison_at_some (Sign s ∷ ts) o rest h = symbol_from s ts (comparison_symbol s) refl o rest h
 comparison_at_some (Word token.IsWord ∷ ts) o rest h = identity_is ts (after (Word token.NotWord) ts) refl o rest (some_inj (identity_from ts (after (Word token.NotWord) ts)) (o, rest) h)
+comparison_at_some (Word token.InWord ∷ ts) o rest h = ap spelled (some_inj (tree.In, ts) (o, rest) h)
+comparison_at_some (Word token.NotWord ∷ []) o rest h = cc
+comparison_at_some (Word token.NotWord ∷ (Word token.InWord ∷ ts)) o rest h = ap spelled (some_inj (tree.NotIn, ts) (o, rest) h)
 comparison_at_some (_ ∷ ts) o rest h = cc
 
 pub links_of_chain : (links : List Link) → links_of (chain_of links) ≡ links

@@ -5,7 +5,7 @@ use Rattle.si_semantics.specs.Tree as tree
 use Rattle.si_semantics.specs.Tokens.{Symbol}
 use Rattle.si_semantics.specs.Tokens as token
 use Rattle.si_semantics.specs.Grammar.{Terminal, Sign, Word, level_of, left_level, right_level, symbol_of, prefix_level, prefix_of, boolean_level, item_level, word_of, comparison_of}
-use Rattle.si_parse.specs.inner.Reading.{Continuation, operator, arguments, comparison, boolean, condition, nothing, role_of, word_role, continuation_at, strength_of, strength_at, after_boolean, comparison_at, prefix_at, after}
+use Rattle.si_parse.specs.inner.Reading.{Continuation, operator, arguments, index, comparison, boolean, condition, nothing, role_of, word_role, continuation_at, strength_of, strength_at, after_boolean, comparison_at, prefix_at, after}
 
 -- ---- operators between two operands
 
@@ -119,6 +119,7 @@ role_of_symbol tree.Power = refl
 strength_bound : (c : Continuation) → strength_of c ≤ 18
 strength_bound (operator op) = left_most op
 strength_bound arguments = omega arith
+strength_bound index = omega arith
 strength_bound comparison = omega arith
 strength_bound (boolean tree.And) = omega arith
 strength_bound (boolean tree.Or) = omega arith
@@ -132,6 +133,7 @@ strength_at_most ts = strength_bound (continuation_at ts)
 gap : (c : Continuation) → strength_of c ≤ 17 → strength_of c < 16
 gap (operator op) h = left_gap op h
 gap arguments h = absurd (omega arith)
+gap index h = absurd (omega arith)
 gap comparison h = omega arith
 gap (boolean tree.And) h = omega arith
 gap (boolean tree.Or) h = omega arith
@@ -145,6 +147,7 @@ strength_gap ts h = gap (continuation_at ts) h
 not_gap : (c : Continuation) → strength_of c ≤ 7 → strength_of c < 7
 not_gap (operator op) h = omega (arith, left_least op)
 not_gap arguments h = omega arith
+not_gap index h = omega arith
 not_gap comparison h = omega arith
 not_gap (boolean tree.And) h = omega arith
 not_gap (boolean tree.Or) h = omega arith
@@ -167,6 +170,7 @@ prefix_bound tree.Not = omega arith
 condition_gap : (c : Continuation) → strength_of c ≤ 1 → strength_of c < 1
 condition_gap (operator op) h = omega (arith, left_least op)
 condition_gap arguments h = omega arith
+condition_gap index h = omega arith
 condition_gap comparison h = omega arith
 condition_gap (boolean tree.And) h = omega arith
 condition_gap (boolean tree.Or) h = omega arith
@@ -293,9 +297,9 @@ pub boolean_strength : (op : BooleanOperator) → (strength_of (boolean op) < it
 boolean_strength tree.And = (omega arith, omega arith)
 boolean_strength tree.Or = (omega arith, omega arith)
 
-pub role_of_word : (op : BooleanOperator) → word_role (word_of op) ≡ boolean op
-role_of_word tree.And = refl
-role_of_word tree.Or = refl
+pub role_of_word : (op : BooleanOperator) (ts : List Terminal) → continuation_at (Word (word_of op) ∷ ts) ≡ boolean op
+role_of_word tree.And ts = refl
+role_of_word tree.Or ts = refl
 
 pub after_word : (op : BooleanOperator) (ts : List Terminal) → after_boolean op (Word (word_of op) ∷ ts) ≡ Some ts
 after_word tree.And ts = refl
@@ -310,6 +314,8 @@ role_of_comparison tree.Equal ts = refl
 role_of_comparison tree.NotEqual ts = refl
 role_of_comparison tree.Is ts = refl
 role_of_comparison tree.IsNot ts = refl
+role_of_comparison tree.In ts = refl
+role_of_comparison tree.NotIn ts = refl
 
 role_not : (s : Symbol) (op : BooleanOperator) → role_of s ≡ boolean op → ⊥
 role_not token.Bar op h = cc
@@ -319,17 +325,22 @@ or_not : (ts : List Terminal) → after (Word token.OrWord) ts ≡ None → cont
 or_not [] h e = cc
 or_not (Word token.OrWord ∷ ts) h e = cc
 or_not (Sign s ∷ ts) h e = role_not s tree.Or e
+or_not (Word token.NotWord ∷ []) h e = cc
+or_not (Word token.NotWord ∷ (Word token.InWord ∷ ts)) h e = cc
 or_not (_ ∷ ts) h e = cc
 
 and_not : (ts : List Terminal) → after (Word token.AndWord) ts ≡ None → continuation_at ts ≡ boolean tree.And → ⊥
 and_not [] h e = cc
 and_not (Word token.AndWord ∷ ts) h e = cc
 and_not (Sign s ∷ ts) h e = role_not s tree.And e
+and_not (Word token.NotWord ∷ []) h e = cc
+and_not (Word token.NotWord ∷ (Word token.InWord ∷ ts)) h e = cc
 and_not (_ ∷ ts) h e = cc
 
 or_ends : (c : Continuation) → (c ≡ boolean tree.Or → ⊥) → strength_of c < 5 → strength_of c ≤ 3
 or_ends (operator op) other s = absurd (omega (arith, left_least op))
 or_ends arguments other s = absurd (omega arith)
+or_ends index other s = absurd (omega arith)
 or_ends comparison other s = absurd (omega arith)
 or_ends (boolean tree.And) other s = absurd (omega arith)
 or_ends (boolean tree.Or) other s = absurd (other refl)
@@ -339,6 +350,7 @@ or_ends nothing other s = omega arith
 and_ends : (c : Continuation) → (c ≡ boolean tree.And → ⊥) → strength_of c < 7 → strength_of c ≤ 5
 and_ends (operator op) other s = absurd (omega (arith, left_least op))
 and_ends arguments other s = absurd (omega arith)
+and_ends index other s = absurd (omega arith)
 and_ends comparison other s = absurd (omega arith)
 and_ends (boolean tree.And) other s = absurd (other refl)
 and_ends (boolean tree.Or) other s = omega arith
@@ -372,6 +384,9 @@ comparison_ends (Sign token.GreaterEqual ∷ ts) h s = cc
 comparison_ends (Sign token.EqualEqual ∷ ts) h s = cc
 comparison_ends (Sign token.NotEqual ∷ ts) h s = cc
 comparison_ends (Word token.IsWord ∷ ts) h s = cc
+comparison_ends (Word token.InWord ∷ ts) h s = cc
+comparison_ends (Word token.NotWord ∷ []) h s = omega arith
+comparison_ends (Word token.NotWord ∷ (Word token.InWord ∷ ts)) h s = cc
 comparison_ends (_ ∷ ts) h s = omega arith
 
 pub comparison_none : (ts : List Terminal) → strength_at ts ≤ 8 → comparison_at ts ≡ None
@@ -383,6 +398,9 @@ comparison_none (Sign token.GreaterEqual ∷ ts) h = absurd (omega arith)
 comparison_none (Sign token.EqualEqual ∷ ts) h = absurd (omega arith)
 comparison_none (Sign token.NotEqual ∷ ts) h = absurd (omega arith)
 comparison_none (Word token.IsWord ∷ ts) h = absurd (omega arith)
+comparison_none (Word token.InWord ∷ ts) h = absurd (omega arith)
+comparison_none (Word token.NotWord ∷ []) h = refl
+comparison_none (Word token.NotWord ∷ (Word token.InWord ∷ ts)) h = absurd (omega arith)
 comparison_none (_ ∷ ts) h = refl
 
 pub prefix_begins : (op : UnaryOperator) (ts : List Terminal) → prefix_at (prefix_of op ∷ ts) ≡ Some op

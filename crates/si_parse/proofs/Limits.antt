@@ -98,6 +98,9 @@ bounded (suc n) l (tree.Binary op a b) f (inl h) =
 bounded (suc n) l (tree.Call a args names) f (inl h) =
     let x = bounded n 18 a h.0 h.5 in
     let y = arguments_bounded n (bounded n) h.2 args names h.1 h.6 h.7 in record { depth = omega (arith, x.depth, y.depth); literals = omega (arith, x.literals, y.literals) }
+bounded (suc n) l (tree.Subscript a b) f (inl h) =
+    let x = bounded n 18 a h.0 h.4 in
+    let y = bounded n 1 b h.1 h.5 in record { depth = omega (arith, x.depth, y.depth); literals = omega (arith, x.literals, y.literals) }
 bounded (suc n) l (tree.Compare a cs) f (inl h) =
     let x = bounded n 10 a h.0 h.4 in
     let y = chain_bounded n (bounded n) cs h.1 h.6 in record { depth = omega (arith, x.depth, y.depth); literals = omega (arith, x.literals, y.literals) }

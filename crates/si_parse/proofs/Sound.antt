@@ -11,8 +11,8 @@ use Rattle.si_semantics.specs.Tokens.{Symbol, Keyword}
 use Rattle.si_semantics.specs.Tokens as token
 use Rattle.si_semantics.specs.Text.{max_length}
 use Rattle.si_semantics.specs.Grammar.{Terminal, NAME, NUMBER, STRING, Sign, Word, value_of_int, value_of_str, level_of, left_level, right_level, symbol_of, prefix_level, prefix_of, boolean_level, item_level, word_of, comparison_of, is_identity, Many, Behind, Following, Separated, Argument, Positional, ByName, Passes, IsPassed, exprs_of, items_of, links_of, chain_of, Compares, Strings, Spells}
-use Rattle.si_parse.specs.inner.Reading.{short, str_by, Argued, named_at, argument_from, argument_by, passed_from, called, boolean, continuation_at, strength_of, strength_at, then_read, rest_of, after_boolean, with_word, comparison_at, Found, Parser, with_argument, arguments_from, arguments_by, within, binary_by, call_by, operands_by, boolean_by, is_singleton, compared_to, compared_by, links_by, compare_by, other_by, conditional_by, extended_by, identity_from, continued_by, closed, strings_by, prefix_at, unary_by, bracketed_by, atom_by, operand_from, operand_by, expression_at, after}
-use Rattle.si_parse.proofs.Laws.{named_at_some, passes_mono, spells_looser, spells_deeper, node, bracketed, then_read_some, some_inj, after_close_some, after_comma_some, after_else_some, with_word_some, with_word_none, prefix_at_some, comparison_at_some, links_of_chain, items_of_exprs, separated_mono, many_mono, compares_mono, behind_mono}
+use Rattle.si_parse.specs.inner.Reading.{short, str_by, Argued, named_at, argument_from, argument_by, passed_from, called, boolean, continuation_at, strength_of, strength_at, then_read, rest_of, after_boolean, with_word, comparison_at, Found, Parser, with_argument, arguments_from, arguments_by, within, binary_by, call_by, indexed, subscript_by, operands_by, boolean_by, is_singleton, compared_to, compared_by, links_by, compare_by, other_by, conditional_by, extended_by, identity_from, continued_by, closed, strings_by, prefix_at, unary_by, bracketed_by, atom_by, operand_from, operand_by, expression_at, after}
+use Rattle.si_parse.proofs.Laws.{named_at_some, passes_mono, spells_looser, spells_deeper, node, bracketed, then_read_some, some_inj, after_close_some, after_bracket_some, after_comma_some, after_else_some, with_word_some, with_word_none, prefix_at_some, comparison_at_some, links_of_chain, items_of_exprs, separated_mono, many_mono, compares_mono, behind_mono}
 use Rattle.si_parse.proofs.Levels.{strength_at_most, right_stops, right_bound, level_reached, Apart, high, at_condition, at_disjunction, at_comparison, right_apart, level_apart, prefix_apart, prefix_bound, boolean_apart, item_apart, item_bound, condition_up, condition_down, comparison_up, comparison_down, boolean_up, boolean_down, boolean_strength, after_word, boolean_ends, comparison_ends}
 use Rattle.si_parse.proofs.Lists.{le_from, chosen, added, separated_sound}
 use Rattle.si_parse.proofs.Passed.{passed_sound}
@@ -303,6 +303,28 @@ module _ (n : ℕ) (sub : Parser) (sound : IsSound n sub) where
         high 18 (omega arith),
       )
 
+  subscript_reads : (front : List Terminal) (e : Expr) (d m : ℕ) (ts : List Terminal) (l : ℕ) (r : Found) → Spells d m e front → 18 ≤ m → l ≤ 16
+      → subscript_by sub (n + 1) e d ts ≡ Some r → Longer front (Sign token.LeftBracket ∷ ts) l r
+  subscript_reads front e d m ts l r spelled low le h =
+      let s = then_read_some (sub 1 ts) (λ i. then_read (after (Sign token.RightBracket) i.2) (indexed (n + 1) e d i)) r h in
+      let a = sound 1 (omega arith) at_condition ts s.0 s.1 in
+      let u = then_read_some (after (Sign token.RightBracket) s.0.2) (indexed (n + 1) e d s.0) r s.2 in
+      let w = within_some (n + 1) (tree.Subscript e s.0.0) (max d s.0.1 + 1) u.0 r u.2 in
+      let P : Found → Type 0 = Longer front (Sign token.LeftBracket ∷ ts) l in
+      let top = max d s.0.1 in
+      let left = spells_deeper d top (omega arith) 18 e front (spells_looser d 18 m e front low spelled) in
+      let index = spells_deeper s.0.1 top (omega arith) 1 s.0.0 a.0.front a.0.spelled in
+      subst P w.1 (
+        Sign token.LeftBracket ∷ (a.0.front ++ Sign token.RightBracket ∷ []),
+        ap (λ l. Sign token.LeftBracket ∷ l) (a.0.split ∙ ap (λ t. a.0.front ++ t) (after_bracket_some s.0.2 u.0 u.1) ∙ sym (append_assoc a.0.front (Sign token.RightBracket ∷ []) u.0)),
+        18,
+        node top 18 (tree.Subscript e s.0.0) (front ++ Sign token.LeftBracket ∷ (a.0.front ++ Sign token.RightBracket ∷ [])) (front, a.0.front, refl, omega arith, left, index),
+        strength_at_most u.0,
+        omega arith,
+        w.0,
+        high 18 (omega arith),
+      )
+
   -- ---- chains
 
   known : (i s : Bool) → (i && not s) ≡ false → i ≡ true → s ≡ true
@@ -448,6 +470,7 @@ module _ (n : ℕ) (sub : Parser) (sound : IsSound n sub) where
   extended_reads front e d m (Sign token.Percent ∷ ts) l r spelled low high le am al h = operator_reads front e d m tree.Modulo ts l r spelled low high le h
   extended_reads front e d m (Sign token.DoubleStar ∷ ts) l r spelled low high le am al h = operator_reads front e d m tree.Power ts l r spelled low high le h
   extended_reads front e d m (Sign token.LeftParenthesis ∷ ts) l r spelled low high le am al h = call_reads front e d m ts l r spelled low le h
+  extended_reads front e d m (Sign token.LeftBracket ∷ ts) l r spelled low high le am al h = subscript_reads front e d m ts l r spelled low le h
   extended_reads front e d m (Sign token.Less ∷ ts) l r spelled low high le am al h =
       compare_reads front e d m (Sign token.Less ∷ ts) l r spelled (comparison_up m am low) (comparison_down l al high) (tree.Less, ts) refl (omega arith) h
   extended_reads front e d m (Sign token.Greater ∷ ts) l r spelled low high le am al h =
@@ -462,6 +485,11 @@ module _ (n : ℕ) (sub : Parser) (sound : IsSound n sub) where
       compare_reads front e d m (Sign token.NotEqual ∷ ts) l r spelled (comparison_up m am low) (comparison_down l al high) (tree.NotEqual, ts) refl (omega arith) h
   extended_reads front e d m (Word token.IsWord ∷ ts) l r spelled low high le am al h =
       compare_reads front e d m (Word token.IsWord ∷ ts) l r spelled (comparison_up m am low) (comparison_down l al high) (identity_from ts (after (Word token.NotWord) ts)) refl (omega arith) h
+  extended_reads front e d m (Word token.InWord ∷ ts) l r spelled low high le am al h =
+      compare_reads front e d m (Word token.InWord ∷ ts) l r spelled (comparison_up m am low) (comparison_down l al high) (tree.In, ts) refl (omega arith) h
+  extended_reads front e d m (Word token.NotWord ∷ []) l r spelled low high le am al h = cc
+  extended_reads front e d m (Word token.NotWord ∷ (Word token.InWord ∷ ts)) l r spelled low high le am al h =
+      compare_reads front e d m (Word token.NotWord ∷ (Word token.InWord ∷ ts)) l r spelled (comparison_up m am low) (comparison_down l al high) (tree.NotIn, ts) refl (omega arith) h
   extended_reads front e d m (Word token.AndWord ∷ ts) l r spelled low high le am al h = word_reads tree.And front e d m ts l r spelled low high am al refl h
   extended_reads front e d m (Word token.OrWord ∷ ts) l r spelled low high le am al h = word_reads tree.Or front e d m ts l r spelled low high am al refl h
   extended_reads front e d m (Word token.IfWord ∷ ts) l r spelled low high le am al h = conditional_reads front e d m ts l r spelled (condition_up m am low) (condition_down l al high) h

@@ -62,6 +62,10 @@ expression_begins (suc m) l (tree.Call a args names) f (inl h) x =
     ap (λ t. begins (t ++ x)) h.3
     ∙ ap begins (append_assoc h.0 (Sign token.LeftParenthesis ∷ (h.1 ++ Sign token.RightParenthesis ∷ [])) x)
     ∙ expression_begins m 18 a h.0 h.5 (Sign token.LeftParenthesis ∷ ((h.1 ++ Sign token.RightParenthesis ∷ []) ++ x))
+expression_begins (suc m) l (tree.Subscript a b) f (inl h) x =
+    ap (λ t. begins (t ++ x)) h.2
+    ∙ ap begins (append_assoc h.0 (Sign token.LeftBracket ∷ (h.1 ++ Sign token.RightBracket ∷ [])) x)
+    ∙ expression_begins m 18 a h.0 h.4 (Sign token.LeftBracket ∷ ((h.1 ++ Sign token.RightBracket ∷ []) ++ x))
 expression_begins (suc m) l (tree.Compare a cs) f (inl h) x = ap (λ t. begins (t ++ x)) h.2 ∙ ap begins (append_assoc h.0 h.1 x) ∙ expression_begins m 10 a h.0 h.4 (h.1 ++ x)
 expression_begins (suc m) l (tree.Boolean op a others) f (inl h) x = ap (λ t. begins (t ++ x)) h.2 ∙ ap begins (append_assoc h.0 h.1 x) ∙ expression_begins m (item_level op) a h.0 h.4 (h.1 ++ x)
 expression_begins (suc m) l (tree.Conditional test value other) f (inl h) x =
@@ -222,6 +226,8 @@ singleton (suc m) (tree.Constant (Class k)) w (inl h) = absurd h
 singleton (suc m) (tree.Constant (Address x)) w (inl h) = absurd h
 singleton (suc m) (tree.Call a args names) w (inl h) =
     absurd (omega (arith, ap length h.3, length-append h.0 (Sign token.LeftParenthesis ∷ (h.1 ++ Sign token.RightParenthesis ∷ [])), some_terminals m 18 a h.0 h.5))
+singleton (suc m) (tree.Subscript a b) w (inl h) =
+    absurd (omega (arith, ap length h.2, length-append h.0 (Sign token.LeftBracket ∷ (h.1 ++ Sign token.RightBracket ∷ [])), some_terminals m 18 a h.0 h.4))
 singleton (suc m) (tree.Compare a cs) w (inl h) = absurd (omega (arith, h.3))
 singleton (suc m) (tree.Boolean tree.And a others) w (inl h) = absurd (omega (arith, h.3))
 singleton (suc m) (tree.Boolean tree.Or a others) w (inl h) = absurd (omega (arith, h.3))

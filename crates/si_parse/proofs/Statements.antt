@@ -101,6 +101,7 @@ from_reads f ts (tree.Constant v) (Some a) is spelled r h = cc
 from_reads f ts (tree.Unary op e) (Some a) is spelled r h = cc
 from_reads f ts (tree.Binary op e g) (Some a) is spelled r h = cc
 from_reads f ts (tree.Call e args names) (Some a) is spelled r h = cc
+from_reads f ts (tree.Subscript e i) (Some a) is spelled r h = cc
 from_reads f ts (tree.Boolean op e others) (Some a) is spelled r h = cc
 from_reads f ts (tree.Compare e cs) (Some a) is spelled r h = cc
 from_reads f ts (tree.Conditional e g i) (Some a) is spelled r h = cc

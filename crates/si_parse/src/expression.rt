@@ -3,7 +3,7 @@
 ghost use Rattle.std.specs.Prelude.{◌≡◌, ℕ, ◌+◌, ◌-◌, ◌*◌, ◌<◌, ◌≤◌, [], map, length, option_map, IfOk};
 ghost use Rattle.si_semantics.specs.Grammar.{is_identity};
 ghost use Rattle.si_syntax.specs.Trees.{expr_of, link_of};
-ghost use Rattle.si_parse.specs.inner.Reading.{rest_of, within, strings_by, str_by, is_singleton, compared_by, operand_by, atom_by, unary_by, bracketed_by, continued_by, binary_by, call_by, compare_by, boolean_by, conditional_by, extended_by, argument_by, arguments_by, operands_by, links_by, expression_at};
+ghost use Rattle.si_parse.specs.inner.Reading.{rest_of, within, strings_by, str_by, is_singleton, compared_by, operand_by, atom_by, unary_by, bracketed_by, continued_by, binary_by, call_by, subscript_by, compare_by, boolean_by, conditional_by, extended_by, argument_by, arguments_by, operands_by, links_by, expression_at};
 ghost use Rattle.si_parse.specs.inner.Gives.{Gives, from, continuation_view, argument_of};
 
 use crate::argument::{Argument, named_at, passed};
@@ -223,6 +223,7 @@ fn extended(
             alloc, parts, left, depth, operator, tokens, behind,
         ),
         Continuation::Arguments => call(alloc, parts, left, depth, tokens, behind),
+        Continuation::Index => subscript(alloc, parts, left, depth, tokens, behind),
         Continuation::Comparison => compare(alloc, parts, left, depth, tokens, at),
         Continuation::Boolean(operator) => boolean(alloc, parts, left, depth, operator, tokens, at),
         Continuation::Condition => conditional(alloc, parts, left, depth, tokens, behind),
@@ -263,6 +264,22 @@ fn call(alloc: Global, parts: u32, left: Expr, depth: u32, tokens: &[Token], at:
     let (values, names) = passed(alloc, arguments, line_at(tokens, at))?;
     let tree = Expr::Call(Box::new(alloc, left)?, values, names);
     within(parts + 1, tree, depth.max(arguments_depth) + 1, tokens, at)
+}
+
+// The object with its index, from after the open bracket.
+#[cycle(expressions)]
+fn subscript(alloc: Global, parts: u32, left: Expr, depth: u32, tokens: &[Token], at: usize) -> Read
+    requires limit { parts < 999 }
+    requires shallow { depth ≤ parts + 1 }
+    ensures reads { Gives (λ x. (expr_of x.0, x.1, from tokens.now x.2)) result (subscript_by (expression_at parts) (parts + 1) (expr_of left) depth (from tokens.now at)) }
+    ensures shallow { IfOk result (λ x. x.1 ≤ parts + 1) }
+{
+    let (index, index_depth, at) = expression(alloc, parts, EXPRESSION, tokens, at)?;
+    let Some(behind) = after(tokens, at, Symbol::RightBracket) else {
+        return Err(ParseFault::Syntax(line_at(tokens, at)));
+    };
+    let tree = Expr::Subscript(Box::new(alloc, left)?, Box::new(alloc, index)?);
+    within(parts + 1, tree, depth.max(index_depth) + 1, tokens, behind)
 }
 
 // The operand with a chain of comparisons, whose first operator stands at the place.

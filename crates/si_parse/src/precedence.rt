@@ -1,9 +1,9 @@
 // What continues an expression, and how tightly: levels and strengths of operators.
 
-ghost use Rattle.std.specs.Prelude.{◌≡◌, option_map, IfSome};
-ghost use Rattle.si_semantics.specs.Grammar.{left_level, right_level, prefix_level, item_level};
+ghost use Rattle.std.specs.Prelude.{◌≡◌, ◌∷◌, option_map, IfSome};
+ghost use Rattle.si_semantics.specs.Grammar.{Word, left_level, right_level, prefix_level, item_level};
 ghost use Rattle.si_token.specs.Views.{symbol_of, keyword_of};
-ghost use Rattle.si_parse.specs.inner.Reading.{role_of, word_role, continuation_at, strength_of, rest_of, prefix_at, comparison_symbol, comparison_at};
+ghost use Rattle.si_parse.specs.inner.Reading.{role_of, continuation_at, strength_of, rest_of, prefix_at, comparison_symbol, comparison_at};
 ghost use Rattle.si_parse.specs.inner.Gives.{from, continuation_view};
 
 use crate::lookahead::{after_word, token_at};
@@ -40,6 +40,7 @@ const PRIMARY: u32 = 18;
 pub(crate) enum Continuation {
     Operator(BinaryOperator),
     Arguments,
+    Index,
     Comparison,
     Boolean(BooleanOperator),
     // the `if` of a conditional expression
@@ -114,6 +115,7 @@ fn role_of(symbol: Symbol) -> Continuation
         Symbol::Percent => Continuation::Operator(BinaryOperator::Modulo),
         Symbol::DoubleStar => Continuation::Operator(BinaryOperator::Power),
         Symbol::LeftParenthesis => Continuation::Arguments,
+        Symbol::LeftBracket => Continuation::Index,
         Symbol::Less | Symbol::Greater => Continuation::Comparison,
         Symbol::LessEqual | Symbol::GreaterEqual => Continuation::Comparison,
         Symbol::EqualEqual | Symbol::NotEqual => Continuation::Comparison,
@@ -121,15 +123,20 @@ fn role_of(symbol: Symbol) -> Continuation
     }
 }
 
-// What a keyword does after an operand.
-fn word_role(keyword: Keyword) -> Continuation
-    ensures { continuation_view result ≡ word_role (keyword_of keyword) }
+// What a keyword does after an operand, in front of what stands at the place: a `not` does something where `in` stands
+// there.
+fn word_role(keyword: Keyword, tokens: &[Token], behind: usize) -> Continuation
+    ensures { continuation_view result ≡ continuation_at (Word (keyword_of keyword) ∷ from tokens.now behind) }
 {
     match keyword {
         Keyword::And => Continuation::Boolean(BooleanOperator::And),
         Keyword::Or => Continuation::Boolean(BooleanOperator::Or),
-        Keyword::Is => Continuation::Comparison,
+        Keyword::Is | Keyword::In => Continuation::Comparison,
         Keyword::If => Continuation::Condition,
+        Keyword::Not => match after_word(tokens, behind, Keyword::In) {
+            Some(_) => Continuation::Comparison,
+            None => Continuation::Nothing,
+        },
         _ => Continuation::Nothing,
     }
 }
@@ -144,7 +151,7 @@ pub(crate) fn what_follows(tokens: &[Token], at: usize) -> (Continuation, usize)
     };
     match token.kind {
         TokenKind::Symbol(symbol) => (role_of(symbol), at + 1),
-        TokenKind::Keyword(keyword) => (word_role(keyword), at + 1),
+        TokenKind::Keyword(keyword) => (word_role(keyword, tokens, at + 1), at + 1),
         _ => (Continuation::Nothing, at + 1),
     }
 }
@@ -155,7 +162,7 @@ pub(crate) fn strength(continuation: Continuation) -> u32
 {
     match continuation {
         Continuation::Operator(operator) => left_level(operator),
-        Continuation::Arguments => PRIMARY,
+        Continuation::Arguments | Continuation::Index => PRIMARY,
         Continuation::Comparison => 9,
         Continuation::Boolean(BooleanOperator::And) => 6,
         Continuation::Boolean(BooleanOperator::Or) => 4,
@@ -208,6 +215,11 @@ pub(crate) fn comparison_at(tokens: &[Token], at: usize) -> Option<(ComparisonOp
             Some(behind) => Some((ComparisonOperator::IsNot, behind)),
             None => Some((ComparisonOperator::Is, at + 1)),
         },
+        TokenKind::Keyword(Keyword::In) => Some((ComparisonOperator::In, at + 1)),
+        TokenKind::Keyword(Keyword::Not) => {
+            let behind = after_word(tokens, at + 1, Keyword::In)?;
+            Some((ComparisonOperator::NotIn, behind))
+        }
         _ => None,
     }
 }

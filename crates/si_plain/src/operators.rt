@@ -37,6 +37,8 @@ pub enum ComparisonOperator {
     NotEqual,
     Is,
     IsNot,
+    In,
+    NotIn,
 }
 
 /// The word between operands of which not each is evaluated (Python Language Reference 3.14, 6.11).

@@ -11,7 +11,7 @@ use Rattle.si_plain.specs.declared.operators.ComparisonOperator.{ComparisonOpera
 use Rattle.si_syntax.specs.declared.expr.Expr.{Expr}
 use Rattle.si_syntax.specs.declared.expr.Expr.TheFolds.{fold-roll-Expr}
 use Rattle.si_syntax.specs.declared.expr.Expr.TheOpen.{Expr-F}
-use Rattle.si_syntax.specs.declared.expr.Expr.TheVariants.{rolls-Binary, rolls-Call, rolls-Boolean, rolls-Conditional}
+use Rattle.si_syntax.specs.declared.expr.Expr.TheVariants.{rolls-Binary, rolls-Call, rolls-Subscript, rolls-Boolean, rolls-Conditional}
 use Rattle.si_syntax.specs.declared.expr.Expr.TheViews as views
 use Rattle.si_syntax.specs.Trees.{expr_of, link_of, view_step}
 use Rattle.si_syntax.proofs.Forms.{compare_is}
@@ -30,6 +30,9 @@ binary_is o a b = ap expr_of (sym (rolls-Binary o a b)) ∙ fold-roll-Expr tree.
 call_is : (f : Box Expr Global) (args : Vec Expr Global) (names : Vec (String Global) Global) → expr_of (views.Call f args names) ≡ tree.Call (expr_of f.value) (exprs_of (map expr_of args.items)) (map string_bytes names.items)
 call_is f args names = ap expr_of (sym (rolls-Call f args names)) ∙ fold-roll-Expr tree.Expr view_step (Expr-F.Call f args names)
 
+subscript_is : (a b : Box Expr Global) → expr_of (views.Subscript a b) ≡ tree.Subscript (expr_of a.value) (expr_of b.value)
+subscript_is a b = ap expr_of (sym (rolls-Subscript a b)) ∙ fold-roll-Expr tree.Expr view_step (Expr-F.Subscript a b)
+
 boolean_is : (o : BooleanOperator) (a : Box Expr Global) (more : Vec Expr Global) → expr_of (views.Boolean o a more) ≡ tree.Boolean o (expr_of a.value) (exprs_of (map expr_of more.items))
 boolean_is o a more = ap expr_of (sym (rolls-Boolean o a more)) ∙ fold-roll-Expr tree.Expr view_step (Expr-F.Boolean o a more)
 
@@ -41,6 +44,9 @@ binary_names o a b e is = names_are e (views.Binary o a b) _ is (binary_is o a b
 
 pub call_names : (f : Box Expr Global) (args : Vec Expr Global) (names : Vec (String Global) Global) (e : Expr) → e ≡ views.Call f args names → names_of (expr_of e) ≡ names_of (expr_of f.value) ++ names_of_all (exprs_of (map expr_of args.items))
 call_names f args names e is = names_are e (views.Call f args names) _ is (call_is f args names)
+
+pub subscript_names : (a b : Box Expr Global) (e : Expr) → e ≡ views.Subscript a b → names_of (expr_of e) ≡ names_of (expr_of a.value) ++ names_of (expr_of b.value)
+subscript_names a b e is = names_are e (views.Subscript a b) _ is (subscript_is a b)
 
 pub boolean_names : (o : BooleanOperator) (a : Box Expr Global) (more : Vec Expr Global) (e : Expr) → e ≡ views.Boolean o a more → names_of (expr_of e) ≡ names_of (expr_of a.value) ++ names_of_all (exprs_of (map expr_of more.items))
 boolean_names o a more e is = names_are e (views.Boolean o a more) _ is (boolean_is o a more)

@@ -28,6 +28,10 @@ pub(crate) fn use_names(expr: &Expr, used: &mut Names) -> Result<(), NoMemory>
             use_names(callee, used)?;
             use_all(arguments, used)
         }
+        Expr::Subscript(object, index) => {
+            use_names(object, used)?;
+            use_names(index, used)
+        }
         Expr::Boolean(_, first, others) => {
             use_names(first, used)?;
             use_all(others, used)

@@ -5,6 +5,7 @@ pub mod WorkedExceptions
 pub mod WorkedFinally
 pub mod WorkedItems
 pub mod WorkedBuiltIns
+pub mod WorkedSequences
 pub mod WorkedScope
 pub mod Names
 pub mod WorkedLiterals

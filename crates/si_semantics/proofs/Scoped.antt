@@ -6,6 +6,7 @@ use Rattle.si_semantics.specs.Tree.{BooleanOperator, Expr, Exprs, Comparisons, S
 use Rattle.si_semantics.specs.Tree as tree
 use Rattle.si_semantics.specs.World.{Request, Answer, Replied, Got, Failed, Wants, Ran, Gave, Threw, Asked}
 use Rattle.si_semantics.specs.Operations.{exception, operate, operate_unary, is_true, compare, load_global, load_local, call_provided, call_by_name, not_callable, wrong_arguments, too_deep, catches, Iterator, iterator_of, Next, Item, Exhausted, Refuses, next_item, reply}
+use Rattle.si_semantics.specs.Subscription.{subscript}
 use Rattle.si_semantics.specs.Meaning.{State, Leave, Raises, Returns, Breaks, Continues, Result, Gives, Leaves, Asks, Cut, Meaning, Scope, behind, visit, then, raised, asked, ran, slot_at, read, assign, calls, choose, decides, compared, expr, exprs, operands, chain, after_turn, turn_of, loop, for_loop, over, returning, raising, caught, active_in, finally, unassign, named, with_active, clauses, stmt, stmts, returned, fitting, run_body, call, max_calls}
 use Rattle.si_semantics.specs.Scope.{place_of, Within, InText, InFunction, in_loop, may_return, looping, finishing, stmt_scoped, stmts_scoped, clauses_scoped}
 use Rattle.si_semantics.specs.Life.{module_scope}
@@ -115,6 +116,8 @@ module _ (w : Within) (e : Scope) (calling : Calls_keep e) where
         then_keeps w (expr e a (visit s)) _ (expr_keeps a (visit s)) (λ u s1. then_keeps w (expr e b s1) _ (expr_keeps b s1) (λ v s2. ran_keeps w (operate o u v s2.world) s2))
     expr_keeps (tree.Call f args names) s =
         then_keeps w (expr e f (visit s)) _ (expr_keeps f (visit s)) (λ g s1. then_keeps w (exprs e args s1) _ (exprs_keep args s1) (λ vs s2. calls_keep w e calling g vs names s2))
+    expr_keeps (tree.Subscript a b) s =
+        then_keeps w (expr e a (visit s)) _ (expr_keeps a (visit s)) (λ u s1. then_keeps w (expr e b s1) _ (expr_keeps b s1) (λ v s2. ran_keeps w (subscript u v s2.world) s2))
     expr_keeps (tree.Boolean o a more) s = then_keeps w (expr e a (visit s)) _ (expr_keeps a (visit s)) (λ u s1. operands_keep o u more s1)
     expr_keeps (tree.Compare a cs) s = then_keeps w (expr e a (visit s)) _ (expr_keeps a (visit s)) (λ u s1. chain_keeps u cs s1)
     expr_keeps (tree.Conditional a b c) s =

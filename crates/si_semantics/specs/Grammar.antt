@@ -175,6 +175,8 @@ comparison_of tree.Equal = Sign token.EqualEqual ∷ []
 comparison_of tree.NotEqual = Sign token.NotEqual ∷ []
 comparison_of tree.Is = Word token.IsWord ∷ []
 comparison_of tree.IsNot = Word token.IsWord ∷ (Word token.NotWord ∷ [])
+comparison_of tree.In = Word token.InWord ∷ []
+comparison_of tree.NotIn = Word token.NotWord ∷ (Word token.InWord ∷ [])
 
 abbrev pub is_identity : ComparisonOperator → Bool
 is_identity tree.Is = true
@@ -232,7 +234,7 @@ abbrev pub chain_of : List Link → Comparisons
 chain_of [] = tree.NoComparisons
 chain_of (link ∷ links) = tree.MoreComparisons link.0 link.1 (chain_of links)
 
--- comparator: ('<' | '>' | '<=' | '>=' | '==' | '!=') bitor | 'is' ['not'] ('None' | 'True' | 'False')
+-- comparator: ('<' | '>' | '<=' | '>=' | '==' | '!=' | ['not'] 'in') bitor | 'is' ['not'] ('None' | 'True' | 'False')
 -- What stands after `is` is one word, which is a choice of this project.
 abbrev pub Compares : Language → Link → List Terminal → Type 0
 Compares E link ts =
@@ -288,6 +290,10 @@ Produces E l (tree.Call a args names) ts =
     (f : List Terminal) × (g : List Terminal) × (arguments : List Argument)
     × (ts ≡ f ++ Sign token.LeftParenthesis ∷ (g ++ Sign token.RightParenthesis ∷ [])) × (l ≤ primary_level) × E primary_level a f
     × IsPassed arguments (items_of args) names × Separated (Passes E) token.Comma arguments g
+-- | primary '[' expression ']'
+Produces E l (tree.Subscript a b) ts =
+    (f : List Terminal) × (g : List Terminal)
+    × (ts ≡ f ++ Sign token.LeftBracket ∷ (g ++ Sign token.RightBracket ∷ [])) × (l ≤ primary_level) × E primary_level a f × E expression_level b g
 -- comparison: bitor comparator { comparator }
 Produces E l (tree.Compare a cs) ts =
     (f : List Terminal) × (g : List Terminal) × (ts ≡ f ++ g) × (l ≤ comparison_level) × E bit_or_level a f × (0 < length (links_of cs)) × Many (Compares E) (links_of cs) g

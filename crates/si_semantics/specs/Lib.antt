@@ -3,7 +3,9 @@ pub mod Tree
 pub mod Tokens
 pub mod Text
 pub mod World
+pub mod Parts
 pub mod Operations
+pub mod Subscription
 pub mod Meaning
 pub mod Scope
 pub mod Life

@@ -17,6 +17,7 @@ abbrev mutual
   depth_of (tree.Unary op a) = depth_of a + 1
   depth_of (tree.Binary op a b) = max (depth_of a) (depth_of b) + 1
   depth_of (tree.Call a args names) = max (depth_of a) (depth_of_all args) + 1
+  depth_of (tree.Subscript a b) = max (depth_of a) (depth_of b) + 1
   depth_of (tree.Boolean o a more) = max (depth_of a) (depth_of_all more) + 1
   depth_of (tree.Compare a cs) = max (depth_of a) (depth_of_chain cs) + 1
   depth_of (tree.Conditional a b c) = max (depth_of a) (max (depth_of b) (depth_of c)) + 1
@@ -38,6 +39,7 @@ abbrev mutual
   longest_str (tree.Unary op a) = longest_str a
   longest_str (tree.Binary op a b) = max (longest_str a) (longest_str b)
   longest_str (tree.Call a args names) = max (longest_str a) (longest_str_of_all args)
+  longest_str (tree.Subscript a b) = max (longest_str a) (longest_str b)
   longest_str (tree.Boolean o a more) = max (longest_str a) (longest_str_of_all more)
   longest_str (tree.Compare a cs) = max (longest_str a) (longest_str_of_chain cs)
   longest_str (tree.Conditional a b c) = max (longest_str a) (max (longest_str b) (longest_str c))

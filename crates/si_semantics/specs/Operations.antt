@@ -1,5 +1,5 @@
 -- What operations on values do (Python Language Reference 3.14, 6.5 to 6.10, 7.8, 8.3 and 8.4). They never see answers.
-use Rattle.std.specs.Prelude.{codes, ℕ, zero, suc, ◌+◌, ◌-◌, ◌*◌, ◌/◌, ◌-ℤ◌, ℤ, pos, negsuc, unsigned_abs, int_lt, List, [], ◌∷◌, ◌++◌, length, Bool, true, false, not, ◌&&◌, ◌||◌, Option, Some, None, option_map, Result, Ok, Err, nat_lt, nat_eq, slice_get, if◌then◌else◌}
+use Rattle.std.specs.Prelude.{codes, ℕ, zero, suc, ◌+◌, ◌-◌, ◌*◌, ◌/◌, ◌%◌, ◌-ℤ◌, ℤ, pos, negsuc, unsigned_abs, int_lt, List, [], ◌∷◌, ◌++◌, length, Bool, true, false, not, ◌&&◌, ◌||◌, Option, Some, None, option_map, Result, Ok, Err, nat_lt, nat_eq, slice_get, if◌then◌else◌}
 use Rattle.si_plain.specs.declared.kind.Kind.{Kind}
 use Rattle.si_plain.specs.declared.kind.Kind.TheVariants.{BaseException, Exception, ArithmeticError, OverflowError, ZeroDivisionError, AttributeError, LookupError, IndexError, KeyError, NameError, UnboundLocalError, RuntimeError, RecursionError, SyntaxError, TypeError, ValueError}
 use Rattle.si_plain.specs.Kinds.{name_of, same_kind, is_a}
@@ -11,6 +11,7 @@ use Rattle.si_semantics.specs.Tree.{BinaryOperator, UnaryOperator, ComparisonOpe
 use Rattle.si_semantics.specs.Text.{max_length, built_in_name, same_text, same_int, str_in, repr_in, line_of}
 use Rattle.si_semantics.specs.Numerals.{read_integer}
 use Rattle.si_semantics.specs.Literals.{is_character}
+use Rattle.si_semantics.specs.Parts.{is_part}
 use Rattle.si_semantics.specs.World.{World, Request, Answer, Ran, Gave, Threw, Replied}
 
 -- a new exception of a kind with an argument, by its address, and the world with it
@@ -117,6 +118,11 @@ abbrev pub range_length : (start stop step : ℤ) → ℕ
 range_length a b (pos c) = if int_lt a b then (unsigned_abs (b -ℤ a) - 1) / c + 1 else 0
 range_length a b (negsuc c) = if int_lt b a then (unsigned_abs (a -ℤ b) - 1) / (c + 1) + 1 else 0
 
+-- an integer is an item of a range: it lies not before its start and before its stop, the way that the step goes, and a
+-- whole number of steps from its start
+abbrev pub is_among : (at start stop step : ℤ) → Bool
+is_among i a b c = not (is_item i a c) && (is_item i b c && nat_eq (unsigned_abs (i -ℤ a) % unsigned_abs c) 0)
+
 -- whether a value counts as true in a world (Standard Library, "Built-in Types": truth value testing)
 abbrev pub is_true : Value → World → Bool
 is_true Nothing w = false
@@ -199,6 +205,15 @@ is_less (Truth a) (Truth b) w = Ok (int_lt (int_of_truth a) (int_of_truth b))
 is_less (Str s) (Str t) w = Ok (is_before s t)
 is_less _ _ w = Err TypeError
 
+-- `v in u`: of a str its parts, which are str; of a range its items, where True and False count as 1 and 0 and what is no
+-- integer is none; no other value has any yet (Language Reference, 6.10.2)
+abbrev pub contains : (whole : Value) → Value → Result Bool Kind
+contains (Str s) (Str t) = Ok (is_part s t)
+contains (Range a b c) (Int i) = Ok (is_among i a b c)
+contains (Range a b c) (Truth t) = Ok (is_among (int_of_truth t) a b c)
+contains (Range a b c) _ = Ok false
+contains _ _ = Err TypeError
+
 -- the message with which a comparison refuses (this project's own)
 abbrev pub comparison_message : Kind → Text
 comparison_message RecursionError = codes "too deep"
@@ -224,6 +239,8 @@ compare tree.Equal u v w = truth (are_equal u v w) w
 compare tree.NotEqual u v w = truth (opposite (are_equal u v w)) w
 compare tree.Is u v w = gave (Truth (is_same u v)) w
 compare tree.IsNot u v w = gave (Truth (not (is_same u v))) w
+compare tree.In u v w = truth (contains v u) w
+compare tree.NotIn u v w = truth (opposite (contains v u)) w
 
 -- the kinds that have built-in names (Standard Library, "Built-in Exceptions")
 abbrev pub built_in_kinds : List Kind

@@ -8,7 +8,7 @@ pub use Rattle.si_plain.specs.declared.operators.BinaryOperator.TheVariants.{Add
 pub use Rattle.si_plain.specs.declared.operators.UnaryOperator.{UnaryOperator}
 pub use Rattle.si_plain.specs.declared.operators.UnaryOperator.TheVariants.{Plus, Minus, Invert, Not}
 pub use Rattle.si_plain.specs.declared.operators.ComparisonOperator.{ComparisonOperator}
-pub use Rattle.si_plain.specs.declared.operators.ComparisonOperator.TheVariants.{Less, Greater, LessEqual, GreaterEqual, Equal, NotEqual, Is, IsNot}
+pub use Rattle.si_plain.specs.declared.operators.ComparisonOperator.TheVariants.{Less, Greater, LessEqual, GreaterEqual, Equal, NotEqual, Is, IsNot, In, NotIn}
 pub use Rattle.si_plain.specs.declared.operators.BooleanOperator.{BooleanOperator}
 pub use Rattle.si_plain.specs.declared.operators.BooleanOperator.TheVariants.{And, Or}
 
@@ -21,6 +21,8 @@ mutual
     Binary : BinaryOperator → Expr → Expr → Expr
     -- a callee, its arguments, and the names of those that are passed by name, which stand after the others (6.3.3)
     Call : Expr → Exprs → List Text → Expr
+    -- `object[index]`: the object, the index (6.3.2)
+    Subscript : Expr → Expr → Expr
     -- operands of `and` or of `or` in a row: the first, and the others, of which there is one at least (6.11)
     Boolean : BooleanOperator → Expr → Exprs → Expr
     -- a chain of comparisons: the first operand, and each operator with the operand after it (6.10)

@@ -6,6 +6,7 @@ pub mod Exceptions
 pub mod Finally
 pub mod Items
 pub mod BuiltIns
+pub mod Sequences
 pub mod Scope
 pub mod Literals
 pub mod Layout

@@ -6,6 +6,7 @@ ghost use Rattle.si_semantics.specs.Worked.Exceptions.{ExceptionCases};
 ghost use Rattle.si_semantics.specs.Worked.Finally.{FinallyCases};
 ghost use Rattle.si_semantics.specs.Worked.BuiltIns.{BuiltInCases};
 ghost use Rattle.si_semantics.specs.Worked.Items.{ItemCases};
+ghost use Rattle.si_semantics.specs.Worked.Sequences.{SequenceCases};
 ghost use Rattle.si_semantics.specs.Worked.Scope.{ScopeCases};
 ghost use Rattle.si_semantics.specs.Worked.Literals.{LiteralCases};
 ghost use Rattle.si_semantics.specs.Worked.Layout.{LayoutCases};
@@ -43,6 +44,11 @@ pub fn worked_items()
 /// The worked cases of the built-ins that give a value: what scripts print and how they end.
 pub fn worked_built_ins()
     ensures { BuiltInCases }
+{}
+
+/// The worked cases of `in` and of subscriptions: what scripts print and how they end.
+pub fn worked_sequences()
+    ensures { SequenceCases }
 {}
 
 /// The worked cases of scopes: which texts are well scoped, and which names are local.

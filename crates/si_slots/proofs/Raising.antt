@@ -6,6 +6,7 @@ use Rattle.si_semantics.specs.Tree.{BooleanOperator, Expr, Exprs, Comparisons}
 use Rattle.si_semantics.specs.Tree as tree
 use Rattle.si_semantics.specs.World.{Request, Answer, Replied, Got, Failed, Wants, Ran, Gave, Threw, Asked}
 use Rattle.si_semantics.specs.Operations.{exception, operate, operate_unary, is_true, compare, load_global, load_local, call_provided, call_by_name, not_callable, wrong_arguments, too_deep, reply}
+use Rattle.si_semantics.specs.Subscription.{subscript}
 use Rattle.si_semantics.specs.Meaning.{State, Raises, Returns, Breaks, Continues, Result, Gives, Leaves, Asks, Cut, Meaning, Scope, visit, then, raised, asked, ran, slot_at, read, calls, choose, decides, compared, expr, exprs, operands, chain, returned, fitting, run_body, call}
 use Rattle.si_semantics.specs.Scope.{place_of}
 use Rattle.si_slots.proofs.Blocks.{OnlyRaises}
@@ -96,6 +97,8 @@ module _ (e : Scope) (calling : Calls_keep e) where
         then_keeps (expr e a (visit s)) _ (expr_keeps a (visit s)) (λ u s1. then_keeps (expr e b s1) _ (expr_keeps b s1) (λ v s2. ran_keeps (operate o u v s2.world) s2))
     expr_keeps (tree.Call f args names) s =
         then_keeps (expr e f (visit s)) _ (expr_keeps f (visit s)) (λ g s1. then_keeps (exprs e args s1) _ (exprs_keep args s1) (λ vs s2. calls_keep e calling g vs names s2))
+    expr_keeps (tree.Subscript a b) s =
+        then_keeps (expr e a (visit s)) _ (expr_keeps a (visit s)) (λ u s1. then_keeps (expr e b s1) _ (expr_keeps b s1) (λ v s2. ran_keeps (subscript u v s2.world) s2))
     expr_keeps (tree.Boolean o a more) s = then_keeps (expr e a (visit s)) _ (expr_keeps a (visit s)) (λ u s1. operands_keep o u more s1)
     expr_keeps (tree.Compare a cs) s = then_keeps (expr e a (visit s)) _ (expr_keeps a (visit s)) (λ u s1. chain_keeps u cs s1)
     expr_keeps (tree.Conditional a b c) s =

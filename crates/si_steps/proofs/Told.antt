@@ -12,7 +12,7 @@ use Rattle.si_semantics.specs.Text.{message_of, str_in}
 use Rattle.si_semantics.specs.Life as life
 use Rattle.si_slots.specs.Machine.{Course, Ending}
 use Rattle.si_arena.specs.declared.cause.Cause.{Cause}
-use Rattle.si_arena.specs.declared.cause.Cause.TheVariants.{Arithmetic, TooLong, WrongType, NotCallable, WrongArguments, TooDeep, NoneActive, NotDefined, NotBound}
+use Rattle.si_arena.specs.declared.cause.Cause.TheVariants.{Arithmetic, TooLong, WrongType, NotCallable, WrongArguments, TooDeep, NoneActive, Outside, NotDefined, NotBound}
 use Rattle.si_arena.specs.declared.cause.Fault.{Fault}
 use Rattle.si_arena.specs.declared.cause.Fault.TheVariants.{Raises, NoMemory}
 use Rattle.si_arena.specs.declared.object.Object.{Object}
@@ -43,6 +43,7 @@ unwritten_message p NotCallable h = absurd h
 unwritten_message p WrongArguments h = absurd h
 unwritten_message p TooDeep h = failed_characters ∙ ap message_of (sym h)
 unwritten_message p NoneActive h = absurd h
+unwritten_message p Outside h = absurd h
 unwritten_message p (NotDefined name) h = absurd h
 unwritten_message p (NotBound name) h = absurd h
 

@@ -9,7 +9,7 @@
 //
 // In reading order: `step` (what a step did), `state` (what a machine has), `landing` (where a value goes), `raising` (how
 // exceptions are raised), `reading` (how operands are read), `flow` (the instructions of branches, chains and loops),
-// `tries` (those of `try` and of unbinding), `values` (those of operands and operations), `names` (those of globals),
+// `tries` (those of `try` and of unbinding), `values` (those of operands and operations), `subscripts`, `names` (those of globals),
 // `calls` (calls of functions and of other values), `leaving` (`break`, `continue`, `return` and the end of a finally
 // suite), `short` (frequent instructions as they stand in 8 bytes), `execute` (one instruction), `begin` (how a run begins),
 // `machine`.
@@ -28,6 +28,7 @@ mod reading;
 mod short;
 mod state;
 mod step;
+mod subscripts;
 mod tries;
 mod values;
 

@@ -30,6 +30,7 @@ view_step (Expr-F.Truth b) = tree.Constant (Truth b)
 view_step (Expr-F.Unary op a) = tree.Unary op a.value
 view_step (Expr-F.Binary op a b) = tree.Binary op a.value b.value
 view_step (Expr-F.Call a args names) = tree.Call a.value (exprs_of args.items) (map string_bytes names.items)
+view_step (Expr-F.Subscript a b) = tree.Subscript a.value b.value
 view_step (Expr-F.Boolean op a others) = tree.Boolean op a.value (exprs_of others.items)
 view_step (Expr-F.Compare a links) = tree.Compare a.value (chain_of links.items)
 view_step (Expr-F.Conditional test value other) = tree.Conditional test.value value.value other.value

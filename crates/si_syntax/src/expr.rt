@@ -20,6 +20,8 @@ pub enum Expr {
     /// A callee, its arguments, and the names of those that are passed by name, which are the last ones. No name comes
     /// twice.
     Call(Box<Expr>, Vec<Expr>, Vec<String>),
+    /// `object[index]`: the object, the index.
+    Subscript(Box<Expr>, Box<Expr>),
     /// Operands of `and` or of `or` in a row: the first, and the others, of which there is one at least.
     Boolean(BooleanOperator, Box<Expr>, Vec<Expr>),
     /// A chain of comparisons: the first operand, and each operator with the operand after it.

@@ -125,6 +125,18 @@ fn operators_bind_as_in_python(rt: HostRuntime) -> Result<(), Fail> {
             "Compare(Name(\"a\"), [(Less, Binary(BitOr, Name(\"b\"), Int(1))), (GreaterEqual, Name(\"c\")), (IsNot, Nothing), (Is, Truth(true)), (NotEqual, Name(\"d\"))])",
         ),
         (
+            "a in b not in c == d",
+            "Compare(Name(\"a\"), [(In, Name(\"b\")), (NotIn, Name(\"c\")), (Equal, Name(\"d\"))])",
+        ),
+        (
+            "not a not in b | 1",
+            "Unary(Not, Compare(Name(\"a\"), [(NotIn, Binary(BitOr, Name(\"b\"), Int(1)))]))",
+        ),
+        (
+            "-a[0] ** b(1)[c]",
+            "Unary(Minus, Binary(Power, Subscript(Name(\"a\"), Int(0)), Subscript(Call(Name(\"b\"), [Int(1)], []), Name(\"c\"))))",
+        ),
+        (
             "a if b or c else d if False else e",
             "Conditional(Boolean(Or, Name(\"b\"), [Name(\"c\")]), Name(\"a\"), Conditional(Truth(false), Name(\"d\"), Name(\"e\")))",
         ),

@@ -12,10 +12,29 @@ use Rattle.si_semantics.specs.Grammar.{Terminal, NAME, NUMBER, STRING, Sign, Wor
 
 -- ---- one terminal of look-ahead
 
+-- the terminals after some, where these stand first
+abbrev pub Step : Type 0
+Step = List Terminal → Option (List Terminal)
+
+-- two terminals that have no text of their own are one
+abbrev pub is_same : Terminal → Terminal → Bool
+is_same (Sign s) (Sign t) = same_symbol s t
+is_same (Word v) (Word w) = same_keyword v w
+is_same NEWLINE NEWLINE = true
+is_same INDENT INDENT = true
+is_same DEDENT DEDENT = true
+is_same _ _ = false
+
+-- the terminals after one that has no text of its own, where it stands first
+abbrev pub after : Terminal → Step
+after t [] = None
+after t (u ∷ ts) = if is_same u t then Some ts else None
+
 -- what a terminal does after an operand
 pub data Continuation : Type 0 where
   operator : BinaryOperator → Continuation
   arguments : Continuation
+  index : Continuation
   comparison : Continuation
   boolean : BooleanOperator → Continuation
   condition : Continuation
@@ -34,6 +53,7 @@ role_of token.DoubleSlash = operator tree.FloorDivide
 role_of token.Percent = operator tree.Modulo
 role_of token.DoubleStar = operator tree.Power
 role_of token.LeftParenthesis = arguments
+role_of token.LeftBracket = index
 role_of token.Less = comparison
 role_of token.Greater = comparison
 role_of token.LessEqual = comparison
@@ -46,6 +66,7 @@ abbrev pub word_role : Keyword → Continuation
 word_role token.AndWord = boolean tree.And
 word_role token.OrWord = boolean tree.Or
 word_role token.IsWord = comparison
+word_role token.InWord = comparison
 word_role token.IfWord = condition
 word_role _ = nothing
 
@@ -54,8 +75,14 @@ continuation_of (Sign s) = role_of s
 continuation_of (Word w) = word_role w
 continuation_of _ = nothing
 
+-- what `not` does, once it is known whether `in` follows
+abbrev pub negated : Option (List Terminal) → Continuation
+negated None = nothing
+negated (Some ts) = comparison
+
 abbrev pub continuation_at : List Terminal → Continuation
 continuation_at [] = nothing
+continuation_at (Word token.NotWord ∷ ts) = negated (after (Word token.InWord) ts)
 continuation_at (t ∷ ts) = continuation_of t
 
 -- The tightest level at which the terminal still continues an expression. Between a chain's level and that of its items
@@ -63,6 +90,7 @@ continuation_at (t ∷ ts) = continuation_of t
 abbrev pub strength_of : Continuation → ℕ
 strength_of (operator op) = left_level op
 strength_of arguments = 18
+strength_of index = 18
 strength_of comparison = 9
 strength_of (boolean tree.And) = 6
 strength_of (boolean tree.Or) = 4
@@ -82,24 +110,6 @@ begins_str (_ ∷ ts) = false
 abbrev pub rest_of : List Terminal → List Terminal
 rest_of [] = []
 rest_of (t ∷ ts) = ts
-
--- the terminals after some, where these stand first
-abbrev pub Step : Type 0
-Step = List Terminal → Option (List Terminal)
-
--- two terminals that have no text of their own are one
-abbrev pub is_same : Terminal → Terminal → Bool
-is_same (Sign s) (Sign t) = same_symbol s t
-is_same (Word v) (Word w) = same_keyword v w
-is_same NEWLINE NEWLINE = true
-is_same INDENT INDENT = true
-is_same DEDENT DEDENT = true
-is_same _ _ = false
-
--- the terminals after one that has no text of its own, where it stands first
-abbrev pub after : Terminal → Step
-after t [] = None
-after t (u ∷ ts) = if is_same u t then Some ts else None
 
 -- the terminals after the word of an operator
 abbrev pub after_boolean : BooleanOperator → Step
@@ -296,6 +306,13 @@ called n e d r = then_read (passed_from ([], []) r.0.0) (λ p. within n (tree.Ca
 abbrev pub call_by : Parser → ℕ → Expr → ℕ → List Terminal → Parsed
 call_by sub n e d ts = then_read (arguments_by sub ts) (called n e d)
 
+-- an index, from after the open bracket
+abbrev pub indexed : ℕ → Expr → ℕ → Found → List Terminal → Parsed
+indexed n e d i rest = within n (tree.Subscript e i.0) (max d i.1 + 1) rest
+
+abbrev pub subscript_by : Parser → ℕ → Expr → ℕ → List Terminal → Parsed
+subscript_by sub n e d ts = then_read (sub 1 ts) (λ i. then_read (after (Sign token.RightBracket) i.2) (indexed n e d i))
+
 -- a conditional expression, from after its `if`
 abbrev pub other_by : Parser → ℕ → Expr → ℕ → Found → List Terminal → Parsed
 other_by sub n e d t ts = then_read (sub 1 ts) (λ o. within n (tree.Conditional t.0 e o.0) (max d (max t.1 o.1) + 1) o.2)
@@ -331,6 +348,8 @@ abbrev pub comparison_at : List Terminal → Option (ComparisonOperator × List 
 comparison_at [] = None
 comparison_at (Sign s ∷ ts) = option_map (λ op. (op, ts)) (comparison_symbol s)
 comparison_at (Word token.IsWord ∷ ts) = Some (identity_from ts (after (Word token.NotWord) ts))
+comparison_at (Word token.InWord ∷ ts) = Some (tree.In, ts)
+comparison_at (Word token.NotWord ∷ ts) = option_map (λ rest. (tree.NotIn, rest)) (after (Word token.InWord) ts)
 comparison_at (_ ∷ ts) = None
 
 -- whether a tree of this depth is None, True or False, by one word alone
@@ -356,6 +375,7 @@ compare_by sub n e d ts = then_read (links_by sub ts) (λ r. within n (tree.Comp
 abbrev pub extended_by : Parser → ℕ → Expr → ℕ → List Terminal → Continuation → Parsed
 extended_by sub n e d ts (operator op) = binary_by sub n e d op (rest_of ts)
 extended_by sub n e d ts arguments = call_by sub n e d (rest_of ts)
+extended_by sub n e d ts index = subscript_by sub n e d (rest_of ts)
 extended_by sub n e d ts comparison = compare_by sub n e d ts
 extended_by sub n e d ts (boolean op) = boolean_by sub n e d op ts
 extended_by sub n e d ts condition = conditional_by sub n e d (rest_of ts)

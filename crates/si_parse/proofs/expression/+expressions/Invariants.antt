@@ -21,6 +21,9 @@ decreases-binary l = 8 * l.parts + 5
 abbrev pub decreases-call : goal.decreases-call
 decreases-call l = 8 * l.parts + 5
 
+abbrev pub decreases-subscript : goal.decreases-subscript
+decreases-subscript l = 8 * l.parts + 5
+
 abbrev pub decreases-compare : goal.decreases-compare
 decreases-compare l = 8 * l.parts + 5
 

@@ -4,7 +4,7 @@ use Rattle.si_semantics.specs.Grammar.{exprs_of, chain_of}
 use Rattle.si_semantics.specs.Scope.{names_of, names_of_all, names_of_chain}
 use Rattle.si_syntax.specs.declared.expr.Expr.{Expr}
 use Rattle.si_syntax.specs.Trees.{expr_of, link_of}
-use Rattle.si_scope.proofs.Used.{binary_names, call_names, boolean_names, compare_names, conditional_names, both_used, next_used, last_used, next_link, last_link}
+use Rattle.si_scope.proofs.Used.{binary_names, subscript_names, call_names, boolean_names, compare_names, conditional_names, both_used, next_used, last_used, next_link, last_link}
 use Rattle.si_scope.proofs.expression.+expression.Goals as goal
 
 pub use_all-loop-expr-preserved : goal.use_all-loop-expr-preserved
@@ -34,6 +34,13 @@ use_names-returns-in_ok-use_names-in-Call t c =
     (both_used _ _ _ _ _ _ _ _ (call_names c.in-Call.callee c.in-Call.arguments c.in-Call.field-2 c.args.expr.now c.in-Call.is)
     (ap (λ (e : Expr). names_of (expr_of e)) c.deref-in-Call.ensures) (ap (λ es. names_of_all (exprs_of (map expr_of es))) c.deref-in-Call-2.ensures.value) c.in_ok-use_names-in-Call.ensures)
     c.use_all.ensures
+
+pub use_names-returns-in_ok-use_names-in-Subscript : goal.use_names-returns-in_ok-use_names-in-Subscript
+use_names-returns-in_ok-use_names-in-Subscript t c =
+    on_ok_weaker c.use_names-in-Subscript-2.result
+    (both_used _ _ _ _ _ _ _ _ (subscript_names c.in-Subscript.object c.in-Subscript.index c.args.expr.now c.in-Subscript.is)
+    (ap (λ (e : Expr). names_of (expr_of e)) c.deref-in-Subscript.ensures) (ap (λ (e : Expr). names_of (expr_of e)) c.deref-in-Subscript-2.ensures) c.in_ok-use_names-in-Subscript.ensures)
+    c.use_names-in-Subscript-2.ensures
 
 pub use_names-returns-in_ok-use_names-in-Boolean : goal.use_names-returns-in_ok-use_names-in-Boolean
 use_names-returns-in_ok-use_names-in-Boolean t c =

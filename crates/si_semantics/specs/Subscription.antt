@@ -1,0 +1,42 @@
+-- Subscriptions (Python Language Reference 3.14, 6.3.2; Standard Library, "Built-in Types": common sequence operations).
+use Rattle.std.specs.Prelude.{codes, ℕ, ◌+◌, ◌-◌, ◌+ℤ◌, ◌*ℤ◌, ℤ, pos, negsuc, List, [], ◌∷◌, length, Option, Some, None, nat_lt, slice_get, if◌then◌else◌}
+use Rattle.si_plain.specs.declared.kind.Kind.TheVariants.{IndexError}
+use Rattle.si_semantics.specs.Value.{Text, Value, Int, Str, Range}
+use Rattle.si_semantics.specs.World.{World, Ran}
+use Rattle.si_semantics.specs.Operations.{gave, refused, wrong_type, integer_in, range_length}
+
+-- which of so many items an index means, counted from 0: the first is 0, and the last is -1 too; an index that means none
+-- lies outside
+abbrev pub item_meant : ℕ → ℤ → Option ℕ
+item_meant n (pos k) = if nat_lt k n then Some k else None
+item_meant n (negsuc k) = if nat_lt k n then Some (n - (k + 1)) else None
+
+-- an index that lies outside (the message is this project's own)
+abbrev pub outside : World → Ran
+outside w = refused IndexError (codes "index out of range") w
+
+-- a character as a str, where there is one
+abbrev pub character : Option ℕ → World → Ran
+character (Some c) w = gave (Str (c ∷ [])) w
+character None w = outside w
+
+-- the character of a str
+abbrev pub character_at : Text → Option ℕ → World → Ran
+character_at s (Some k) w = character (slice_get s k) w
+character_at s None w = outside w
+
+-- the item of a range: so many steps from its start
+abbrev pub number_at : (start step : ℤ) → Option ℕ → World → Ran
+number_at a c (Some k) w = gave (Int (a +ℤ pos k *ℤ c)) w
+number_at a c None w = outside w
+
+-- the item of a value at an index that is an integer: a str has its characters, each as a str of one, a range its
+-- integers, however many they are
+abbrev pub item_at : Value → Option ℤ → World → Ran
+item_at (Str s) (Some i) w = character_at s (item_meant (length s) i) w
+item_at (Range a b c) (Some i) w = number_at a c (item_meant (range_length a b c) i) w
+item_at _ _ w = wrong_type w
+
+-- `u[v]`: True and False count as 1 and 0
+abbrev pub subscript : (object index : Value) → World → Ran
+subscript u v w = item_at u (integer_in v) w
