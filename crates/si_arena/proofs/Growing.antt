@@ -8,8 +8,9 @@ use Rattle.si_arena.specs.declared.object.Steps.{Steps}
 use Rattle.si_arena.specs.declared.object.Object.{Object}
 use Rattle.si_arena.specs.declared.cause.Fault.{Fault}
 use Rattle.si_arena.specs.declared.cause.Fault.TheVariants.{Raises, NoMemory}
-use Rattle.si_arena.specs.Texts.{Rows, text_of, IsText, TextLies, Grows, Adds}
-use Rattle.si_arena.specs.Memory.{Memory, value_of, range_of, object_of, Lies, ObjectLies, ObjectsLie, grounds_of, memory_of, Lasts, Extends, Placed, PlacesText, IsNamed}
+use Rattle.si_arena.specs.Texts.{Rows, text_of, IsText, IsNarrow, TextLies, Grows, Adds}
+use Rattle.si_arena.specs.Bytes.{text_of_bytes, bytes_of_text}
+use Rattle.si_arena.specs.Memory.{Memory, value_of, range_of, object_of, Lies, ObjectLies, ObjectsLie, grounds_of, memory_of, Lasts, Extends, Placed, PlacesText, PlacesBytes, IsNamed}
 use Rattle.si_arena.proofs.Rows.{grows_none}
 use Rattle.si_arena.proofs.Lying.{objects-lasts, objects_lie-extends, object_lies-extends}
 
@@ -46,6 +47,8 @@ str_is m t (value.Int n) i e = absurd i
 str_is m t (value.Short s) i e = ap pure.Str e
 str_is m t (value.Narrow n k) i e = ap pure.Str e
 str_is m t (value.Wide n k) i e = ap pure.Str e
+str_is m t (value.ShortBytes s) i e = absurd i
+str_is m t (value.Bytes n k) i e = absurd i
 str_is m t (value.BuiltIn b) i e = absurd i
 str_is m t (value.Function n x) i e = absurd i
 str_is m t (value.Range p) i e = absurd i
@@ -60,6 +63,8 @@ str_lies m (value.Int n) i h = absurd i
 str_lies m (value.Short s) i h = h
 str_lies m (value.Narrow n k) i h = h
 str_lies m (value.Wide n k) i h = h
+str_lies m (value.ShortBytes s) i h = absurd i
+str_lies m (value.Bytes n k) i h = absurd i
 str_lies m (value.BuiltIn b) i h = absurd i
 str_lies m (value.Function n x) i h = absurd i
 str_lies m (value.Range p) i h = absurd i
@@ -78,6 +83,85 @@ text_placed t rows more names ranges os (Ok r) a h =
     (a.0, record { denotes = str_is m t r a.1.text a.1.is; lies = str_lies m r a.1.text a.1.lies; extends = g.extends; store = g.store })
 text_placed t rows more names ranges os (Err (Raises c)) a h = (a.0, a.1, ap (λ xs. memory_of xs names ranges os) a.2)
 text_placed t rows more names ranges os (Err NoMemory) a h = ap (λ xs. memory_of xs names ranges os) a
+
+-- ---- bytes
+
+bytes_are : (m : Memory) (t : List ℕ) (r : Ref) → IsText r → IsNarrow r → text_of m.texts r ≡ t → value_of m (bytes_of_text r) ≡ pure.Bytes t
+bytes_are m t (value.Short s) i n e = ap pure.Bytes e
+bytes_are m t (value.Narrow c k) i n e = ap pure.Bytes e
+bytes_are m t (value.Wide c k) i n e = absurd n
+bytes_are m t value.Unbound i n e = absurd i
+bytes_are m t value.None i n e = absurd i
+bytes_are m t (value.Truth b) i n e = absurd i
+bytes_are m t (value.Int z) i n e = absurd i
+bytes_are m t (value.ShortBytes s) i n e = absurd i
+bytes_are m t (value.Bytes c k) i n e = absurd i
+bytes_are m t (value.BuiltIn b) i n e = absurd i
+bytes_are m t (value.Function z x) i n e = absurd i
+bytes_are m t (value.Range p) i n e = absurd i
+bytes_are m t (value.Kind k) i n e = absurd i
+bytes_are m t (value.Object x) i n e = absurd i
+
+bytes_lie : (m : Memory) (r : Ref) → IsText r → IsNarrow r → TextLies m.texts r → Lies m (bytes_of_text r)
+bytes_lie m (value.Short s) i n h = h
+bytes_lie m (value.Narrow c k) i n h = h
+bytes_lie m (value.Wide c k) i n h = absurd n
+bytes_lie m value.Unbound i n h = absurd i
+bytes_lie m value.None i n h = absurd i
+bytes_lie m (value.Truth b) i n h = absurd i
+bytes_lie m (value.Int z) i n h = absurd i
+bytes_lie m (value.ShortBytes s) i n h = absurd i
+bytes_lie m (value.Bytes c k) i n h = absurd i
+bytes_lie m (value.BuiltIn b) i n h = absurd i
+bytes_lie m (value.Function z x) i n h = absurd i
+bytes_lie m (value.Range p) i n h = absurd i
+bytes_lie m (value.Kind k) i n h = absurd i
+bytes_lie m (value.Object x) i n h = absurd i
+
+pub bytes_placed : (t : List ℕ) (rows more : Rows) (names : List pure.Text) (ranges : List Steps) (os : List Object) (r : Ref) → Adds t rows more (Ok r) → IsNarrow r → ObjectsLie (memory_of rows names ranges os) os
+    → PlacesBytes t (memory_of rows names ranges os) (memory_of more names ranges os) (Ok (bytes_of_text r))
+bytes_placed t rows more names ranges os r a n h =
+    let g = goes rows more names names ranges ranges os (texts_last rows more names ranges os a.1.grown) h in
+    let m = memory_of more names ranges os in
+    (a.0, record { denotes = bytes_are m t r a.1.text n a.1.is; lies = bytes_lie m r a.1.text n a.1.lies; extends = g.extends; store = g.store })
+
+pub bytes_refused : (t : List ℕ) (rows more : Rows) (names : List pure.Text) (ranges : List Steps) (os : List Object) (e : Fault) → Adds t rows more (Err e)
+    → PlacesBytes t (memory_of rows names ranges os) (memory_of more names ranges os) (Err e)
+bytes_refused t rows more names ranges os (Raises c) a = (a.0, a.1, ap (λ xs. memory_of xs names ranges os) a.2)
+bytes_refused t rows more names ranges os NoMemory a = ap (λ xs. memory_of xs names ranges os) a
+
+-- bytes lie where the text does that lies as they do
+pub bytes_text_lies : (m : Memory) (r : Ref) → Lies m r → TextLies m.texts (text_of_bytes r)
+bytes_text_lies m (value.ShortBytes s) h = tt
+bytes_text_lies m (value.Bytes c k) h = h
+bytes_text_lies m value.Unbound h = tt
+bytes_text_lies m value.None h = tt
+bytes_text_lies m (value.Truth b) h = tt
+bytes_text_lies m (value.Int z) h = tt
+bytes_text_lies m (value.Short s) h = tt
+bytes_text_lies m (value.Narrow c k) h = tt
+bytes_text_lies m (value.Wide c k) h = tt
+bytes_text_lies m (value.BuiltIn b) h = tt
+bytes_text_lies m (value.Function z x) h = tt
+bytes_text_lies m (value.Range p) h = tt
+bytes_text_lies m (value.Kind k) h = tt
+bytes_text_lies m (value.Object x) h = tt
+
+pub bytes_text_narrow : (r : Ref) → IsNarrow (text_of_bytes r)
+bytes_text_narrow (value.ShortBytes s) = tt
+bytes_text_narrow (value.Bytes c k) = tt
+bytes_text_narrow value.Unbound = tt
+bytes_text_narrow value.None = tt
+bytes_text_narrow (value.Truth b) = tt
+bytes_text_narrow (value.Int z) = tt
+bytes_text_narrow (value.Short s) = tt
+bytes_text_narrow (value.Narrow c k) = tt
+bytes_text_narrow (value.Wide c k) = tt
+bytes_text_narrow (value.BuiltIn b) = tt
+bytes_text_narrow (value.Function z x) = tt
+bytes_text_narrow (value.Range p) = tt
+bytes_text_narrow (value.Kind k) = tt
+bytes_text_narrow (value.Object x) = tt
 
 -- ---- ranges and names
 

@@ -48,6 +48,8 @@ value-lasts (value.Int n) e h = refl
 value-lasts (value.Short s) e h = refl
 value-lasts {old = old} {new = new} (value.Narrow n i) e h = ap pure.Str (text-grows old.texts new.texts (value.Narrow n i) e.texts h)
 value-lasts {old = old} {new = new} (value.Wide n i) e h = ap pure.Str (text-grows old.texts new.texts (value.Wide n i) e.texts h)
+value-lasts (value.ShortBytes s) e h = refl
+value-lasts {old = old} {new = new} (value.Bytes n i) e h = ap pure.Bytes (text-grows old.texts new.texts (value.Narrow n i) e.texts h)
 value-lasts (value.BuiltIn b) e h = refl
 value-lasts {old = old} {new = new} (value.Function n x) e h =
     ap (λ t. pure.Function t n) (ap (λ xs. get_or xs x []) e.names.1 ∙ get_or_append_left old.names e.names.0 [] x h)
@@ -64,6 +66,8 @@ lies-extends (value.Int n) e h = h
 lies-extends (value.Short s) e h = h
 lies-extends {old = old} {new = new} (value.Narrow n i) e h = text_lies-grows old.texts new.texts (value.Narrow n i) e.lasts.texts h
 lies-extends {old = old} {new = new} (value.Wide n i) e h = text_lies-grows old.texts new.texts (value.Wide n i) e.lasts.texts h
+lies-extends (value.ShortBytes s) e h = h
+lies-extends {old = old} {new = new} (value.Bytes n i) e h = text_lies-grows old.texts new.texts (value.Narrow n i) e.lasts.texts h
 lies-extends (value.BuiltIn b) e h = h
 lies-extends {old = old} {new = new} (value.Function n x) e h = omega (arith, h, ap length e.lasts.names.1, length-append old.names e.lasts.names.0)
 lies-extends {old = old} {new = new} (value.Range p) e h = omega (arith, h, ap length e.lasts.ranges.1, length-append old.ranges e.lasts.ranges.0)
@@ -79,6 +83,8 @@ bound-lasts (value.Int n) e h = refl
 bound-lasts (value.Short s) e h = refl
 bound-lasts (value.Narrow n i) e h = ap (λ v. Some v) (value-lasts (value.Narrow n i) e h)
 bound-lasts (value.Wide n i) e h = ap (λ v. Some v) (value-lasts (value.Wide n i) e h)
+bound-lasts (value.ShortBytes s) e h = refl
+bound-lasts (value.Bytes n i) e h = ap (λ v. Some v) (value-lasts (value.Bytes n i) e h)
 bound-lasts (value.BuiltIn b) e h = refl
 bound-lasts (value.Function n x) e h = ap (λ v. Some v) (value-lasts (value.Function n x) e h)
 bound-lasts (value.Range p) e h = ap (λ v. Some v) (value-lasts (value.Range p) e h)
@@ -93,6 +99,8 @@ holds-extends (value.Int n) e h = h
 holds-extends (value.Short s) e h = h
 holds-extends (value.Narrow n i) e h = lies-extends (value.Narrow n i) e h
 holds-extends (value.Wide n i) e h = lies-extends (value.Wide n i) e h
+holds-extends (value.ShortBytes s) e h = h
+holds-extends (value.Bytes n i) e h = lies-extends (value.Bytes n i) e h
 holds-extends (value.BuiltIn b) e h = h
 holds-extends (value.Function n x) e h = lies-extends (value.Function n x) e h
 holds-extends (value.Range p) e h = lies-extends (value.Range p) e h

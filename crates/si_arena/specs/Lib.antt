@@ -1,5 +1,6 @@
 pub mod Short
 pub mod Texts
+pub mod Bytes
 pub mod Causes
 pub mod Memory
 pub mod Views

@@ -35,6 +35,7 @@ built_in_of built.Ord = pure.Ord
 built_in_of built.Chr = pure.Chr
 built_in_of built.Min = pure.Min
 built_in_of built.Max = pure.Max
+built_in_of built.Bytes = pure.MakeBytes
 
 -- what a value denotes; of what denotes none, None
 abbrev pub value_of : Memory → Ref → pure.Value
@@ -45,6 +46,8 @@ value_of m (value.Int n) = pure.Int n
 value_of m (value.Short s) = pure.Str (text_of m.texts (value.Short s))
 value_of m (value.Narrow count start) = pure.Str (text_of m.texts (value.Narrow count start))
 value_of m (value.Wide count start) = pure.Str (text_of m.texts (value.Wide count start))
+value_of m (value.ShortBytes s) = pure.Bytes (text_of m.texts (value.Short s))
+value_of m (value.Bytes count start) = pure.Bytes (text_of m.texts (value.Narrow count start))
 value_of m (value.BuiltIn b) = pure.Provided (built_in_of b)
 value_of m (value.Function number name) = pure.Function (name_at m.names name) number
 value_of m (value.Range place) = get_or m.ranges place pure.Nothing
@@ -65,6 +68,7 @@ abbrev pub Lies : Memory → Ref → Type 0
 Lies m value.Unbound = ⊥
 Lies m (value.Narrow count start) = TextLies m.texts (value.Narrow count start)
 Lies m (value.Wide count start) = TextLies m.texts (value.Wide count start)
+Lies m (value.Bytes count start) = TextLies m.texts (value.Narrow count start)
 Lies m (value.Function number name) = name < length m.names
 Lies m (value.Range place) = place < length m.ranges
 Lies m (value.Object x) = x < length m.store
@@ -133,6 +137,12 @@ abbrev pub PlacesText : pure.Text → Memory → Memory → Result Ref Fault →
 PlacesText t old new (Ok r) = (length t ≤ max_length) × Placed old (pure.Str t) r new
 PlacesText t old new (Err (Raises cause)) = (max_length < length t) × (cause ≡ TooLong) × (new ≡ old)
 PlacesText t old new (Err NoMemory) = new ≡ old
+
+-- bytes are placed, unless they are more than bytes may be or memory is refused: then the arena is as it was
+abbrev pub PlacesBytes : List ℕ → Memory → Memory → Result Ref Fault → Type 0
+PlacesBytes bs old new (Ok r) = (length bs ≤ max_length) × Placed old (pure.Bytes bs) r new
+PlacesBytes bs old new (Err (Raises cause)) = (max_length < length bs) × (cause ≡ TooLong) × (new ≡ old)
+PlacesBytes bs old new (Err NoMemory) = new ≡ old
 
 -- a name has the next number, and nothing else is changed
 pub record IsNamed (x : pure.Text) (old new : Memory) (place : ℕ) : Type 0 where

@@ -6,9 +6,11 @@ ghost use Rattle.si_semantics.specs.Value as pure;
 ghost use Rattle.si_arena.specs.Short.{FitsShort};
 ghost use Rattle.si_arena.specs.Texts.{IsNarrow, GoesOn, size_of, text_of, repeated_text};
 ghost use Rattle.si_arena.specs.Causes.{name_at};
-ghost use Rattle.si_arena.specs.Memory.{value_of, range_of, object_of, ObjectLies, Lies, Placed, PlacesText, IsNamed, IsMade};
+ghost use Rattle.si_arena.specs.Memory.{value_of, range_of, object_of, ObjectLies, Lies, Placed, PlacesText, PlacesBytes, IsNamed, IsMade};
+ghost use Rattle.si_arena.specs.Bytes.{bytes_of, text_of_bytes};
 ghost use Rattle.si_arena.specs.Views.{value_in};
 
+use crate::bytes::{bytes_of_text, text_of_bytes};
 use crate::cause::{Cause, Fault};
 use crate::object::{Object, Steps};
 use crate::texts::Texts;
@@ -95,6 +97,43 @@ impl Arena {
         self.texts.character(text, index)
     }
 
+    /// Bytes; at most 14 of them take no memory. `TooLong` where they are more than bytes may be; unchanged where it is
+    /// refused.
+    pub fn place_bytes(&mut self, bytes: &[u8]) -> Result<Ref, Fault>
+        ensures bytes { PlacesBytes bytes.now self.old self.new result }
+        ensures short { length bytes.now ≤ 14 → (self.new ≡ self.old) × IsOk result }
+    {
+        let placed = self.texts.place_narrow(bytes)?;
+        Ok(bytes_of_text(placed))
+    }
+
+    /// Some bytes and then others (Python Language Reference 3.14, 6.7). At most 14 of them take no memory; where the
+    /// first end the row, only the others are copied. `TooLong` where they are more than bytes may be; unchanged where it
+    /// is refused.
+    #[tactic(auto, using(crate::proofs::Growing::bytes_text_narrow))]
+    pub fn join_bytes(&mut self, left: Ref, right: Ref) -> Result<Ref, Fault>
+        requires left { Lies self.old left }
+        requires right { Lies self.old right }
+        ensures bytes { PlacesBytes (bytes_of self.old.texts left ++ bytes_of self.old.texts right) self.old self.new result }
+        ensures short { length (bytes_of self.old.texts left) + length (bytes_of self.old.texts right) ≤ 14 → (self.new ≡ self.old) × IsOk result }
+        ensures in_place { GoesOn self.old.texts (text_of_bytes left) (text_of_bytes right) → size_of self.new.texts ≤ size_of self.old.texts + length (bytes_of self.old.texts right) }
+    {
+        let joined = self.texts.join(text_of_bytes(left), text_of_bytes(right))?;
+        Ok(bytes_of_text(joined))
+    }
+
+    /// Bytes so many times (Python Standard Library 3.14, "Built-in Types": common sequence operations); a count below 0
+    /// is as good as 0. At most 14 of them take no memory. `TooLong` where they are more than bytes may be; unchanged
+    /// where it is refused.
+    pub fn repeat_bytes(&mut self, bytes: Ref, count: i64) -> Result<Ref, Fault>
+        requires { Lies self.old bytes }
+        ensures bytes { PlacesBytes (repeated_text (bytes_of self.old.texts bytes) count) self.old self.new result }
+        ensures short { length (repeated_text (bytes_of self.old.texts bytes) count) ≤ 14 → (self.new ≡ self.old) × IsOk result }
+    {
+        let repeated = self.texts.repeat(text_of_bytes(bytes), count)?;
+        Ok(bytes_of_text(repeated))
+    }
+
     /// A range; unchanged where memory is refused.
     pub fn place_range(&mut self, steps: Steps) -> Result<Ref, NoMemory>
         ensures ok { IfOk result (λ r. Placed self.old (range_of steps) r self.new) }
@@ -132,7 +171,25 @@ impl Arena {
     ghost use Rattle.std.specs.Prelude.{◌≡◌, ◌<◌, length, get_or, slice_get, Some, IfOk};
     ghost use Rattle.si_arena.specs.Causes.{name_at, message_of, CauseLies};
     ghost use Rattle.si_arena.specs.Memory.{value_of, range_of, object_of, ObjectLies, Lies};
+    ghost use Rattle.si_arena.specs.Bytes.{bytes_of};
     ghost use Rattle.si_arena.specs.Views.{value_in, ShowsText};
+
+    /// The bytes that a value is; none of what is no bytes.
+    pub fn bytes<'a>(&'a self, value: &'a Ref) -> &'a [u8]
+        requires { Lies self.now value.now }
+        ensures { result.now ≡ bytes_of self.now.texts value.now }
+    {
+        match value {
+            Ref::ShortBytes(short) => short.as_slice(),
+            Ref::Bytes { length, start } => self.texts.narrow_slice(*length, *start),
+            _ => &[],
+        }
+    }
+
+    /// The allocator of its rows.
+    pub fn allocator(&self) -> Global {
+        self.alloc
+    }
 
     /// What a value is.
     pub fn view<'a>(&'a self, value: &'a Ref) -> View<'a>
@@ -148,6 +205,8 @@ impl Arena {
             Ref::Short(_) => View::Str(self.texts.characters(value)),
             Ref::Narrow { .. } => View::Str(self.texts.characters(value)),
             Ref::Wide { .. } => View::Str(self.texts.characters(value)),
+            Ref::ShortBytes(_) => View::Bytes(self.bytes(value)),
+            Ref::Bytes { .. } => View::Bytes(self.bytes(value)),
             Ref::BuiltIn(built_in) => View::BuiltIn(*built_in),
             Ref::Function { number, name } => View::Function(*number, &self.names[*name]),
             Ref::Range(place) => View::Range(&self.ranges[*place]),

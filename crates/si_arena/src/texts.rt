@@ -57,6 +57,14 @@ impl Texts {
         }
     }
 
+    /// So many characters of the narrow row, from one on.
+    pub fn narrow_slice(&self, count: u32, start: usize) -> &[u8]
+        requires { start + count ≤ length self.now.narrow }
+        ensures { result.now ≡ take count (drop start self.now.narrow) }
+    {
+        &self.narrow[start..start + count as usize]
+    }
+
     // The characters of a text that is not in the wide row.
     fn narrow_characters<'a>(&'a self, text: &'a Ref) -> &'a [u8]
         requires lies { TextLies self.now text.now }
@@ -65,10 +73,7 @@ impl Texts {
     {
         match text {
             Ref::Short(short) => short.as_slice(),
-            Ref::Narrow { length, start } => {
-                let (length, start) = (*length as usize, *start);
-                &self.narrow[start..start + length]
-            }
+            Ref::Narrow { length, start } => self.narrow_slice(*length, *start),
             _ => &[],
         }
     }
@@ -200,6 +205,7 @@ impl Texts {
         requires right { TextLies self.old right × FitsIn width right }
         requires count { count ≡ length (text_of self.old left ++ text_of self.old right) }
         ensures ok { IfOk result (λ r. IsAdded (text_of self.old left ++ text_of self.old right) self.old self.new r) }
+        ensures fits { IfOk result (λ r. FitsIn width r) }
         ensures in_place { EndsRow width self.old left → OnOk result (self.new ≡ with_row width (row_of width self.old ++ text_of self.old right) self.old) }
         ensures err { OnErr result (self.new ≡ self.old) }
     {
@@ -239,6 +245,7 @@ impl Texts {
         ensures text { Adds (text_of self.old left ++ text_of self.old right) self.old self.new result }
         ensures short { IsNarrow left → IsNarrow right → length (text_of self.old left) + length (text_of self.old right) ≤ 14 → (self.new ≡ self.old) × IsOk result }
         ensures in_place { GoesOn self.old left right → size_of self.new ≤ size_of self.old + length (text_of self.old right) }
+        ensures narrow { IsNarrow left → IsNarrow right → IfOk result (λ r. IsNarrow r) }
     {
         let count = self.length(left) + self.length(right);
         if count > MAX_STR_LENGTH {
@@ -270,6 +277,7 @@ impl Texts {
         requires { TextLies self.old text }
         ensures text { Adds (repeated_text (text_of self.old text) count) self.old self.new result }
         ensures short { IsNarrow text → length (repeated_text (text_of self.old text) count) ≤ 14 → (self.new ≡ self.old) × IsOk result }
+        ensures narrow { IsNarrow text → IfOk result (λ r. IsNarrow r) }
     {
         let length = self.length(text);
         let copies = copies_that_count(length, count);
@@ -342,6 +350,26 @@ impl Texts {
         let start = self.end(Width::Wide);
         self.push_wide_str(text)?;
         Ok(Width::Wide.slice(count as u32, start))
+    }
+
+    /// Characters below 256, as a text. `TooLong` where they are more than those of a str may be; unchanged where it is
+    /// refused.
+    pub fn place_narrow(&mut self, characters: &[u8]) -> Result<Ref, Fault>
+        ensures text { Adds characters.now self.old self.new result }
+        ensures short { length characters.now ≤ 14 → (self.new ≡ self.old) × IsOk result }
+        ensures narrow { IfOk result (λ r. IsNarrow r) }
+    {
+        if characters.len() <= Short::CAPACITY {
+            let mut short = Short::new();
+            short.append(characters);
+            return Ok(Ref::Short(short));
+        }
+        if characters.len() > MAX_STR_LENGTH {
+            return Err(Fault::Raises(Cause::TooLong));
+        }
+        let start = self.narrow.len();
+        self.narrow.extend_from_slice(characters)?;
+        Ok(Width::Narrow.slice(characters.len() as u32, start))
     }
 
     // The characters of a str at the end of the narrow row, and whether each is below 256: if not, or where memory is

@@ -19,6 +19,7 @@ pub enum BuiltIn {
     Chr,
     Min,
     Max,
+    Bytes,
 }
 
 /// Which row of the arena has room for a text: the narrow one for characters below 256 alone.
@@ -44,6 +45,10 @@ pub enum Ref {
     Narrow { length: u32, start: usize },
     /// A str: so many characters from one on of the arena's wide row.
     Wide { length: u32, start: usize },
+    /// A few bytes, which are here.
+    ShortBytes(Short),
+    /// So many bytes from one on of the arena's narrow row.
+    Bytes { length: u32, start: usize },
     BuiltIn(BuiltIn),
     /// A function of a script, by its number among those that its interpreter has read, and the number of its name
     /// among the arena's names.
@@ -79,7 +84,8 @@ impl Width {
 
     // So many characters of its row, from a start on.
     pub fn slice(self, length: u32, start: usize) -> Ref
-        ensures { result ≡ slice_in self length start }
+        ensures is { result ≡ slice_in self length start }
+        ensures fits { FitsIn self result }
     {
         match self {
             Width::Narrow => Ref::Narrow { length, start },

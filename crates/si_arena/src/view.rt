@@ -13,6 +13,7 @@ pub enum View<'a> {
     Truth(bool),
     Int(i64),
     Str(Characters<'a>),
+    Bytes(&'a [u8]),
     BuiltIn(BuiltIn),
     /// A function of a script, by its number and its name.
     Function(u32, &'a Text),

@@ -9,8 +9,10 @@ use Rattle.si_arena.specs.Memory.{Memory, Lies, Extends}
 use Rattle.si_arena.specs.Texts.{text_of, TextLies}
 use Rattle.si_arena.proofs.Rows.{text-grows}
 use Rattle.si_arena.proofs.Lying.{lies-extends}
+use Rattle.si_arena.proofs.Growing.{bytes_text_lies}
+use Rattle.si_arena.specs.Bytes.{bytes_of, text_of_bytes}
 use Rattle.si_ops.specs.declared.items.Items.{Items}
-use Rattle.si_ops.specs.declared.items.Items.TheVariants.{Numbers, Characters, NoMore}
+use Rattle.si_ops.specs.declared.items.Items.TheVariants.{Numbers, Characters, Octets, NoMore}
 use Rattle.si_ops.specs.Items.{items_of, ItemsLie, GivesNext}
 
 -- three integers, each by another that is equal
@@ -30,6 +32,8 @@ lies_text m (value.Int n) h = tt
 lies_text m (value.Short s) h = tt
 lies_text m (value.Narrow n i) h = h
 lies_text m (value.Wide n i) h = h
+lies_text m (value.ShortBytes s) h = tt
+lies_text m (value.Bytes n i) h = tt
 lies_text m (value.BuiltIn b) h = tt
 lies_text m (value.Function n x) h = tt
 lies_text m (value.Range p) h = tt
@@ -39,14 +43,19 @@ lies_text m (value.Object x) h = tt
 text_kept : {old new : Memory} (r : Ref) → Extends old new → Lies old r → text_of new.texts r ≡ text_of old.texts r
 text_kept {old = old} {new = new} r e h = text-grows old.texts new.texts r e.lasts.texts (lies_text old r h)
 
+bytes_kept : {old new : Memory} (r : Ref) → Extends old new → Lies old r → bytes_of new.texts r ≡ bytes_of old.texts r
+bytes_kept {old = old} {new = new} r e h = text-grows old.texts new.texts (text_of_bytes r) e.lasts.texts (bytes_text_lies old r h)
+
 -- items that lie in an arena give the same after it has gone on
 pub items-lasts : {old new : Memory} (items : Items) → Extends old new → ItemsLie old items → items_of new items ≡ items_of old items
 items-lasts (Numbers at stop step) e h = refl
 items-lasts (Characters text given count) e h = ap (λ s. operations.Characters (drop given s)) (text_kept text e h.0)
+items-lasts (Octets bytes given) e h = ap (λ s. operations.Octets (drop given s)) (bytes_kept bytes e h)
 items-lasts NoMore e h = refl
 
 -- and they lie in it
 pub items_lie-extends : {old new : Memory} (items : Items) → Extends old new → ItemsLie old items → ItemsLie new items
 items_lie-extends (Numbers at stop step) e h = tt
 items_lie-extends (Characters text given count) e h = (lies-extends text e h.0, h.1 ∙ ap length (sym (text_kept text e h.0)))
+items_lie-extends (Octets bytes given) e h = lies-extends bytes e h
 items_lie-extends NoMore e h = tt

@@ -1,6 +1,5 @@
 -- The characters of a text by their indices.
-use Rattle.std.proofs.Common.{◌≡◌, ℕ, ℤ, List, ◌∷◌, [], ◌<◌, length, get_or, Option, Some, None, refl, sym, ap, ◌∙◌, subst}
-use Rattle.std.specs.Prelude.{slice_get}
+use Rattle.std.proofs.Common.{◌≡◌, ℕ, List, ◌∷◌, [], ◌<◌, length, get_or, Some, refl, ap, ◌∙◌}
 use Rattle.std.proofs.lemmas.Option.{slice_get-get_or}
 use Rattle.si_semantics.specs.Value as pure
 use Rattle.si_semantics.specs.World.{World}
@@ -20,6 +19,8 @@ text_is m (value.Int n) h = absurd h
 text_is m (value.Short s) h = refl
 text_is m (value.Narrow n i) h = refl
 text_is m (value.Wide n i) h = refl
+text_is m (value.ShortBytes s) h = absurd h
+text_is m (value.Bytes n i) h = absurd h
 text_is m (value.BuiltIn b) h = absurd h
 text_is m (value.Function n x) h = absurd h
 text_is m (value.Range p) h = absurd h

@@ -1,5 +1,7 @@
 pub mod SameItems
 pub mod Running
+pub mod RunningBytes
+pub mod MadeBytes
 pub mod Compared
 pub mod Parts
 pub mod Reached

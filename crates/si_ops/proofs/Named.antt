@@ -74,6 +74,7 @@ built_in_characters pure.Ord = refl
 built_in_characters pure.Chr = refl
 built_in_characters pure.Min = refl
 built_in_characters pure.Max = refl
+built_in_characters pure.MakeBytes = refl
 
 -- ---- kinds by their names
 

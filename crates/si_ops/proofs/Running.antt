@@ -31,7 +31,7 @@ runs_as f g old new (Err NoMemory) same h = h
 -- ---- texts
 
 -- the exception that says that a text is too long
-throws_long : (f : World → Ran) (m : Memory) (cause : Cause) → cause ≡ TooLong → ((w : World) → f w ≡ too_long w) → Throws f m cause
+pub throws_long : (f : World → Ran) (m : Memory) (cause : Cause) → cause ≡ TooLong → ((w : World) → f w ≡ too_long w) → Throws f m cause
 throws_long f m cause e g = (
   (λ w h. g w ∙ ap (λ c. refused (kind_of c) (message_of m.names c) w) (sym e)),
   subst (CauseLies m.names) (sym e) tt,
@@ -117,16 +117,16 @@ pub ok_told : (r : Result Ref Fault) → IsOk r → IsTold r
 ok_told (Ok r) h = tt
 ok_told (Err e) h = absurd (no_truth h)
 
-needs_left : (left right : Ref) (t : Option pure.Text) → NeedsNone left right t → NeedsNone left left t
+pub needs_left : (left right : Ref) (t : Option pure.Text) → NeedsNone left right t → NeedsNone left left t
 needs_left left right None h = tt
 needs_left left right (Some t) h = (h.0, h.0, h.2)
 
-needs_right : (left right : Ref) (t : Option pure.Text) → NeedsNone left right t → NeedsNone right right t
+pub needs_right : (left right : Ref) (t : Option pure.Text) → NeedsNone left right t → NeedsNone right right t
 needs_right left right None h = tt
 needs_right left right (Some t) h = (h.1, h.1, h.2)
 
 -- an operator that does with two values what it does with two others
-goes_as : (o : tree.BinaryOperator) (u v x y : pure.Value) (left right text : Ref) (old new : Memory) (r : Result Ref Fault) → ((w : World) → operate o u v w ≡ operate o x y w) → text_made o u v ≡ text_made o x y → (NeedsNone left right (text_made o x y) → NeedsNone text text (text_made o x y)) → Goes o x y text text old new r → Goes o u v left right old new r
+pub goes_as : (o : tree.BinaryOperator) (u v x y : pure.Value) (left right text : Ref) (old new : Memory) (r : Result Ref Fault) → ((w : World) → operate o u v w ≡ operate o x y w) → text_made o u v ≡ text_made o x y → (NeedsNone left right (text_made o x y) → NeedsNone text text (text_made o x y)) → Goes o x y text text old new r → Goes o u v left right old new r
 goes_as o u v x y left right text old new r same made needs h = record {
   runs = runs_as (λ w. operate o u v w) (λ w. operate o x y w) old new r same h.runs;
   memory = λ n. let P : Option pure.Text → Type 0 = λ t. NeedsNone left right t in h.memory (needs (subst P made n));

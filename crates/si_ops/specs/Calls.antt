@@ -1,6 +1,6 @@
 -- How a call goes over an arena, by its definition, which says what it does in a world. The world's objects are those of
 -- the arena, before it and after it.
-use Rattle.std.specs.Prelude.{◌≡◌, ℕ, ℤ, pos, ◌<◌, ◌≤◌, ◌+◌, List, [], ◌∷◌, ◌++◌, length, Option, Some, Result, Ok, Err, encode_utf8_all}
+use Rattle.std.specs.Prelude.{◌≡◌, ℕ, ℤ, pos, negsuc, nat_lt, if◌then◌else◌, ◌<◌, ◌≤◌, ◌+◌, List, [], ◌∷◌, ◌++◌, length, Option, Some, None, Result, Ok, Err, encode_utf8_all}
 use Rattle.std.specs.String.{string_bytes, string_len, string_capacity}
 use Rattle.std.specs.declared.string.String.{String}
 use Rattle.si_semantics.specs.Value as pure
@@ -8,7 +8,10 @@ use Rattle.si_semantics.specs.World.{World, Ran, Gave}
 use Rattle.si_semantics.specs.Operations.{gave, integer_in}
 use Rattle.si_arena.specs.declared.value.Ref.{Ref}
 use Rattle.si_arena.specs.declared.object.Steps.{Steps}
+use Rattle.si_plain.specs.declared.kind.Kind.{Kind}
+use Rattle.si_plain.specs.declared.kind.Kind.TheVariants.{ValueError}
 use Rattle.si_arena.specs.declared.cause.Cause.{Cause}
+use Rattle.si_arena.specs.declared.cause.Cause.TheVariants.{Arithmetic}
 use Rattle.si_arena.specs.declared.cause.Fault.{Fault}
 use Rattle.si_arena.specs.declared.cause.Fault.TheVariants.{Raises, NoMemory}
 use Rattle.si_arena.specs.Memory.{Memory, value_of, range_of, Lies, Extends}
@@ -54,6 +57,21 @@ abbrev pub Spans : (World → Ran) → Memory → Result Steps Cause → Type 0
 Spans f m (Ok steps) = (w : World) → f w ≡ gave (range_of steps) w
 Spans f m (Err cause) = Throws f m cause
 
+-- an integer from 0 to 255 as a byte
+abbrev pub byte_of : ℤ → Option ℕ
+byte_of (pos n) = if nat_lt n 256 then Some n else None
+byte_of (negsuc n) = None
+
+-- a sum, where it is no integer of 64 bits -1
+abbrev pub StepsTo : Result ℤ Kind → ℤ → Type 0
+StepsTo (Ok sum) n = n ≡ sum
+StepsTo (Err k) n = n ≡ negsuc 0
+
+-- there are no bytes: ValueError; or memory was refused
+abbrev pub IsRefusal : Fault → Option (List ℕ) → Type 0
+IsRefusal (Raises cause) made = (made ≡ None) × (cause ≡ Arithmetic ValueError)
+IsRefusal NoMemory made = Unit {0}
+
 -- what `chr` makes a str of is below 256, or no number of a character
 abbrev pub IsByte : Option ℤ → Type 0
 IsByte (Some (pos n)) = n < 256
@@ -65,13 +83,14 @@ AreBytes (v ∷ []) = IsByte (integer_in v)
 AreBytes _ = Unit {0}
 
 -- no memory is needed for a call: of what can't be called, of `print` where the line has room for what it prints, of
--- `chr` for a character below 256, and of what else makes neither a str nor a range nor an exception
+-- `chr` for a character below 256, and of what else makes no str, no bytes, no range and no exception
 abbrev pub NeedsNone : {Z : Type 0} → Memory → String Z → pure.Value → List pure.Value → Type 0
 NeedsNone m line (pure.Provided pure.Print) vs = string_len line + length (line_bytes m.store vs) ≤ string_capacity line
 NeedsNone m line (pure.Provided pure.MakeRange) vs = ⊥
 NeedsNone m line (pure.Provided pure.MakeStr) vs = ⊥
 NeedsNone m line (pure.Provided pure.Repr) vs = ⊥
 NeedsNone m line (pure.Provided pure.Chr) vs = AreBytes vs
+NeedsNone m line (pure.Provided pure.MakeBytes) vs = ⊥
 NeedsNone m line (pure.Provided b) vs = Unit {0}
 NeedsNone m line (pure.Class k) vs = ⊥
 NeedsNone m line v vs = Unit {0}

@@ -1,5 +1,6 @@
 -- What is written at the end of a String, in UTF-8.
-use Rattle.std.specs.Prelude.{codes, ◌≡◌, ℕ, ◌+◌, ◌<◌, ◌≤◌, List, [], ◌∷◌, ◌++◌, length, ℤ, pos, Option, Some, None, Result, Ok, Err, encode_utf8_all, if◌then◌else◌}
+use Rattle.std.specs.Prelude.{codes, ◌≡◌, ℕ, ◌+◌, ◌<◌, ◌≤◌, List, [], ◌∷◌, ◌++◌, length, ℤ, pos, Option, Some, None, Result, Ok, Err, encode_utf8_all, flat_map, if◌then◌else◌}
+use Rattle.si_plain.specs.Repr.{escaped_byte}
 use Rattle.si_semantics.specs.Value.{Text, Value, Str, Object}
 use Rattle.si_plain.specs.declared.kind.Kind.{Kind}
 use Rattle.si_plain.specs.declared.kind.Kind.TheVariants.{KeyError, RecursionError, OverflowError}
@@ -49,6 +50,10 @@ spelled (Some t) = encode_utf8_all t
 abbrev pub caused_str : Kind → Text → Text
 caused_str KeyError t = repr_text t
 caused_str k t = t
+
+-- bytes between two quotes
+abbrev pub bytes_between : ℕ → List ℕ → Text
+bytes_between quote bs = quote ∷ flat_map (escaped_byte quote) bs ++ quote ∷ []
 
 -- the str of a value that is no object
 abbrev pub plain_str : Value → Text

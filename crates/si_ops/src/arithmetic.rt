@@ -10,6 +10,7 @@ ghost use Rattle.si_arena.specs.Texts.{text_of};
 ghost use Rattle.si_ops.specs.Runs.{Runs, Tells};
 ghost use Rattle.si_ops.specs.Operands.{IsNoInteger, text_made, NeedsNone, IsTold};
 
+use crate::bytes::{byte_copies, joined_bytes};
 use crate::operand::Operand;
 use crate::truth::{int_of_truth, is_true};
 use si_arena::{Arena, Cause, Fault, Ref};
@@ -27,6 +28,7 @@ pub fn unary(arena: &Arena, operator: UnaryOperator, value: Ref) -> Result<Ref, 
         Operand::Integer(n) => of_integer(operator, n),
         Operand::Truth(truth) => of_truth(operator, truth),
         Operand::Text => of_other(arena, operator, value),
+        Operand::Bytes => of_other(arena, operator, value),
         Operand::Other => of_other(arena, operator, value),
     }
 }
@@ -78,7 +80,8 @@ fn of_other(arena: &Arena, operator: UnaryOperator, value: Ref) -> Result<Ref, C
 }
 
 /// An operator between two values (Python Language Reference 3.14, 6.5 and 6.7 to 6.9). It takes no memory where it
-/// makes no str, nor where it makes one of at most 14 characters of operands that have no wide one.
+/// makes neither a str nor bytes, nor where it makes at most 14 characters of operands that have no wide one, or at most
+/// 14 bytes.
 #[inline(always)]
 pub fn binary(
     arena: &mut Arena,
@@ -166,6 +169,13 @@ fn operands(
         (Operand::Text, Operand::Truth(b)) => copies(arena, operator, left, int_of_truth(b)),
         (Operand::Integer(n), Operand::Text) => copies(arena, operator, right, n),
         (Operand::Truth(b), Operand::Text) => copies(arena, operator, right, int_of_truth(b)),
+        (Operand::Bytes, Operand::Bytes) => joined_bytes(arena, operator, left, right),
+        (Operand::Bytes, Operand::Integer(n)) => byte_copies(arena, operator, left, n),
+        (Operand::Bytes, Operand::Truth(b)) => byte_copies(arena, operator, left, int_of_truth(b)),
+        (Operand::Integer(n), Operand::Bytes) => byte_copies(arena, operator, right, n),
+        (Operand::Truth(b), Operand::Bytes) => byte_copies(arena, operator, right, int_of_truth(b)),
+        (Operand::Text, Operand::Bytes) => Err(Fault::Raises(Cause::WrongType)),
+        (Operand::Bytes, Operand::Text) => Err(Fault::Raises(Cause::WrongType)),
         (Operand::Other, _) => Err(Fault::Raises(Cause::WrongType)),
         (_, Operand::Other) => Err(Fault::Raises(Cause::WrongType)),
     }

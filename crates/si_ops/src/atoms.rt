@@ -8,7 +8,7 @@ ghost use Rattle.si_arena.specs.Views.{value_in};
 ghost use Rattle.si_ops.specs.Writing.{Adds, Lacks, step_bytes, plain_str};
 
 use crate::pieces::{put, put_characters, put_int, put_within};
-use crate::quoted::put_quoted;
+use crate::quoted::{put_bytes, put_quoted};
 use si_arena::{BuiltIn, View};
 use si_plain::{Kind, NoMemory, Text};
 
@@ -23,6 +23,7 @@ pub fn put_view(out: &mut String, view: View) -> Result<(), NoMemory>
         View::Truth(false) => put(out, "False"),
         View::Int(n) => put_int(out, n),
         View::Str(characters) => put_quoted(out, characters),
+        View::Bytes(bytes) => put_bytes(out, bytes),
         View::BuiltIn(function) => put_built_in(out, function),
         View::Function(_, name) => put_function(out, name),
         View::Range(steps) => put_range(out, steps.start, steps.stop, steps.step),
@@ -67,6 +68,7 @@ pub fn built_in_name(function: BuiltIn) -> &'static str
         BuiltIn::Chr => "chr",
         BuiltIn::Min => "min",
         BuiltIn::Max => "max",
+        BuiltIn::Bytes => "bytes",
     }
 }
 

@@ -9,6 +9,7 @@ ghost use Rattle.si_arena.specs.Memory.{built_in_of, value_of, all_of, Lies, All
 ghost use Rattle.si_ops.specs.Runs.{Throws, Runs};
 ghost use Rattle.si_ops.specs.Calls.{Makes, Calls, Spans, call_of, NeedsNone, IsSaid};
 
+use crate::bytes::call_bytes;
 use crate::line::push_line;
 use crate::operand::integer_in;
 use crate::provided::{
@@ -32,7 +33,7 @@ pub enum Called {
 /// which makes one. What `print` prints is added to `line`, where a `str` is also written before it is placed.
 /// `NotCallable` for any other value, `WrongArguments`, `WrongType`, `Arithmetic`, `TooDeep` and `TooLong` as the
 /// definition raises them. Where nothing is given, the arena and the text of `line` are as before. Memory is asked for
-/// neither by `print`, where the line has room, nor by what makes neither a str nor a range nor an exception, nor where
+/// neither by `print`, where the line has room, nor by what makes no str, no bytes, no range and no exception, nor where
 /// the value can't be called.
 pub fn call(
     arena: &mut Arena,
@@ -105,6 +106,10 @@ fn call_built_in(
         }
         BuiltIn::Min => told(call_min(arena, arguments)),
         BuiltIn::Max => told(call_max(arena, arguments)),
+        BuiltIn::Bytes => {
+            let bytes = call_bytes(arena, arguments)?;
+            Ok(Called::Value(bytes))
+        }
     }
 }
 

@@ -12,7 +12,7 @@ use crate::characters::{are_same, is_before};
 use crate::membership::contains;
 use crate::ranges::is_same_range;
 use crate::truth::int_of_truth;
-use si_arena::{Arena, BuiltIn, Cause, Ref, View};
+use si_arena::{Arena, BuiltIn, Cause, Characters, Ref, View};
 use si_plain::ComparisonOperator;
 
 /// A comparison of two values (Python Language Reference 3.14, 6.10). It takes no memory.
@@ -111,6 +111,9 @@ fn is_less(x: View, y: View) -> Option<bool>
         (View::Truth(a), View::Int(b)) => Some(int_of_truth(a) < b),
         (View::Truth(a), View::Truth(b)) => Some(int_of_truth(a) < int_of_truth(b)),
         (View::Str(a), View::Str(b)) => Some(is_before(a, b)),
+        (View::Bytes(a), View::Bytes(b)) => {
+            Some(is_before(Characters::Narrow(a), Characters::Narrow(b)))
+        }
         _ => None,
     }
 }
@@ -125,6 +128,9 @@ fn are_equal(x: View, y: View) -> Option<bool>
         (View::Truth(a), View::Int(b)) => Some(int_of_truth(a) == b),
         (View::Truth(a), View::Truth(b)) => Some(a == b),
         (View::Str(a), View::Str(b)) => Some(are_same(a, b)),
+        (View::Bytes(a), View::Bytes(b)) => {
+            Some(are_same(Characters::Narrow(a), Characters::Narrow(b)))
+        }
         (View::None, View::None) => Some(true),
         (View::BuiltIn(a), View::BuiltIn(b)) => Some(is_same_built_in(a, b)),
         (View::Function(_, _), View::Function(_, _)) => None,
@@ -152,6 +158,7 @@ fn is_same_built_in(x: BuiltIn, y: BuiltIn) -> bool
         (BuiltIn::Chr, BuiltIn::Chr) => true,
         (BuiltIn::Min, BuiltIn::Min) => true,
         (BuiltIn::Max, BuiltIn::Max) => true,
+        (BuiltIn::Bytes, BuiltIn::Bytes) => true,
         _ => false,
     }
 }

@@ -80,7 +80,7 @@ fn is_spelled(name: &str, word: &str) -> bool
 }
 
 // The built-ins that are no kinds (Python Standard Library 3.14, "Built-in Functions").
-fn built_ins() -> [BuiltIn; 12]
+fn built_ins() -> [BuiltIn; 13]
     ensures { map built_in_of result ≡ operations.built_ins }
 {
     [
@@ -96,6 +96,7 @@ fn built_ins() -> [BuiltIn; 12]
         BuiltIn::Chr,
         BuiltIn::Min,
         BuiltIn::Max,
+        BuiltIn::Bytes,
     ]
 }
 

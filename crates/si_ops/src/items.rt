@@ -19,6 +19,8 @@ pub enum Items {
     Numbers { at: i64, stop: i64, step: i64 },
     /// The characters of a str that has so many, of which so many were given.
     Characters { text: Ref, given: u32, length: u32 },
+    /// Bytes, each as an integer, of which so many were given.
+    Octets { bytes: Ref, given: usize },
     /// Nothing.
     NoMore,
 }
@@ -44,6 +46,10 @@ impl Items {
                 given: 0,
                 length: length_in(value),
             }),
+            View::Bytes(_) => Some(Items::Octets {
+                bytes: value,
+                given: 0,
+            }),
             _ => None,
         }
     }
@@ -61,6 +67,7 @@ impl Items {
                 given,
                 length,
             } => next_character(arena, text, given, length),
+            Items::Octets { bytes, given } => next_octet(arena, bytes, given),
             Items::NoMore => None,
         }
     }
@@ -112,4 +119,18 @@ fn next_character(arena: &Arena, text: Ref, given: u32, length: u32) -> Option<(
         length,
     };
     Some((character, rest))
+}
+
+// The next of bytes, as an integer, and what is left.
+fn next_octet(arena: &Arena, bytes: Ref, given: usize) -> Option<(Ref, Items)>
+    requires { ItemsLie arena.now (item.Octets bytes given) }
+    ensures { GivesNext arena.now (item.Octets bytes given) result }
+{
+    let all = arena.bytes(&bytes);
+    if given >= all.len() {
+        return None;
+    }
+    let octet = Ref::Int(i64::from(all[given]));
+    let given = given + 1;
+    Some((octet, Items::Octets { bytes, given }))
 }

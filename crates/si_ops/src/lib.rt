@@ -11,11 +11,13 @@
 // value), `comparison`, `subscripts` (`E[i]`), `items` (what a `for` goes over), `exceptions` (which clause catches what, and what `raise` raises),
 // `pieces`, `quoted`, `atoms` and `messages` (the parts of what is written), `shown` (`str` and `repr`), `line` (what
 // `print` writes), `first` (the names that are there from the first), `numerals` (the integers that texts write),
-// `provided` (the built-ins that give a value) and `calls` (of what is there from the first).
+// `provided` (the built-ins that give a value), `bytes` (bytes joined, repeated and made) and `calls` (of what is there
+// from the first).
 #![tactic(auto)]
 
 mod arithmetic;
 mod atoms;
+mod bytes;
 mod calls;
 mod characters;
 mod comparison;

@@ -17,7 +17,8 @@ pub enum Operand {
     Truth(bool),
     /// A str.
     Text,
-    /// Of a kind that no operator on integers or on texts takes.
+    Bytes,
+    /// Of a kind that no operator on integers, on texts or on bytes takes.
     Other,
 }
 
@@ -32,6 +33,7 @@ impl Operand {
             View::Truth(truth) => Operand::Truth(truth),
             View::Int(n) => Operand::Integer(n),
             View::Str(_) => Operand::Text,
+            View::Bytes(_) => Operand::Bytes,
             View::BuiltIn(_) => Operand::Other,
             View::Function(_, _) => Operand::Other,
             View::Range(_) => Operand::Other,
@@ -52,6 +54,7 @@ pub fn integer_in(arena: &Arena, value: Ref) -> Result<i64, Cause>
         View::Truth(truth) => Ok(int_of_truth(truth)),
         View::Int(n) => Ok(n),
         View::Str(_) => Err(Cause::WrongType),
+        View::Bytes(_) => Err(Cause::WrongType),
         View::BuiltIn(_) => Err(Cause::WrongType),
         View::Function(_, _) => Err(Cause::WrongType),
         View::Range(_) => Err(Cause::WrongType),

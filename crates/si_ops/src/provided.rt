@@ -30,13 +30,14 @@ pub fn call_len(arena: &Arena, arguments: &[Ref]) -> Result<Ref, Cause>
     }
 }
 
-// How many characters or items a value has.
+// How many characters, bytes or items a value has.
 fn length_in(arena: &Arena, value: Ref) -> Result<Ref, Cause>
     requires { Lies arena.now value }
     ensures { Tells (λ w. operations.length_of (value_of arena.now value) w) arena.now result }
 {
     match arena.view(&value) {
         View::Str(text) => Ok(Ref::Int(length_of(text) as i64)),
+        View::Bytes(bytes) => Ok(Ref::Int(bytes.len() as i64)),
         View::Range(steps) => integer(with_sign(items_in(steps), false)),
         _ => Err(Cause::WrongType),
     }

@@ -1,12 +1,12 @@
-// How a text is written as a literal of a script.
+// How a text and bytes are written as literals of a script.
 
-ghost use Rattle.std.specs.Prelude.{◌≡◌, ◌∷◌, [], ◌==◌, ◌<◌, OnOk, OnErr, encode_utf8_all, flat_map};
+ghost use Rattle.std.specs.Prelude.{codes, ◌++◌, ◌≡◌, ◌∷◌, [], ◌==◌, ◌<◌, OnOk, OnErr, encode_utf8_all, flat_map};
 ghost use Rattle.std.specs.List.{list_any};
 ghost use Rattle.std.specs.Char.{digit_char};
 ghost use Rattle.si_plain.specs.Characters.{characters_of};
-ghost use Rattle.si_plain.specs.Repr.{quote_of, escaped, hex_escape, repr_of};
+ghost use Rattle.si_plain.specs.Repr.{quote_of, escaped, escaped_byte, hex_escape, repr_of, bytes_repr_of};
 ghost use Rattle.si_arena.specs.Texts.{characters_in};
-ghost use Rattle.si_ops.specs.Writing.{Adds, Lacks};
+ghost use Rattle.si_ops.specs.Writing.{Adds, Lacks, bytes_between};
 
 use crate::pieces::{put, put_char};
 use si_arena::Characters;
@@ -98,6 +98,59 @@ fn put_wide_escaped(out: &mut String, quote: char, characters: &[char]) -> Resul
         put_escaped(out, quote, *c)?;
     }
     Ok(())
+}
+
+// Adds the `repr` of bytes: `b` and the same.
+pub fn put_bytes(out: &mut String, bytes: &[u8]) -> Result<(), NoMemory>
+    ensures ok { OnOk result (Adds (encode_utf8_all (bytes_repr_of bytes.now)) out.old out.new) }
+    ensures err { OnErr result (Lacks (encode_utf8_all (bytes_repr_of bytes.now)) out.old out.new) }
+{
+    put_prefixed(out, bytes)
+}
+
+// Adds `b` and bytes between quotes.
+fn put_prefixed(out: &mut String, bytes: &[u8]) -> Result<(), NoMemory>
+    ensures ok { OnOk result (Adds (codes "b" ++ encode_utf8_all (bytes_between (quote_of bytes.now) bytes.now)) out.old out.new) }
+    ensures err { OnErr result (Lacks (codes "b" ++ encode_utf8_all (bytes_between (quote_of bytes.now) bytes.now)) out.old out.new) }
+{
+    put(out, "b")?;
+    put_bytes_quoted(out, bytes)
+}
+
+// Adds bytes between quotes.
+fn put_bytes_quoted(out: &mut String, bytes: &[u8]) -> Result<(), NoMemory>
+    ensures ok { OnOk result (Adds (encode_utf8_all (bytes_between (quote_of bytes.now) bytes.now)) out.old out.new) }
+    ensures err { OnErr result (Lacks (encode_utf8_all (bytes_between (quote_of bytes.now) bytes.now)) out.old out.new) }
+{
+    let quote = narrow_quote(bytes);
+    put_char(out, quote)?;
+    put_bytes_escaped(out, quote, bytes)?;
+    put_char(out, quote)?;
+    Ok(())
+}
+
+// Adds bytes, as they stand between quotes.
+fn put_bytes_escaped(out: &mut String, quote: char, bytes: &[u8]) -> Result<(), NoMemory>
+    ensures ok { OnOk result (Adds (encode_utf8_all (flat_map (escaped_byte quote) bytes.now)) out.old out.new) }
+    ensures err { OnErr result (Lacks (encode_utf8_all (flat_map (escaped_byte quote) bytes.now)) out.old out.new) }
+{
+    for b in bytes {
+        put_escaped_byte(out, quote, *b)?;
+    }
+    Ok(())
+}
+
+// Adds a byte, as it stands between quotes.
+#[tactic(auto, unfolding(si_plain::specs::Repr::escaped_byte))]
+fn put_escaped_byte(out: &mut String, quote: char, b: u8) -> Result<(), NoMemory>
+    ensures ok { OnOk result (Adds (encode_utf8_all (escaped_byte quote b)) out.old out.new) }
+    ensures err { OnErr result (Lacks (encode_utf8_all (escaped_byte quote b)) out.old out.new) }
+{
+    if b < 128 {
+        put_escaped(out, quote, char::from(b))
+    } else {
+        put_hex(out, b)
+    }
 }
 
 // Adds a text, as it stands between quotes.

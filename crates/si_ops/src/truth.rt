@@ -7,7 +7,7 @@ ghost use Rattle.si_semantics.specs.Operations as operations;
 ghost use Rattle.si_arena.specs.Memory.{value_of, Lies};
 ghost use Rattle.si_arena.specs.Views.{value_in};
 ghost use Rattle.si_arena.specs.Texts.{characters_in};
-ghost use Rattle.si_semantics.specs.Value.{Str};
+ghost use Rattle.si_semantics.specs.Value.{Str, Bytes};
 
 use crate::ranges::is_item;
 use si_arena::{Arena, Characters, Ref, View};
@@ -56,12 +56,20 @@ fn is_shown_true(view: View) -> bool
         View::Truth(truth) => truth,
         View::Int(n) => n != 0,
         View::Str(text) => has_characters(text),
+        View::Bytes(bytes) => has_bytes(bytes),
         View::BuiltIn(_) => true,
         View::Function(_, _) => true,
         View::Range(steps) => is_item(steps.start, steps.stop, steps.step),
         View::Kind(_) => true,
         View::Object(_) => true,
     }
+}
+
+// Whether there are bytes.
+fn has_bytes(bytes: &[u8]) -> bool
+    ensures { (w : World) → result ≡ operations.is_true (Bytes bytes.now) w }
+{
+    !bytes.is_empty()
 }
 
 // Whether a text has characters.

@@ -3,7 +3,7 @@ use Rattle.std.proofs.Common.{◌≡◌, ℕ, zero, suc, ◌+◌, ◌-◌, ◌<�
 use Rattle.std.specs.Prelude.{nat_lt, not, ◌&&◌, if◌then◌else◌}
 use Rattle.std.proofs.lemmas.Bool.Decides.{nat_tests}
 use Rattle.std.proofs.lemmas.List.{append-nil}
-use Rattle.si_semantics.specs.Value.{Nothing, Truth, Int, Str, Provided, Function, Range, Class, Address}
+use Rattle.si_semantics.specs.Value.{Nothing, Truth, Int, Str, Bytes, Provided, Function, Range, Class, Address}
 use Rattle.si_semantics.specs.Tree.{BinaryOperator, UnaryOperator, ComparisonOperator, BooleanOperator, Expr}
 use Rattle.si_semantics.specs.Tree as tree
 use Rattle.si_semantics.specs.Tokens.{Symbol, Keyword}
@@ -447,6 +447,7 @@ module _ (n : ℕ) (sub : Parser) (complete : IsComplete n sub) where
     reached (suc m) le level (tree.Constant (Truth false)) front rest (inl h) weak plain at =
         moved (suc m) (tree.Constant (Truth false)) (Word token.FalseWord ∷ []) front rest h (starts (suc m) (tree.Constant (Truth false)) (Word token.FalseWord ∷ []) rest 1 (omega arith) (omega arith) refl)
     reached (suc m) le level (tree.Constant (Provided b)) front rest (inl h) weak plain at = absurd h
+    reached (suc m) le level (tree.Constant (Bytes bs)) front rest (inl h) weak plain at = absurd h
     reached (suc m) le level (tree.Unary op a) front rest (inl h) weak plain at =
         moved (suc m) (tree.Unary op a) (prefix_of op ∷ h.0) front rest h.1 (unary_reached m (omega arith) level op a h.0 rest h.2 h.3 weak plain at)
     reached (suc m) le level (tree.Binary op a b) front rest (inl h) weak plain at =

@@ -1,7 +1,7 @@
 -- Laws of the grammar: a limit may be raised, and a looser level asked.
 use Rattle.std.proofs.Common.{◌≡◌, ℕ, zero, suc, ◌+◌, ◌≤◌, List, [], ◌∷◌, ◌++◌, inl, inr, Option, Some, None, refl, sym, ap, ◌∙◌, subst, arith, add-one}
 use Rattle.std.specs.Prelude.{option_map}
-use Rattle.si_semantics.specs.Value.{Nothing, Truth, Int, Str, Provided, Function, Range, Class, Address}
+use Rattle.si_semantics.specs.Value.{Nothing, Truth, Int, Str, Bytes, Provided, Function, Range, Class, Address}
 use Rattle.si_semantics.specs.Tree.{UnaryOperator, ComparisonOperator, BooleanOperator, Expr, Exprs, Comparisons}
 use Rattle.si_semantics.specs.Tree as tree
 use Rattle.si_semantics.specs.Tokens.{Symbol, Keyword}
@@ -50,6 +50,7 @@ produces_mono E F w l (tree.Constant (Str s)) ts h = h
 produces_mono E F w l (tree.Constant Nothing) ts h = h
 produces_mono E F w l (tree.Constant (Truth b)) ts h = h
 produces_mono E F w l (tree.Constant (Provided b)) ts h = h
+produces_mono E F w l (tree.Constant (Bytes bs)) ts h = h
 produces_mono E F w l (tree.Unary op a) ts h = (h.0, h.1, h.2, w (prefix_level op) a h.0 h.3)
 produces_mono E F w l (tree.Binary op a b) ts h = (h.0, h.1, h.2, h.3, w _ a h.0 h.4, w _ b h.1 h.5)
 produces_mono E F w l (tree.Constant (Function x k)) ts h = h
@@ -77,6 +78,7 @@ produces_looser E k l (tree.Constant (Str s)) ts le h = h
 produces_looser E k l (tree.Constant Nothing) ts le h = h
 produces_looser E k l (tree.Constant (Truth b)) ts le h = h
 produces_looser E k l (tree.Constant (Provided b)) ts le h = h
+produces_looser E k l (tree.Constant (Bytes bs)) ts le h = h
 produces_looser E k l (tree.Unary op a) ts le h = (h.0, h.1, omega (arith, h.2), h.3)
 produces_looser E k l (tree.Binary op a b) ts le h = (h.0, h.1, h.2, omega (arith, h.3), h.4, h.5)
 produces_looser E k l (tree.Constant (Function x i)) ts le h = h

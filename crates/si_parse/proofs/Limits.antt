@@ -1,13 +1,13 @@
 -- A tree that is derived is within the limits.
 use Rattle.std.proofs.Common.{◌≡◌, ℕ, zero, suc, ◌+◌, ◌≤◌, List, [], ◌∷◌, ◌++◌, Bool, true, false, inl, inr, map, Option, Some, None, refl, sym, ap, ◌∙◌, subst, arith}
 use Rattle.std.specs.Prelude.{flat_map, if◌then◌else◌}
-use Rattle.si_semantics.specs.Value.{Text, Nothing, Truth, Int, Str, Provided, Function, Range, Class, Address}
+use Rattle.si_semantics.specs.Value.{Text, Nothing, Truth, Int, Str, Bytes, Provided, Function, Range, Class, Address}
 use Rattle.si_semantics.specs.Tree as tree
 use Rattle.si_semantics.specs.Tree.{BooleanOperator, Expr, Exprs, Comparisons, Stmt, Stmts, Clauses}
 use Rattle.si_semantics.specs.Tokens as token
 use Rattle.si_semantics.specs.Text.{max_length}
 use Rattle.si_semantics.specs.Grammar.{Terminal, Word, left_level, right_level, prefix_level, item_level, word_of, Many, Behind, Following, Separated, Argument, Positional, ByName, Passes, IsPassed, items_of, exprs_of, links_of, Compares, Spells, max_depth, max_parameters, Small, Simple, stmts_of, Lines, Suite, Branch, Tested, Otherwise, elifs_of, clause_list, Excepts, Handlers, Compound, Nests, max_nesting, Derives}
-use Rattle.si_semantics.specs.Limits.{depth_of, depth_of_all, depth_of_chain, longest_str, longest_str_of_all, longest_str_of_chain, greatest_of, greatest_in, greatest_in_clauses, most_parameters_of, most_parameters_in, most_parameters_in_clauses, is_elif, nesting_of, nesting_in, nesting_in_clauses, IsWithinLimits}
+use Rattle.si_semantics.specs.Limits.{depth_of, depth_of_all, depth_of_chain, longest_literal, longest_literal_of_all, longest_literal_of_chain, greatest_of, greatest_in, greatest_in_clauses, most_parameters_of, most_parameters_in, most_parameters_in_clauses, is_elif, nesting_of, nesting_in, nesting_in_clauses, IsWithinLimits}
 use Rattle.si_parse.proofs.Laws.{exprs_of_items}
 
 -- ---- expressions
@@ -15,15 +15,15 @@ use Rattle.si_parse.proofs.Laws.{exprs_of_items}
 -- an expression is no deeper than this, and its str literals are within the limit
 record IsLow (n : ℕ) (e : Expr) : Type 0 where
   depth : depth_of e ≤ n
-  literals : longest_str e ≤ max_length
+  literals : longest_literal e ≤ max_length
 
 record AreLow (n : ℕ) (es : Exprs) : Type 0 where
   depth : depth_of_all es ≤ n
-  literals : longest_str_of_all es ≤ max_length
+  literals : longest_literal_of_all es ≤ max_length
 
 record ChainIsLow (n : ℕ) (cs : Comparisons) : Type 0 where
   depth : depth_of_chain cs ≤ n
-  literals : longest_str_of_chain cs ≤ max_length
+  literals : longest_literal_of_chain cs ≤ max_length
 
 abbrev Bounded : ℕ → Type 0
 Bounded n = (l : ℕ) (e : Expr) (f : List Terminal) → Spells n l e f → IsLow n e
@@ -75,7 +75,7 @@ operands_bounded : (n : ℕ) → Bounded n → (op : BooleanOperator) (es : Expr
 operands_bounded n b op tree.NoExprs g h = none_low n
 operands_bounded n b op (tree.MoreExprs e es) g h = more_low n e es (b (item_level op) e h.3.0 h.3.2) (operands_bounded n b op es h.1 h.4)
 
-leaf_low : (n : ℕ) (e : Expr) → depth_of e ≡ 1 → longest_str e ≡ 0 → IsLow (suc n) e
+leaf_low : (n : ℕ) (e : Expr) → depth_of e ≡ 1 → longest_literal e ≡ 0 → IsLow (suc n) e
 leaf_low n e h k = record { depth = omega (arith, h); literals = omega (arith, k) }
 
 bounded : (n : ℕ) → Bounded n
@@ -87,6 +87,7 @@ bounded (suc n) l (tree.Constant (Int i)) f (inl h) = leaf_low n (tree.Constant 
 bounded (suc n) l (tree.Constant Nothing) f (inl h) = leaf_low n (tree.Constant Nothing) refl refl
 bounded (suc n) l (tree.Constant (Truth b)) f (inl h) = leaf_low n (tree.Constant (Truth b)) refl refl
 bounded (suc n) l (tree.Constant (Provided b)) f (inl h) = absurd h
+bounded (suc n) l (tree.Constant (Bytes bs)) f (inl h) = absurd h
 bounded (suc n) l (tree.Constant (Function x k)) f (inl h) = absurd h
 bounded (suc n) l (tree.Constant (Range a b c)) f (inl h) = absurd h
 bounded (suc n) l (tree.Constant (Class k)) f (inl h) = absurd h
@@ -118,26 +119,26 @@ bounded (suc n) l (tree.Conditional test value other) f (inl h) =
 -- a statement is within the limits, and nested this deep at most
 record Keeps (n : ℕ) (s : Stmt) : Type 0 where
   depth : greatest_of depth_of s ≤ max_depth
-  literals : greatest_of longest_str s ≤ max_length
+  literals : greatest_of longest_literal s ≤ max_length
   parameters : most_parameters_of s ≤ max_parameters
   nesting : nesting_of s ≤ n
 
 record AllKeep (n : ℕ) (body : Stmts) : Type 0 where
   depth : greatest_in depth_of body ≤ max_depth
-  literals : greatest_in longest_str body ≤ max_length
+  literals : greatest_in longest_literal body ≤ max_length
   parameters : most_parameters_in body ≤ max_parameters
   nesting : nesting_in body ≤ n
 
 record ClausesKeep (n : ℕ) (cs : Clauses) : Type 0 where
   depth : greatest_in_clauses depth_of cs ≤ max_depth
-  literals : greatest_in_clauses longest_str cs ≤ max_length
+  literals : greatest_in_clauses longest_literal cs ≤ max_length
   parameters : most_parameters_in_clauses cs ≤ max_parameters
   nesting : nesting_in_clauses cs ≤ n
 
 -- the same of the else suite of an `if`, which is nested as deep as that
 record OtherKeeps (n : ℕ) (other : Stmts) : Type 0 where
   depth : greatest_in depth_of other ≤ max_depth
-  literals : greatest_in longest_str other ≤ max_length
+  literals : greatest_in longest_literal other ≤ max_length
   parameters : most_parameters_in other ≤ max_parameters
   nesting : nesting_in other + (if is_elif other then 0 else 1) ≤ suc n
 
@@ -177,7 +178,7 @@ both_keep n (x ∷ xs) ys g h =
 
 -- a statement of this expression alone
 of_expression : (n : ℕ) (s : Stmt) (e : Expr)
-    → greatest_of depth_of s ≡ depth_of e → greatest_of longest_str s ≡ longest_str e → most_parameters_of s ≡ 0 → nesting_of s ≡ 0 → IsLow max_depth e → Keeps n s
+    → greatest_of depth_of s ≡ depth_of e → greatest_of longest_literal s ≡ longest_literal e → most_parameters_of s ≡ 0 → nesting_of s ≡ 0 → IsLow max_depth e → Keeps n s
 of_expression n s e d t p k h = record {
   depth = omega (arith, d, h.depth);
   literals = omega (arith, t, h.literals);
@@ -186,7 +187,7 @@ of_expression n s e d t p k h = record {
 }
 
 -- a statement of no expression
-of_none : (n : ℕ) (s : Stmt) → greatest_of depth_of s ≡ 0 → greatest_of longest_str s ≡ 0 → most_parameters_of s ≡ 0 → nesting_of s ≡ 0 → Keeps n s
+of_none : (n : ℕ) (s : Stmt) → greatest_of depth_of s ≡ 0 → greatest_of longest_literal s ≡ 0 → most_parameters_of s ≡ 0 → nesting_of s ≡ 0 → Keeps n s
 of_none n s d t p k = record { depth = omega (arith, d); literals = omega (arith, t); parameters = omega (arith, p); nesting = omega (arith, k) }
 
 small_keeps : (n : ℕ) (s : Stmt) (f : List Terminal) → Small s f → Keeps n s
@@ -234,7 +235,7 @@ looped_keeps : (n : ℕ) (s : Stmt) (e : Expr) (body other : Stmts)
     → IsLow max_depth e → AllKeep n body → AllKeep n other → Keeps (suc n) s
 looped_keeps n s e body other m p k t b o = record {
   depth = omega (arith, m depth_of, t.depth, b.depth, o.depth);
-  literals = omega (arith, m longest_str, t.literals, b.literals, o.literals);
+  literals = omega (arith, m longest_literal, t.literals, b.literals, o.literals);
   parameters = omega (arith, p, b.parameters, o.parameters);
   nesting = omega (arith, k, b.nesting, o.nesting);
 }

@@ -1,6 +1,6 @@
 -- How an expression begins: with a terminal of its own kind, and at least one.
 use Rattle.std.proofs.Common.{◌≡◌, ℕ, zero, suc, ◌<◌, ◌≤◌, List, [], ◌∷◌, ◌++◌, inl, inr, length, Bool, None, true, false, refl, sym, ap, ◌∙◌, subst, arith, append_assoc, length-append}
-use Rattle.si_semantics.specs.Value.{Nothing, Truth, Int, Str, Provided, Function, Range, Class, Address}
+use Rattle.si_semantics.specs.Value.{Nothing, Truth, Int, Str, Bytes, Provided, Function, Range, Class, Address}
 use Rattle.si_semantics.specs.Tree.{UnaryOperator, Expr}
 use Rattle.si_semantics.specs.Tree as tree
 use Rattle.si_semantics.specs.Tokens.{Keyword}
@@ -51,6 +51,7 @@ expression_begins (suc m) l (tree.Constant (Str s)) f (inl h) x = begins_strings
 expression_begins (suc m) l (tree.Constant Nothing) f (inl h) x = ap (λ t. begins (t ++ x)) h
 expression_begins (suc m) l (tree.Constant (Truth b)) f (inl h) x = ap (λ t. begins (t ++ x)) h ∙ begins_truth b
 expression_begins (suc m) l (tree.Constant (Provided b)) f (inl h) x = absurd h
+expression_begins (suc m) l (tree.Constant (Bytes bs)) f (inl h) x = absurd h
 expression_begins (suc m) l (tree.Unary op a) f (inl h) x = ap (λ t. begins (t ++ x)) h.1 ∙ begins_prefix op
 expression_begins (suc m) l (tree.Binary op a b) f (inl h) x =
     ap (λ t. begins (t ++ x)) h.2 ∙ ap begins (append_assoc h.0 (Sign (symbol_of op) ∷ h.1) x) ∙ expression_begins m (left_level op) a h.0 h.4 (Sign (symbol_of op) ∷ (h.1 ++ x))
@@ -217,6 +218,7 @@ singleton (suc m) (tree.Constant (Str s)) w (inl h) = absurd h.2
 singleton (suc m) (tree.Constant Nothing) w (inl h) = spelled_none w h
 singleton (suc m) (tree.Constant (Truth b)) w (inl h) = spelled_truth b w h
 singleton (suc m) (tree.Constant (Provided b)) w (inl h) = absurd h
+singleton (suc m) (tree.Constant (Bytes bs)) w (inl h) = absurd h
 singleton (suc m) (tree.Unary op a) w (inl h) = absurd (no_prefix op w h.0 h.2 h.1)
 singleton (suc m) (tree.Binary op a b) w (inl h) =
     absurd (omega (arith, ap length h.2, length-append h.0 (Sign (symbol_of op) ∷ h.1), some_terminals m (left_level op) a h.0 h.4))

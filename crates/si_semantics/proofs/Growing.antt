@@ -2,7 +2,7 @@
 use Rattle.std.proofs.Common.{◌≡◌, ℕ, zero, suc, ◌+◌, ◌≤◌, List, [], ◌∷◌, ◌++◌, length, Bool, true, false, Option, Some, None, refl, sym, ap, ◌∙◌, subst, arith, append_assoc, length-append}
 use Rattle.std.specs.Prelude.{nat_eq, slice_get}
 use Rattle.std.proofs.lemmas.List.{append-nil}
-use Rattle.si_semantics.specs.Value.{Text, Value, Nothing, Truth, Int, Str, Provided, Function, Range, Class, Address}
+use Rattle.si_semantics.specs.Value.{Text, Value, Nothing, Truth, Int, Str, Bytes, Provided, Function, Range, Class, Address}
 use Rattle.si_semantics.specs.Tree.{BooleanOperator, Expr, Exprs, Comparisons, Stmt, Stmts, Clauses, functions_of, functions_in, functions_in_clauses}
 use Rattle.si_semantics.specs.Tree as tree
 use Rattle.si_semantics.specs.Scope.{place_of, locals_of}
@@ -99,6 +99,7 @@ calls_add e h Nothing vs [] s = ran_adds (call_provided Nothing vs s.world) s
 calls_add e h (Truth t) vs [] s = ran_adds (call_provided (Truth t) vs s.world) s
 calls_add e h (Int i) vs [] s = ran_adds (call_provided (Int i) vs s.world) s
 calls_add e h (Str t) vs [] s = ran_adds (call_provided (Str t) vs s.world) s
+calls_add e h (Bytes t) vs [] s = ran_adds (call_provided (Bytes t) vs s.world) s
 calls_add e h (Provided f) vs [] s = ran_adds (call_provided (Provided f) vs s.world) s
 calls_add e h (Range a b c) vs [] s = ran_adds (call_provided (Range a b c) vs s.world) s
 calls_add e h (Class k) vs [] s = ran_adds (call_provided (Class k) vs s.world) s
@@ -475,6 +476,7 @@ module _ (b : List Answer) (locals : List Text) (n m : ℕ) (fewer : n ≤ m) (c
   calls_further z i (Class k) vs [] s = ran_further b (call_provided (Class k) vs s.world) s
   calls_further z i (Address x) vs [] s = ran_further b (call_provided (Address x) vs s.world) s
   calls_further z i (Str t) vs [] s = ran_further b (call_provided (Str t) vs s.world) s
+  calls_further z i (Bytes t) vs [] s = ran_further b (call_provided (Bytes t) vs s.world) s
   calls_further z i (Provided f) vs [] s = ran_further b (call_provided (Provided f) vs s.world) s
   calls_further z i g vs (x ∷ names) s = ran_further b (call_by_name g s.world) s
 

@@ -6,6 +6,7 @@ pub mod WorkedFinally
 pub mod WorkedItems
 pub mod WorkedBuiltIns
 pub mod WorkedSequences
+pub mod WorkedBytes
 pub mod WorkedScope
 pub mod Names
 pub mod WorkedLiterals

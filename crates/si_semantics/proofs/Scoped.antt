@@ -1,7 +1,7 @@
 -- A well scoped text is left by exceptions alone.
 use Rattle.std.proofs.Common.{◌≡◌, ℕ, zero, suc, List, [], ◌∷◌, ◌++◌, length, Bool, true, false, ◌&&◌, Option, Some, None, refl, subst}
 use Rattle.std.specs.Prelude.{nat_eq, slice_get}
-use Rattle.si_semantics.specs.Value.{Text, Value, Nothing, Truth, Int, Str, Provided, Function, Range, Class, Address}
+use Rattle.si_semantics.specs.Value.{Text, Value, Nothing, Truth, Int, Str, Bytes, Provided, Function, Range, Class, Address}
 use Rattle.si_semantics.specs.Tree.{BooleanOperator, Expr, Exprs, Comparisons, Stmt, Stmts, Clauses, functions_of, functions_in, functions_in_clauses}
 use Rattle.si_semantics.specs.Tree as tree
 use Rattle.si_semantics.specs.World.{Request, Answer, Replied, Got, Failed, Wants, Ran, Gave, Threw, Asked}
@@ -98,6 +98,7 @@ calls_keep w e h Nothing vs [] s = ran_keeps w (call_provided Nothing vs s.world
 calls_keep w e h (Truth t) vs [] s = ran_keeps w (call_provided (Truth t) vs s.world) s
 calls_keep w e h (Int i) vs [] s = ran_keeps w (call_provided (Int i) vs s.world) s
 calls_keep w e h (Str t) vs [] s = ran_keeps w (call_provided (Str t) vs s.world) s
+calls_keep w e h (Bytes t) vs [] s = ran_keeps w (call_provided (Bytes t) vs s.world) s
 calls_keep w e h (Provided f) vs [] s = ran_keeps w (call_provided (Provided f) vs s.world) s
 calls_keep w e h (Range a b c) vs [] s = ran_keeps w (call_provided (Range a b c) vs s.world) s
 calls_keep w e h (Class k) vs [] s = ran_keeps w (call_provided (Class k) vs s.world) s

@@ -1,7 +1,7 @@
 -- The grammar: which tokens derive which tree (Python Language Reference 3.14, 6, 7, 8 and 10).
 -- Each rule stands in the line above its production, in the notation of the reference.
 use Rattle.std.specs.Prelude.{◌≡◌, ℕ, zero, suc, ◌<◌, ◌≤◌, Bool, true, false, List, [], ◌∷◌, ◌++◌, length, map, flat_map, ◌⊎◌, Option, Some, None}
-use Rattle.si_semantics.specs.Value.{Text, Nothing, Truth, Int, Str, Provided, Function, Range, Class, Address}
+use Rattle.si_semantics.specs.Value.{Text, Nothing, Truth, Int, Str, Bytes, Provided, Function, Range, Class, Address}
 use Rattle.si_semantics.specs.Tree.{BinaryOperator, UnaryOperator, ComparisonOperator, BooleanOperator, Expr, Exprs, Comparisons, Stmt, Target, Stmts, Clauses}
 use Rattle.si_semantics.specs.Tree as tree
 use Rattle.si_semantics.specs.Scope.{are_distinct}
@@ -274,6 +274,7 @@ Produces E l (tree.Constant (Int n)) ts = (digits : List ℕ) × (ts ≡ NUMBER 
 Produces E l (tree.Constant (Str s)) ts = (0 < length ts) × (length s ≤ max_length) × Strings s ts
 Produces E l (tree.Constant Nothing) ts = ts ≡ Word token.NoneWord ∷ []
 Produces E l (tree.Constant (Truth b)) ts = ts ≡ Word (truth_word b) ∷ []
+Produces E l (tree.Constant (Bytes bs)) ts = ⊥
 Produces E l (tree.Constant (Provided b)) ts = ⊥
 Produces E l (tree.Constant (Function x k)) ts = ⊥
 Produces E l (tree.Constant (Range a b c)) ts = ⊥

@@ -1,7 +1,7 @@
--- The limits that a tree keeps, which are this project's own: how deep its expressions are, how long its str literals, how many
+-- The limits that a tree keeps, which are this project's own: how deep its expressions are, how long its literals, how many
 -- parameters its functions have, and how deep its compound statements are nested. The grammar derives no tree past them.
 use Rattle.std.specs.Prelude.{ℕ, ◌+◌, ◌≤◌, max, Bool, true, false, length, Option, Some, None, if◌then◌else◌}
-use Rattle.si_semantics.specs.Value.{Str}
+use Rattle.si_semantics.specs.Value.{Str, Bytes}
 use Rattle.si_semantics.specs.Tree as tree
 use Rattle.si_semantics.specs.Tree.{Expr, Exprs, Comparisons, Stmt, Stmts, Clauses}
 use Rattle.si_semantics.specs.Text.{max_length}
@@ -30,27 +30,28 @@ abbrev mutual
   depth_of_chain tree.NoComparisons = 0
   depth_of_chain (tree.MoreComparisons o e cs) = max (depth_of e) (depth_of_chain cs)
 
--- how many characters the longest str literal of an expression has; 0 where there is none
+-- how many characters or bytes the longest literal of an expression has, of str or bytes; 0 where there is none
 abbrev mutual
-  pub longest_str : Expr → ℕ
-  longest_str (tree.Constant (Str s)) = length s
-  longest_str (tree.Constant _) = 0
-  longest_str (tree.Name x) = 0
-  longest_str (tree.Unary op a) = longest_str a
-  longest_str (tree.Binary op a b) = max (longest_str a) (longest_str b)
-  longest_str (tree.Call a args names) = max (longest_str a) (longest_str_of_all args)
-  longest_str (tree.Subscript a b) = max (longest_str a) (longest_str b)
-  longest_str (tree.Boolean o a more) = max (longest_str a) (longest_str_of_all more)
-  longest_str (tree.Compare a cs) = max (longest_str a) (longest_str_of_chain cs)
-  longest_str (tree.Conditional a b c) = max (longest_str a) (max (longest_str b) (longest_str c))
+  pub longest_literal : Expr → ℕ
+  longest_literal (tree.Constant (Str s)) = length s
+  longest_literal (tree.Constant (Bytes bs)) = length bs
+  longest_literal (tree.Constant _) = 0
+  longest_literal (tree.Name x) = 0
+  longest_literal (tree.Unary op a) = longest_literal a
+  longest_literal (tree.Binary op a b) = max (longest_literal a) (longest_literal b)
+  longest_literal (tree.Call a args names) = max (longest_literal a) (longest_literal_of_all args)
+  longest_literal (tree.Subscript a b) = max (longest_literal a) (longest_literal b)
+  longest_literal (tree.Boolean o a more) = max (longest_literal a) (longest_literal_of_all more)
+  longest_literal (tree.Compare a cs) = max (longest_literal a) (longest_literal_of_chain cs)
+  longest_literal (tree.Conditional a b c) = max (longest_literal a) (max (longest_literal b) (longest_literal c))
 
-  pub longest_str_of_all : Exprs → ℕ
-  longest_str_of_all tree.NoExprs = 0
-  longest_str_of_all (tree.MoreExprs e es) = max (longest_str e) (longest_str_of_all es)
+  pub longest_literal_of_all : Exprs → ℕ
+  longest_literal_of_all tree.NoExprs = 0
+  longest_literal_of_all (tree.MoreExprs e es) = max (longest_literal e) (longest_literal_of_all es)
 
-  pub longest_str_of_chain : Comparisons → ℕ
-  longest_str_of_chain tree.NoComparisons = 0
-  longest_str_of_chain (tree.MoreComparisons o e cs) = max (longest_str e) (longest_str_of_chain cs)
+  pub longest_literal_of_chain : Comparisons → ℕ
+  longest_literal_of_chain tree.NoComparisons = 0
+  longest_literal_of_chain (tree.MoreComparisons o e cs) = max (longest_literal e) (longest_literal_of_chain cs)
 
 -- ---- statements
 
@@ -133,6 +134,6 @@ abbrev mutual
 -- statements are within all limits
 pub record IsWithinLimits (body : Stmts) : Type 0 where
   pub depth : greatest_in depth_of body ≤ max_depth
-  pub literals : greatest_in longest_str body ≤ max_length
+  pub literals : greatest_in longest_literal body ≤ max_length
   pub parameters : most_parameters_in body ≤ max_parameters
   pub nesting : nesting_in body ≤ max_nesting

@@ -1,10 +1,10 @@
 -- What operations on values do (Python Language Reference 3.14, 6.5 to 6.10, 7.8, 8.3 and 8.4). They never see answers.
-use Rattle.std.specs.Prelude.{codes, ℕ, zero, suc, ◌+◌, ◌-◌, ◌*◌, ◌/◌, ◌%◌, ◌-ℤ◌, ℤ, pos, negsuc, unsigned_abs, int_lt, List, [], ◌∷◌, ◌++◌, length, Bool, true, false, not, ◌&&◌, ◌||◌, Option, Some, None, option_map, Result, Ok, Err, nat_lt, nat_eq, slice_get, if◌then◌else◌}
+use Rattle.std.specs.Prelude.{codes, ℕ, zero, suc, ◌+◌, ◌-◌, ◌*◌, ◌/◌, ◌%◌, ◌-ℤ◌, ◌+ℤ◌, ℤ, pos, negsuc, unsigned_abs, int_lt, List, [], ◌∷◌, ◌++◌, length, Bool, true, false, not, ◌&&◌, ◌||◌, Option, Some, None, option_map, Result, Ok, Err, nat_lt, nat_eq, slice_get, if◌then◌else◌}
 use Rattle.si_plain.specs.declared.kind.Kind.{Kind}
 use Rattle.si_plain.specs.declared.kind.Kind.TheVariants.{BaseException, Exception, ArithmeticError, OverflowError, ZeroDivisionError, AttributeError, LookupError, IndexError, KeyError, NameError, UnboundLocalError, RuntimeError, RecursionError, SyntaxError, TypeError, ValueError}
 use Rattle.si_plain.specs.Kinds.{name_of, same_kind, is_a}
 use Rattle.si_plain.specs.Integers.{in_range, sum_of, difference_of, product_of, floor_quotient, floor_remainder, power_result, negative_of, shifted_left, shifted_right, inverted, bits_and, bits_or, bits_xor}
-use Rattle.si_semantics.specs.Value.{Text, Value, Nothing, Truth, Int, Str, Provided, Function, Range, Class, Address, BuiltIn, Print, MakeRange, MakeStr, Repr, Len, MakeBool, Abs, MakeInt, Ord, Chr, Min, Max, Object}
+use Rattle.si_semantics.specs.Value.{Text, Value, Nothing, Truth, Int, Str, Bytes, Provided, Function, Range, Class, Address, BuiltIn, Print, MakeRange, MakeStr, Repr, Len, MakeBool, Abs, MakeInt, Ord, Chr, Min, Max, MakeBytes, Object}
 use Rattle.si_semantics.specs.Value as value
 use Rattle.si_semantics.specs.Tree as tree
 use Rattle.si_semantics.specs.Tree.{BinaryOperator, UnaryOperator, ComparisonOperator}
@@ -26,7 +26,7 @@ gave v w = Gave v None w
 abbrev pub refused : Kind → Text → World → Ran
 refused k message w = Threw k (Some (Str message)) w
 
--- past the most characters (this project's own)
+-- past the most characters or bytes (this project's own)
 abbrev pub too_long : World → Ran
 too_long w = refused OverflowError (codes "too long") w
 
@@ -42,6 +42,10 @@ refused_within k message w = if nat_lt max_length (length message) then too_long
 abbrev pub within : Text → World → Ran
 within s w = if nat_lt max_length (length s) then too_long w else gave (Str s) w
 
+-- bytes, where they are not too many (this project's own)
+abbrev pub bytes_within : List ℕ → World → Ran
+bytes_within bs w = if nat_lt max_length (length bs) then too_long w else gave (Bytes bs) w
+
 -- the message with which arithmetic refuses (this project's own)
 abbrev pub arithmetic_message : Kind → Text
 arithmetic_message ZeroDivisionError = codes "division by zero"
@@ -54,7 +58,7 @@ abbrev pub integer : Result ℤ Kind → World → Ran
 integer (Ok i) w = gave (Int i) w
 integer (Err k) w = refused k (arithmetic_message k) w
 
--- a text so many times
+-- a text, or bytes, so many times
 abbrev pub times : ℕ → Text → Text
 times zero s = []
 times (suc n) s = s ++ times n s
@@ -63,6 +67,11 @@ times (suc n) s = s ++ times n s
 abbrev pub repeated : Text → ℤ → World → Ran
 repeated s (pos n) w = elim (nat_lt max_length (n * length s)) [ true ↦ too_long w | false ↦ gave (Str (times n s)) w ]
 repeated s (negsuc n) w = gave (Str []) w
+
+-- bytes repeated, below 0 as 0 (Standard Library, "Built-in Types": common sequence operations)
+abbrev pub bytes_repeated : List ℕ → ℤ → World → Ran
+bytes_repeated bs (pos n) w = elim (nat_lt max_length (n * length bs)) [ true ↦ too_long w | false ↦ gave (Bytes (times n bs)) w ]
+bytes_repeated bs (negsuc n) w = gave (Bytes []) w
 
 -- an operator between integers (Language Reference, 6.5 and 6.7 to 6.9)
 abbrev pub operate_integers : BinaryOperator → ℤ → ℤ → Result ℤ Kind
@@ -106,6 +115,11 @@ operate tree.Multiply (Str s) (Int j) w = repeated s j w
 operate tree.Multiply (Str s) (Truth b) w = repeated s (int_of_truth b) w
 operate tree.Multiply (Int i) (Str t) w = repeated t i w
 operate tree.Multiply (Truth a) (Str t) w = repeated t (int_of_truth a) w
+operate tree.Add (Bytes s) (Bytes t) w = bytes_within (s ++ t) w
+operate tree.Multiply (Bytes s) (Int j) w = bytes_repeated s j w
+operate tree.Multiply (Bytes s) (Truth b) w = bytes_repeated s (int_of_truth b) w
+operate tree.Multiply (Int i) (Bytes t) w = bytes_repeated t i w
+operate tree.Multiply (Truth a) (Bytes t) w = bytes_repeated t (int_of_truth a) w
 operate _ _ _ w = wrong_type w
 
 -- an item of a range lies before its stop, the way that the step goes (Standard Library, "Built-in Types": ranges)
@@ -129,6 +143,7 @@ is_true Nothing w = false
 is_true (Truth b) w = b
 is_true (Int (pos zero)) w = false
 is_true (Str []) w = false
+is_true (Bytes []) w = false
 is_true (Range a b c) w = is_item a b c
 is_true _ w = true
 
@@ -164,6 +179,7 @@ same_built_in Ord Ord = true
 same_built_in Chr Chr = true
 same_built_in Min Min = true
 same_built_in Max Max = true
+same_built_in MakeBytes MakeBytes = true
 same_built_in _ _ = false
 
 -- two ranges have the same items (Standard Library, "Built-in Types": ranges)
@@ -171,9 +187,9 @@ abbrev pub same_range : (a b c d e f : ℤ) → Bool
 same_range a b c d e f =
     let n = range_length a b c in nat_eq n (range_length d e f) && (nat_eq n 0 || (same_int a d && (nat_eq n 1 || same_int c f)))
 
--- `==`: integers, True and False by their values, str by their characters, ranges by their items, built-ins and kinds
--- by name, exceptions by address, None is equal to itself; what is of different kinds is unequal (Language Reference,
--- 6.10.1); two functions are not compared (this project's own)
+-- `==`: integers, True and False by their values, str by their characters, bytes by theirs, ranges by their items,
+-- built-ins and kinds by name, exceptions by address, None is equal to itself; what is of different kinds is unequal
+-- (Language Reference, 6.10.1); two functions are not compared (this project's own)
 abbrev pub are_equal : Value → Value → World → Result Bool Kind
 are_equal Nothing Nothing w = Ok true
 are_equal (Int i) (Int j) w = Ok (same_int i j)
@@ -181,6 +197,7 @@ are_equal (Int i) (Truth b) w = Ok (same_int i (int_of_truth b))
 are_equal (Truth a) (Int j) w = Ok (same_int (int_of_truth a) j)
 are_equal (Truth a) (Truth b) w = Ok (not (differ a b))
 are_equal (Str s) (Str t) w = Ok (same_text s t)
+are_equal (Bytes s) (Bytes t) w = Ok (same_text s t)
 are_equal (Provided f) (Provided g) w = Ok (same_built_in f g)
 are_equal (Function f k) (Function g l) w = Err TypeError
 are_equal (Range a b c) (Range d e f) w = Ok (same_range a b c d e f)
@@ -195,14 +212,15 @@ is_same Nothing Nothing = true
 is_same (Truth a) (Truth b) = not (differ a b)
 is_same _ _ = false
 
--- `<`: two integers, where True and False count as 1 and 0, or two str; no others have an order (Language Reference,
--- 6.10.1)
+-- `<`: two integers, where True and False count as 1 and 0, two str, or two bytes; no others have an order (Language
+-- Reference, 6.10.1)
 abbrev pub is_less : Value → Value → World → Result Bool Kind
 is_less (Int i) (Int j) w = Ok (int_lt i j)
 is_less (Int i) (Truth b) w = Ok (int_lt i (int_of_truth b))
 is_less (Truth a) (Int j) w = Ok (int_lt (int_of_truth a) j)
 is_less (Truth a) (Truth b) w = Ok (int_lt (int_of_truth a) (int_of_truth b))
 is_less (Str s) (Str t) w = Ok (is_before s t)
+is_less (Bytes s) (Bytes t) w = Ok (is_before s t)
 is_less _ _ w = Err TypeError
 
 -- `v in u`: of a str its parts, which are str; of a range its items, where True and False count as 1 and 0 and what is no
@@ -255,7 +273,7 @@ kind_named x (k ∷ ks) = if same_text x (name_of k) then Some k else kind_named
 
 -- the built-ins that are no kinds (Standard Library, "Built-in Functions"), this project's own choice among them
 abbrev pub built_ins : List BuiltIn
-built_ins = Print ∷ MakeRange ∷ MakeStr ∷ Repr ∷ Len ∷ MakeBool ∷ Abs ∷ MakeInt ∷ Ord ∷ Chr ∷ Min ∷ Max ∷ []
+built_ins = Print ∷ MakeRange ∷ MakeStr ∷ Repr ∷ Len ∷ MakeBool ∷ Abs ∷ MakeInt ∷ Ord ∷ Chr ∷ Min ∷ Max ∷ MakeBytes ∷ []
 
 -- the built-in of a name among these
 abbrev pub built_in_named : Text → List BuiltIn → Option BuiltIn
@@ -325,10 +343,11 @@ range_of (Some a) (Some b) (Some (pos zero)) w = refused ValueError (codes "wron
 range_of (Some a) (Some b) (Some c) w = gave (Range a b c) w
 range_of _ _ _ w = wrong_type w
 
--- how many characters or items a value has: a str and a range have them (Standard Library, "Built-in Functions": len);
+-- how many characters, bytes or items a value has: a str, bytes and a range have them (Standard Library, "Built-in Functions": len);
 -- past the integers an OverflowError (this project's own)
 abbrev pub length_of : Value → World → Ran
 length_of (Str s) w = gave (Int (pos (length s))) w
+length_of (Bytes bs) w = gave (Int (pos (length bs))) w
 length_of (Range a b c) w = integer (in_range (pos (range_length a b c))) w
 length_of _ w = wrong_type w
 
@@ -366,8 +385,33 @@ abbrev pub greatest : Value → List Value → World → Ran
 greatest u [] w = gave u w
 greatest u (v ∷ vs) w = elim (is_less u v w) [ Err k ↦ refused k (comparison_message k) w | Ok true ↦ greatest v vs w | Ok false ↦ greatest u vs w ]
 
+-- so many integers from one on, a step apart
+abbrev pub stepped : ℕ → (at step : ℤ) → List ℤ
+stepped zero at step = []
+stepped (suc n) at step = at ∷ stepped n (at +ℤ step) step
+
+-- the items of a range (Standard Library, "Built-in Types": ranges)
+abbrev pub range_items : (start stop step : ℤ) → List ℤ
+range_items a b c = stepped (range_length a b c) a c
+
+-- the bytes that integers are, where each is from 0 to 255
+abbrev pub bytes_from : List ℤ → Option (List ℕ)
+bytes_from [] = Some []
+bytes_from (pos n ∷ is) = if nat_lt n 256 then option_map (λ bs. n ∷ bs) (bytes_from is) else None
+bytes_from (negsuc n ∷ is) = None
+
+-- bytes that were made, or that there are none (the message is this project's own)
+abbrev pub bytes_made : Option (List ℕ) → World → Ran
+bytes_made (Some bs) w = bytes_within bs w
+bytes_made None w = refused ValueError (codes "wrong value") w
+
+-- the bytes of the items of a value (Standard Library, "Built-in Functions": bytes), of a range so far
+abbrev pub bytes_of : Value → World → Ran
+bytes_of (Range a b c) w = bytes_made (bytes_from (range_items a b c)) w
+bytes_of _ w = wrong_type w
+
 -- a call of a built-in (Standard Library, "Built-in Functions": print, range, str, repr, len, bool, abs, int, ord, chr,
--- min, max); min and max take two values or more (this project's own)
+-- min, max, bytes); min and max take two values or more (this project's own)
 abbrev pub call_built_in : BuiltIn → List Value → World → Ran
 call_built_in Print vs w = printing (line_of w.store vs) w
 call_built_in MakeRange (b ∷ []) w = range_of (Some (pos 0)) (integer_in b) (Some (pos 1)) w
@@ -383,6 +427,7 @@ call_built_in Ord (v ∷ []) w = code_of v w
 call_built_in Chr (v ∷ []) w = character_of (integer_in v) w
 call_built_in Min (u ∷ v ∷ vs) w = least u (v ∷ vs) w
 call_built_in Max (u ∷ v ∷ vs) w = greatest u (v ∷ vs) w
+call_built_in MakeBytes (v ∷ []) w = bytes_of v w
 call_built_in _ _ w = wrong_arguments w
 
 -- a new exception as a value
@@ -444,12 +489,15 @@ pub data Iterator : Type 0 where
   Numbers : (at stop step : ℤ) → Iterator
   -- the characters of a text, each as a str
   Characters : Text → Iterator
+  -- bytes, each as an integer
+  Octets : List ℕ → Iterator
   NoMore : Iterator
 
 -- what a value gives in a world, where it can be gone over
 abbrev pub iterator_of : Value → World → Option Iterator
 iterator_of (Range a b c) w = Some (Numbers a b c)
 iterator_of (Str s) w = Some (Characters s)
+iterator_of (Bytes bs) w = Some (Octets bs)
 iterator_of _ w = None
 
 -- the items of a range after one: what lies past the integers lies past the stop
@@ -469,6 +517,8 @@ abbrev pub next_item : Iterator → World → Next
 next_item (Numbers at stop step) w = if is_item at stop step then Item (Int at) (numbers_from (sum_of at step) stop step) else Exhausted
 next_item (Characters []) w = Exhausted
 next_item (Characters (c ∷ cs)) w = Item (Str (c ∷ [])) (Characters cs)
+next_item (Octets []) w = Exhausted
+next_item (Octets (b ∷ bs)) w = Item (Int (pos b)) (Octets bs)
 next_item NoMore w = Exhausted
 
 -- what an answer makes of a request

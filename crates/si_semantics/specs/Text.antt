@@ -5,9 +5,9 @@ use Rattle.si_plain.specs.declared.kind.Kind.TheVariants.{KeyError, RecursionErr
 use Rattle.si_plain.specs.Kinds.{name_of}
 use Rattle.si_plain.specs.Repr as plain
 use Rattle.std.specs.Fmt.{signed_decimal}
-use Rattle.si_semantics.specs.Value.{Text, Value, Nothing, Truth, Int, Str, Provided, Function, Range, Class, Address, BuiltIn, Print, MakeRange, MakeStr, Repr, Len, MakeBool, Abs, MakeInt, Ord, Chr, Min, Max, Object, Exception}
+use Rattle.si_semantics.specs.Value.{Text, Value, Nothing, Truth, Int, Str, Bytes, Provided, Function, Range, Class, Address, BuiltIn, Print, MakeRange, MakeStr, Repr, Len, MakeBool, Abs, MakeInt, Ord, Chr, Min, Max, MakeBytes, Object, Exception}
 
--- the most characters of a str (this project's own)
+-- the most characters of a str, and the most bytes of bytes (this project's own)
 abbrev pub max_length : ℕ
 max_length = 1048576
 
@@ -44,6 +44,7 @@ built_in_name Ord = codes "ord"
 built_in_name Chr = codes "chr"
 built_in_name Min = codes "min"
 built_in_name Max = codes "max"
+built_in_name MakeBytes = codes "bytes"
 
 -- the repr of a range: its step is left out where it is 1
 abbrev pub repr_range : ℤ → ℤ → ℤ → Text
@@ -57,6 +58,7 @@ repr_atom (Truth true) = codes "True"
 repr_atom (Truth false) = codes "False"
 repr_atom (Int i) = decimal i
 repr_atom (Str s) = repr_text s
+repr_atom (Bytes bs) = plain.bytes_repr_of bs
 repr_atom (Provided b) = codes "<built-in " ++ built_in_name b ++ codes ">"
 repr_atom (Function f k) = codes "<function " ++ f ++ codes ">"
 repr_atom (Range a b c) = repr_range a b c

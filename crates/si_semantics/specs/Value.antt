@@ -20,6 +20,7 @@ pub data BuiltIn : Type 0 where
   Chr : BuiltIn
   Min : BuiltIn
   Max : BuiltIn
+  MakeBytes : BuiltIn
 
 pub data Value : Type 0 where
   Nothing : Value
@@ -27,6 +28,8 @@ pub data Value : Type 0 where
   Truth : Bool → Value
   Int : ℤ → Value
   Str : Text → Value
+  -- bytes, each a number below 256 (3.2.5.1)
+  Bytes : List ℕ → Value
   Provided : BuiltIn → Value
   -- a function of a script, by its name and its number among those that its interpreter has read; the number is this
   -- project's own

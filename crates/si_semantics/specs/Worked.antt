@@ -7,6 +7,7 @@ pub mod Finally
 pub mod Items
 pub mod BuiltIns
 pub mod Sequences
+pub mod Bytes
 pub mod Scope
 pub mod Literals
 pub mod Layout

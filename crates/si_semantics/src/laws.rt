@@ -5,6 +5,7 @@ ghost use Rattle.si_semantics.specs.Worked.Functions.{FunctionCases};
 ghost use Rattle.si_semantics.specs.Worked.Exceptions.{ExceptionCases};
 ghost use Rattle.si_semantics.specs.Worked.Finally.{FinallyCases};
 ghost use Rattle.si_semantics.specs.Worked.BuiltIns.{BuiltInCases};
+ghost use Rattle.si_semantics.specs.Worked.Bytes.{BytesCases};
 ghost use Rattle.si_semantics.specs.Worked.Items.{ItemCases};
 ghost use Rattle.si_semantics.specs.Worked.Sequences.{SequenceCases};
 ghost use Rattle.si_semantics.specs.Worked.Scope.{ScopeCases};
@@ -49,6 +50,11 @@ pub fn worked_built_ins()
 /// The worked cases of `in` and of subscriptions: what scripts print and how they end.
 pub fn worked_sequences()
     ensures { SequenceCases }
+{}
+
+/// The worked cases of bytes: what scripts print and how they end, and their parcels.
+pub fn worked_bytes()
+    ensures { BytesCases }
 {}
 
 /// The worked cases of scopes: which texts are well scoped, and which names are local.

@@ -1,5 +1,5 @@
 -- What it is to copy a value out of an arena, and a parcel into one.
-use Rattle.std.specs.Prelude.{◌≡◌, Some, None, Result, Ok, Err}
+use Rattle.std.specs.Prelude.{◌≡◌, ◌<◌, length, Some, None, Result, Ok, Err}
 use Rattle.si_semantics.specs.Value.{Value}
 use Rattle.si_semantics.specs.Parcels as tree
 use Rattle.si_semantics.specs.Parcels.{Tree, Leaf, Group, IsParcel}
@@ -12,9 +12,10 @@ use Rattle.si_share.specs.declared.fault.ShareFault.TheVariants as share
 use Rattle.si_share.specs.declared.fault.ReceiveFault.{ReceiveFault}
 use Rattle.si_share.specs.declared.fault.ReceiveFault.TheVariants as receive
 
--- a parcel takes memory of its own: a str
+-- a parcel takes memory of its own: a str, and bytes
 abbrev pub TakesMemory : Tree → Type 0
 TakesMemory (Leaf (tree.Str s)) = Unit {0}
+TakesMemory (Leaf (tree.Bytes bs)) = Unit {0}
 TakesMemory _ = ⊥
 
 -- the parcel of a value, within the limits of parcels. It is refused where the value has none, else where its parcel is
@@ -25,9 +26,10 @@ CopiesOut v (Err share.NotShareable) = parcel_of v ≡ None
 CopiesOut v (Err share.TooLarge) = (p : Tree) × (parcel_of v ≡ Some p) × ¬ IsParcel p
 CopiesOut v (Err share.NoMemory) = (p : Tree) × (parcel_of v ≡ Some p) × IsParcel p × TakesMemory p
 
--- the value of a parcel takes memory of its arena: a str that is not in the value itself
+-- the value of a parcel takes memory of its arena: a str, or bytes, that are not in the value itself
 abbrev pub NeedsRoom : Tree → Type 0
 NeedsRoom (Leaf (tree.Str s)) = ¬ FitsShort s
+NeedsRoom (Leaf (tree.Bytes bs)) = 14 < length bs
 NeedsRoom _ = ⊥
 
 -- the value of a parcel is placed in an arena. It is refused where the parcel has none, else only where it takes memory

@@ -5,10 +5,11 @@
 // value that was copied out of one arena and into another is equal to itself (`laws`). Which values are shareable never
 // depends on memory: that is asked first. `specs/Copies.antt` says when each call is refused; nothing has changed then.
 //
-// In reading order: `fault` (why a copy is refused), `text` (the text of characters), `outward` (`is_shareable` and
+// In reading order: `fault` (why a copy is refused), `text` (the text of characters), `bytes`, `outward` (`is_shareable` and
 // `copy_out`), `inward` (`copy_in`), `laws`.
 #![tactic(auto)]
 
+mod bytes;
 mod fault;
 mod inward;
 pub mod laws;

@@ -7,6 +7,7 @@ ghost use Rattle.si_arena.specs.Memory.{value_of, Lies};
 ghost use Rattle.si_arena.specs.Texts.{characters_in};
 ghost use Rattle.si_share.specs.Copies.{CopiesOut};
 
+use crate::bytes::bytes_out;
 use crate::fault::ShareFault;
 use crate::text::text_of;
 use si_arena::{Arena, Characters, Ref, View};
@@ -14,7 +15,8 @@ use si_parcel::Parcel;
 use si_plain::limits::MAX_STR_LENGTH;
 use std::alloc::Global;
 
-/// Whether a value may be sent to another interpreter (PEP 734, "Shareable Objects"): None, True, False, an int or a str.
+/// Whether a value may be sent to another interpreter (PEP 734, "Shareable Objects"): None, True, False, an int, a str or
+/// bytes.
 /// Takes no memory.
 pub fn is_shareable(arena: &Arena, value: Ref) -> bool
     requires { Lies arena.now value }
@@ -25,6 +27,7 @@ pub fn is_shareable(arena: &Arena, value: Ref) -> bool
         View::Truth(_) => true,
         View::Int(_) => true,
         View::Str(_) => true,
+        View::Bytes(_) => true,
         View::BuiltIn(_) => false,
         View::Function(_, _) => false,
         View::Range(_) => false,
@@ -35,7 +38,8 @@ pub fn is_shareable(arena: &Arena, value: Ref) -> bool
 
 /// The parcel of a value, a copy that may be sent to another interpreter (PEP 734, "Shareable Objects"). `NotShareable`
 /// exactly where `is_shareable` is false; `TooLarge` exactly where it is shareable and past the limits of a parcel, as a
-/// str of more than 1,048,576 characters; `NoMemory` where memory is refused: only a str within the limits takes any.
+/// str of more than 1,048,576 characters; `NoMemory` where memory is refused: only a str or bytes within the limits take
+/// any.
 pub fn copy_out(alloc: Global, arena: &Arena, value: Ref) -> Result<Parcel, ShareFault>
     requires { Lies arena.now value }
     ensures { CopiesOut (value_of arena.now value) result }
@@ -45,6 +49,7 @@ pub fn copy_out(alloc: Global, arena: &Arena, value: Ref) -> Result<Parcel, Shar
         View::Truth(truth) => Ok(Parcel::truth(truth)),
         View::Int(int) => Ok(Parcel::int(int)),
         View::Str(characters) => str_out(alloc, characters),
+        View::Bytes(bytes) => bytes_out(alloc, bytes),
         View::BuiltIn(_) => Err(ShareFault::NotShareable),
         View::Function(_, _) => Err(ShareFault::NotShareable),
         View::Range(_) => Err(ShareFault::NotShareable),

@@ -103,11 +103,23 @@ fn ranges_functions_and_exceptions_are_not_shareable(rt: HostRuntime) -> Result<
 }
 
 #[test]
+fn bytes_go_over(rt: HostRuntime) -> Result<(), Fail> {
+    let alloc = rt.alloc();
+    let mut arena = Arena::new(alloc);
+    for bytes in [b"\x00\xff".as_slice(), b"more than fourteen".as_slice()] {
+        let parcel = Parcel::bytes(Octets::from_slice(alloc, bytes)?).map_err(|_| "too long")?;
+        let placed = copy_in(&mut arena, &parcel).map_err(|_| "refused")?;
+        assert!(rt; arena.bytes(&placed) == bytes);
+        let back = copy_out(alloc, &arena, placed).map_err(|_| "refused")?;
+        assert!(rt; back == parcel);
+    }
+    Ok(())
+}
+
+#[test]
 fn some_parcels_have_no_value_yet(rt: HostRuntime) -> Result<(), Fail> {
     let alloc = rt.alloc();
     let mut arena = Arena::new(alloc);
-    let bytes = Parcel::bytes(Octets::from_slice(alloc, b"a")?).map_err(|_| "too long")?;
-    assert!(rt; matches!(copy_in(&mut arena, &bytes), Err(ReceiveFault::NoSuchValue)));
     let tuple = Parcel::tuple(Vec::new(alloc)).map_err(|_| "too large")?;
     assert!(rt; matches!(copy_in(&mut arena, &tuple), Err(ReceiveFault::NoSuchValue)));
     let queue = Parcel::queue(0, 1);

@@ -158,7 +158,11 @@ fn function_shown(view: View) -> Option<u32>
     }
 }
 
-// The frame of a function as it begins: its locals, its parameters included; room for temporaries is made as they come.
+// For how many temporaries there is room as a function begins.
+const FIRST_ROOM: usize = 8;
+
+// The frame of a function as it begins: its locals, its parameters included, and room for a few temporaries; more is made
+// as they come.
 fn shape_of(routine: Routine) -> Shape
     ensures parameters { routine.parameters ≤ result.locals }
     ensures others { result.locals - routine.parameters ≡ routine.locals - routine.parameters }
@@ -171,6 +175,6 @@ fn shape_of(routine: Routine) -> Shape
         } else {
             locals
         },
-        temporaries: 0,
+        temporaries: FIRST_ROOM,
     }
 }

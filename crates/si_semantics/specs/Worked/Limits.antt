@@ -2,7 +2,7 @@
 use Rattle.std.specs.Prelude.{◌≡◌, codes, ℕ, zero, suc, List, [], ◌∷◌, Some, None}
 use Rattle.si_semantics.specs.Tree as tree
 use Rattle.si_semantics.specs.Tree.{Stmt, Stmts}
-use Rattle.si_semantics.specs.Limits.{depth_of, longest_str, greatest_in, most_parameters_in, nesting_in}
+use Rattle.si_semantics.specs.Limits.{depth_of, longest_literal, greatest_in, most_parameters_in, nesting_in}
 use Rattle.si_semantics.specs.Worked.Straight.{int, str, minus, arguments, suite, compared, i_name, a_text}
 use Rattle.si_semantics.specs.Worked.Functions.{f, n, x, define, prints}
 
@@ -40,10 +40,10 @@ pub record LimitCases : Type 0 where
       greatest_in depth_of (suite (tree.While i_name (suite (of_two (tree.Return (Some (minus i_name)) ∷ []) ∷ []))
       (suite (tree.Try nothing (tree.MoreClauses None None (suite (tree.Raise (Some i_name) ∷ [])) tree.NoClauses) tree.NoStmts ∷ [])) ∷ [])) ≡ 2
   -- `print('a', 'abc' + 'a')`, `print(i)`
-  pub longest : greatest_in longest_str (suite (prints (a_text ∷ tree.Binary tree.Add (str (codes "abc")) a_text ∷ []) ∷ prints (i_name ∷ []) ∷ [])) ≡ 3
+  pub longest : greatest_in longest_literal (suite (prints (a_text ∷ tree.Binary tree.Add (str (codes "abc")) a_text ∷ []) ∷ prints (i_name ∷ []) ∷ [])) ≡ 3
   -- `x = 'abc'` in a finally suite, after `except 'a': pass`
   pub longest_in_a_finally_suite :
-      greatest_in longest_str (suite (tree.Finally nothing (tree.MoreClauses (Some a_text) None nothing tree.NoClauses) tree.NoStmts (suite (set_text ∷ [])) ∷ [])) ≡ 3
+      greatest_in longest_literal (suite (tree.Finally nothing (tree.MoreClauses (Some a_text) None nothing tree.NoClauses) tree.NoStmts (suite (set_text ∷ [])) ∷ [])) ≡ 3
   -- `for x in i:` with `def f(n, x): pass` for its else suite
   pub parameters : most_parameters_in (suite (tree.For (tree.Named x) i_name nothing (suite (of_two (tree.Pass ∷ []) ∷ [])) ∷ [])) ≡ 2
   -- simple statements; 21 of `if` in each other; one with 30 of `elif`

@@ -2,7 +2,9 @@ use Rattle.std.proofs.Common.{◌≡◌, ap, ◌∙◌, to_z, of_z, w64, rules}
 use Rattle.si_semantics.specs.Value as pure
 use Rattle.si_arena.specs.Memory.{value_of}
 use Rattle.si_arena.specs.Texts.{text_of}
+use Rattle.si_arena.specs.Bytes.{bytes_of}
 use Rattle.si_ops.proofs.Running.{stood, goes_at, ints_go, int_truth_go, truth_int_go, truths_go, text_int_go, text_truth_go, int_text_go, truth_text_go, count_fits}
+use Rattle.si_ops.proofs.RunningBytes.{bytes_int_go, bytes_truth_go, int_bytes_go, truth_bytes_go}
 use Rattle.si_ops.proofs.arithmetic.operands.Goals as goal
 
 pub returns-in-Integer-Integer : goal.returns-in-Integer-Integer
@@ -128,4 +130,73 @@ returns-in-Text-Text c =
     let q = stood m c.args.right _ _ c.of-second.ensures k.is-1 in
     let e = c.joined in
     let g = goes_at o c.args.left c.args.right m e.new.arena e.result u v (pure.Str (text_of m.texts c.args.left)) (pure.Str (text_of m.texts c.args.right)) p q (record { runs = e.ensures.runs; memory = e.ensures.memory }) in
+    record { runs = g.runs; memory = g.memory }
+
+pub returns-in-Bytes-Integer : goal.returns-in-Bytes-Integer
+returns-in-Bytes-Integer c =
+    let m = c.args.arena.now in
+    let o = c.args.operator in
+    let k = c.in-Bytes-Integer in
+    let u = value_of m c.args.left in
+    let v = value_of m c.args.right in
+    let p = stood m c.args.left _ _ c.of-first.ensures k.is-0 in
+    let q = stood m c.args.right _ _ c.of-second.ensures k.is-1 in
+    let b : k.n ≡ to_z w64 (of_z w64 k.n) = search rules in
+    let e = c.byte_copies-in-Bytes-Integer in
+    let g = bytes_int_go o c.args.left c.args.right m e.new.arena e.result u v (bytes_of m.texts c.args.left) (to_z w64 (of_z w64 k.n)) (record { runs = e.ensures.runs; memory = e.ensures.memory }) p (q ∙ ap pure.Int b) in
+    record { runs = g.runs; memory = g.memory }
+
+pub returns-in-Bytes-Truth : goal.returns-in-Bytes-Truth
+returns-in-Bytes-Truth c =
+    let m = c.args.arena.now in
+    let o = c.args.operator in
+    let k = c.in-Bytes-Truth in
+    let u = value_of m c.args.left in
+    let v = value_of m c.args.right in
+    let p = stood m c.args.left _ _ c.of-first.ensures k.is-0 in
+    let q = stood m c.args.right _ _ c.of-second.ensures k.is-1 in
+    let e = c.byte_copies-in-Bytes-Truth in
+    let n = c.int_of_truth-in-Bytes-Truth in
+    let g = bytes_truth_go o c.args.left c.args.right m e.new.arena e.result u v (bytes_of m.texts c.args.left) (to_z w64 (of_z w64 n.result)) k.b (record { runs = e.ensures.runs; memory = e.ensures.memory }) p q (count_fits k.b n.result n.ensures) in
+    record { runs = g.runs; memory = g.memory }
+
+pub returns-in-Integer-Bytes : goal.returns-in-Integer-Bytes
+returns-in-Integer-Bytes c =
+    let m = c.args.arena.now in
+    let o = c.args.operator in
+    let k = c.in-Integer-Bytes in
+    let u = value_of m c.args.left in
+    let v = value_of m c.args.right in
+    let p = stood m c.args.left _ _ c.of-first.ensures k.is-0 in
+    let q = stood m c.args.right _ _ c.of-second.ensures k.is-1 in
+    let a : k.n ≡ to_z w64 (of_z w64 k.n) = search rules in
+    let e = c.byte_copies in
+    let g = int_bytes_go o c.args.left c.args.right m e.new.arena e.result u v (bytes_of m.texts c.args.right) (to_z w64 (of_z w64 k.n)) (record { runs = e.ensures.runs; memory = e.ensures.memory }) (p ∙ ap pure.Int a) q in
+    record { runs = g.runs; memory = g.memory }
+
+pub returns-in-Truth-Bytes : goal.returns-in-Truth-Bytes
+returns-in-Truth-Bytes c =
+    let m = c.args.arena.now in
+    let o = c.args.operator in
+    let k = c.in-Truth-Bytes in
+    let u = value_of m c.args.left in
+    let v = value_of m c.args.right in
+    let p = stood m c.args.left _ _ c.of-first.ensures k.is-0 in
+    let q = stood m c.args.right _ _ c.of-second.ensures k.is-1 in
+    let e = c.byte_copies-in-Truth-Bytes in
+    let n = c.int_of_truth-in-Truth-Bytes in
+    let g = truth_bytes_go o c.args.left c.args.right m e.new.arena e.result u v (bytes_of m.texts c.args.right) (to_z w64 (of_z w64 n.result)) k.b (record { runs = e.ensures.runs; memory = e.ensures.memory }) p q (count_fits k.b n.result n.ensures) in
+    record { runs = g.runs; memory = g.memory }
+
+pub returns-in-Bytes-Bytes : goal.returns-in-Bytes-Bytes
+returns-in-Bytes-Bytes c =
+    let m = c.args.arena.now in
+    let o = c.args.operator in
+    let k = c.in-Bytes-Bytes in
+    let u = value_of m c.args.left in
+    let v = value_of m c.args.right in
+    let p = stood m c.args.left _ _ c.of-first.ensures k.is-0 in
+    let q = stood m c.args.right _ _ c.of-second.ensures k.is-1 in
+    let e = c.joined_bytes in
+    let g = goes_at o c.args.left c.args.right m e.new.arena e.result u v (pure.Bytes (bytes_of m.texts c.args.left)) (pure.Bytes (bytes_of m.texts c.args.right)) p q (record { runs = e.ensures.runs; memory = e.ensures.memory }) in
     record { runs = g.runs; memory = g.memory }

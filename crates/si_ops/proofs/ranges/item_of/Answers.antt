@@ -1,4 +1,4 @@
-use Rattle.std.proofs.Common.{rules, ◌≡◌, ◌+◌, ◌*◌, ◌<◌, ◌^◌, ℕ, ℤ, ◌+ℤ◌, ◌*ℤ◌, pos, neg_ℤ, true, false, unsigned_abs, w64, FitsSigned, to_z, of_z, to_z-of_z, ap, sym, subst, ◌∙◌}
+use Rattle.std.proofs.Common.{rules, ◌*◌, ◌<◌, ◌^◌, ◌+ℤ◌, pos, unsigned_abs, w64, FitsSigned, to_z-of_z, ap, sym, subst, ◌∙◌}
 use Rattle.std.specs.Prelude.{◌-ℤ◌, int_le}
 use Rattle.si_ops.proofs.Reached.{item_reached, steps_up, steps_down}
 use Rattle.si_ops.proofs.ranges.item_of.Goals as goal

@@ -1,7 +1,7 @@
-use Rattle.std.proofs.Common.{◌≡◌, ℕ, ℤ, Option, Some, length, FitsSigned, w64, to_z-of_z, rules, ap, sym, subst, ◌∙◌}
+use Rattle.std.proofs.Common.{ℕ, ℤ, Option, length, FitsSigned, w64, to_z-of_z, rules, ap, sym, subst, ◌∙◌}
 use Rattle.si_semantics.specs.Value as pure
-use Rattle.si_semantics.specs.Operations.{integer_in, range_length}
-use Rattle.si_semantics.specs.Subscription.{character_at, item_at, item_meant, number_at}
+use Rattle.si_semantics.specs.Operations.{integer_in}
+use Rattle.si_semantics.specs.Subscription.{character_at, item_at, item_meant}
 use Rattle.si_arena.specs.Memory.{value_of}
 use Rattle.si_arena.specs.Texts.{characters_in, text_of}
 use Rattle.si_ops.specs.Runs.{Tells}

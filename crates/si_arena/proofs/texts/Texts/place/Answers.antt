@@ -13,7 +13,7 @@ returns-then-branch-clause-text c =
     let old = c.args.self.now in
     let all = c.in_ok-push_narrow_str.ensures.ok ∙ ap (λ b. cond b (with_row width.Narrow (old.narrow ++ t) old) old) c.if-branch.true in
     let stands = pushed_stands width.Narrow t _ _ _ all c.end-start.ensures in
-    (within, rw c.slice.ensures (stands_added _ _ _ _ _ _ stands c.count_of-count.ensures))
+    (within, rw c.slice.ensures.is (stands_added _ _ _ _ _ _ stands c.count_of-count.ensures))
 
 pub returns-clause-text : goal.returns-clause-text
 returns-clause-text c =
@@ -22,4 +22,4 @@ returns-clause-text c =
     let old = c.args.self.now in
     let none = c.in_ok-push_narrow_str.ensures.ok ∙ ap (λ b. cond b (with_row width.Narrow (old.narrow ++ t) old) old) c.if-branch.false in
     let stands = pushed_stands width.Wide t old _ _ (c.in_ok-push_wide_str.ensures.ok ∙ ap (λ rows. with_row width.Wide (rows.wide ++ t) rows) none) (c.end-start-2.ensures ∙ ap (λ rows. length rows.wide) none) in
-    (within, rw c.slice-2.ensures (stands_added _ _ _ _ _ _ stands c.count_of-count.ensures))
+    (within, rw c.slice-2.ensures.is (stands_added _ _ _ _ _ _ stands c.count_of-count.ensures))

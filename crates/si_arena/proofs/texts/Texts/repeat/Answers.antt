@@ -45,7 +45,7 @@ returns-clause-text c =
     let count : c.saturating_mul-total.result ≡ length (times n t) = omega (arith, long, c.saturating_mul-total.ensures, ap length same) in
     let stands = pushed_stands c.of_both-width.result (times n t) _ _ _ c.in_ok-push_copies.ensures.ok c.end-start.ensures in
     let there = stands_added _ _ _ _ _ _ stands count in
-    (within, rw c.slice.ensures (same_added _ _ same there))
+    (within, rw c.slice.ensures.is (same_added _ _ same there))
 
 pub returns-then-total-gt-MAX_STR_LENGTH-clause-short : goal.returns-then-total-gt-MAX_STR_LENGTH-clause-short
 returns-then-total-gt-MAX_STR_LENGTH-clause-short c = λ h k.
