@@ -108,6 +108,14 @@ except Exception as e:
 __debug__ = 'é'
 print(__debug__, print, range, f)
 print(repr('\u200b') == "'\u200b'", str(SyntaxError()) == '')
+try:
+    (1, 2) < (1, 3)
+except Exception as e:
+    print(repr(e))
+try:
+    tuple(range(65536))
+except Exception as e:
+    print(repr(e))
 deep = None
 for k in range(202):
     deep = ValueError(deep)

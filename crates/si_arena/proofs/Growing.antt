@@ -1,22 +1,26 @@
 -- What each call does to what an arena is made of.
-use Rattle.std.proofs.Common.{◌≡◌, ℕ, zero, suc, ◌<◌, List, [], ◌∷◌, ◌++◌, map, length, get_or, Result, Ok, Err, ap, refl, sym, subst, ◌∙◌, arith, append-nil}
-use Rattle.std.proofs.lemmas.List.{map_push, length_push, get_or_push, length-map}
+use Rattle.std.proofs.Common.{◌≡◌, ℕ, ◌+◌, take, zero, suc, ◌+◌, ◌<◌, ◌≤◌, List, [], ◌∷◌, ◌++◌, map, length, get_or, Result, Ok, Err, ap, refl, sym, subst, ◌∙◌, arith, append-nil}
+use Rattle.std.proofs.lemmas.List.{map_push, length_push, get_or_push, length-map, take_all, drop_at, length-append}
 use Rattle.si_semantics.specs.Value as pure
 use Rattle.si_arena.specs.declared.value.Ref.{Ref}
 use Rattle.si_arena.specs.declared.value.Ref.TheVariants as value
 use Rattle.si_arena.specs.declared.object.Steps.{Steps}
 use Rattle.si_arena.specs.declared.object.Object.{Object}
+use Rattle.si_arena.specs.declared.tuples.Tuple.{Tuple}
 use Rattle.si_arena.specs.declared.cause.Fault.{Fault}
 use Rattle.si_arena.specs.declared.cause.Fault.TheVariants.{Raises, NoMemory}
 use Rattle.si_arena.specs.Texts.{Rows, text_of, IsText, IsNarrow, TextLies, Grows, Adds}
 use Rattle.si_arena.specs.Bytes.{text_of_bytes, bytes_of_text}
-use Rattle.si_arena.specs.Memory.{Memory, value_of, range_of, object_of, Lies, ObjectLies, ObjectsLie, grounds_of, memory_of, Lasts, Extends, Placed, PlacesText, PlacesBytes, IsNamed}
+use Rattle.si_arena.specs.Memory.{Memory, value_of, all_of, range_of, object_of, Lies, AllLie, ObjectLies, ObjectsLie, Lasts, Extends, Placed, PlacesText, PlacesBytes, IsNamed}
+use Rattle.si_arena.specs.declared.tuples.Size.{Size}
+use Rattle.si_semantics.specs.Tuples.{count_of, levels_of}
+use Rattle.si_arena.specs.Tuples.{items_at, tuple_at, tuple_in, with_tuples, table, TupleLies, TuplesLie}
+use Rattle.si_arena.specs.Arenas.{base_of, grounds_of, memory_of, IsArena}
 use Rattle.si_arena.proofs.Rows.{grows_none}
-use Rattle.si_arena.proofs.Lying.{objects-lasts, objects_lie-extends, object_lies-extends}
+use Rattle.si_arena.proofs.Lying.{extends_more, all-lasts, all_lie-extends, objects-lasts, objects_lie-extends, object_lies-extends}
+use Rattle.si_arena.proofs.Tables.{Grounded, Shown, all-bare, table-lasts, tuples_lie-last, tuples_lie-push, table_push, table_at, length-table, default_same}
 
--- without its objects an arena goes on
-grounds_last : (rows : Rows) (names : List pure.Text) (ranges : List Steps) (os : List Object) → Lasts (memory_of rows names ranges os) (grounds_of rows names ranges)
-grounds_last rows names ranges os = record { texts = grows_none rows; names = ([], sym (append-nil names)); ranges = ([], sym (append-nil (map range_of ranges))) }
+-- ---- an arena goes on
 
 -- what does not change goes on, and the objects are as they were
 pub record Goes (old new : Memory) (os : List Object) : Type 0 where
@@ -24,20 +28,52 @@ pub record Goes (old new : Memory) (os : List Object) : Type 0 where
   pub store : new.store ≡ old.store
   pub lie : ObjectsLie new os
 
-pub goes : (rows more_rows : Rows) (names more_names : List pure.Text) (ranges more_ranges : List Steps) (os : List Object) → Lasts (memory_of rows names ranges os) (memory_of more_rows more_names more_ranges os) → ObjectsLie (memory_of rows names ranges os) os → Goes (memory_of rows names ranges os) (memory_of more_rows more_names more_ranges os) os
-goes rows more_rows names more_names ranges more_ranges os l h =
-    let m = memory_of rows names ranges os in
-    let g = grounds_of more_rows more_names more_ranges in
-    let to : Lasts m g = record { texts = l.texts; names = l.names; ranges = l.ranges } in
-    let same : map (object_of g) os ≡ map (object_of (grounds_of rows names ranges)) os =
-    objects-lasts os to h ∙ sym (objects-lasts os (grounds_last rows names ranges os) h) in
-    let e : Extends m (memory_of more_rows more_names more_ranges os) = record { lasts = l; objects = omega (arith, ap length same) } in
-    record { extends = e; store = same; lie = objects_lie-extends os e h }
+module _ (rows more_rows : Rows) (names more_names : List pure.Text) (ranges more_ranges : List Steps) (items wide : List Ref) (ts more_ts : List Tuple) (os : List Object) where
+  -- by other grounds
+  pub goes : Lasts (memory_of rows names ranges items ts os) (memory_of more_rows more_names more_ranges wide more_ts os) → ObjectsLie (memory_of rows names ranges items ts os) os → Goes (memory_of rows names ranges items ts os) (memory_of more_rows more_names more_ranges wide more_ts os) os
+  goes l h =
+      let m = memory_of rows names ranges items ts os in
+      let g = grounds_of more_rows more_names more_ranges wide more_ts in
+      let own = grounds_of rows names ranges items ts in
+      let to : Lasts m g = record { texts = l.texts; names = l.names; ranges = l.ranges; tuples = l.tuples } in
+      let back : Lasts m own = record { texts = grows_none rows; names = ([], sym (append-nil names)); ranges = ([], sym (append-nil (map range_of ranges))); tuples = ([], sym (append-nil own.tuples)) } in
+      let same : map (object_of g) os ≡ map (object_of own) os = objects-lasts os to h ∙ sym (objects-lasts os back h) in
+      let e : Extends m (memory_of more_rows more_names more_ranges wide more_ts os) = record { lasts = l; objects = omega (arith, ap length same) } in
+      record { extends = e; store = same; lie = objects_lie-extends os e h }
+
+-- texts, names, ranges and the row of items go on, with the same tuples
+pub record Kept (old new : Memory) (os : List Object) : Type 0 where
+  pub goes : Goes old new os
+  pub tuples : new.tuples ≡ old.tuples
+
+module _ (rows more_rows : Rows) (names more_names : List pure.Text) (ranges more_ranges : List Steps) (items wide : List Ref) (ts : List Tuple) (os : List Object) (g : Grounded (base_of rows names ranges) (base_of more_rows more_names more_ranges)) (row : (more : List Ref) × (wide ≡ items ++ more)) (h : IsArena rows names ranges items ts os) where
+  pub keeps : Kept (memory_of rows names ranges items ts os) (memory_of more_rows more_names more_ranges wide ts os) os
+  keeps =
+      let s = map (object_of (grounds_of rows names ranges items ts)) os in
+      let same : table (base_of more_rows more_names more_ranges) wide [] ts ≡ table (base_of rows names ranges) items [] ts = table-lasts s s g (omega arith) items wide row [] ts h.tuples in
+      let l : Lasts (memory_of rows names ranges items ts os) (memory_of more_rows more_names more_ranges wide ts os) = record {
+        texts = g.texts;
+        names = g.names;
+        ranges = g.ranges;
+        tuples = ([], same ∙ sym (append-nil (table (base_of rows names ranges) items [] ts)));
+      } in
+      record { goes = goes rows more_rows names more_names ranges more_ranges items wide ts ts os l h.objects; tuples = same }
+
+  pub arena_kept : IsArena more_rows more_names more_ranges wide ts os
+  arena_kept =
+      let k = keeps in record {
+        tuples = tuples_lie-last (memory_of rows names ranges items ts os).store (memory_of more_rows more_names more_ranges wide ts os).store g (omega (arith, ap length k.goes.store)) items wide row [] ts h.tuples;
+        objects = k.goes.lie;
+      }
+
+-- the row of items stays as it is
+same_row : (items : List Ref) → (more : List Ref) × (items ≡ items ++ more)
+same_row items = ([], sym (append-nil items))
 
 -- ---- texts
 
-texts_last : (rows more : Rows) (names : List pure.Text) (ranges : List Steps) (os : List Object) → Grows rows more → Lasts (memory_of rows names ranges os) (memory_of more names ranges os)
-texts_last rows more names ranges os g = record { texts = g; names = ([], sym (append-nil names)); ranges = ([], sym (append-nil (map range_of ranges))) }
+texts_last : (rows more : Rows) (names : List pure.Text) (ranges : List Steps) → Grows rows more → Grounded (base_of rows names ranges) (base_of more names ranges)
+texts_last rows more names ranges g = record { texts = g; names = ([], sym (append-nil names)); ranges = ([], sym (append-nil (map range_of ranges))) }
 
 str_is : (m : Memory) (t : List ℕ) (r : Ref) → IsText r → text_of m.texts r ≡ t → value_of m r ≡ pure.Str t
 str_is m t value.Unbound i e = absurd i
@@ -52,6 +88,7 @@ str_is m t (value.Bytes n k) i e = absurd i
 str_is m t (value.BuiltIn b) i e = absurd i
 str_is m t (value.Function n x) i e = absurd i
 str_is m t (value.Range p) i e = absurd i
+str_is m t (value.Tuple p) i e = absurd i
 str_is m t (value.Kind k) i e = absurd i
 str_is m t (value.Object x) i e = absurd i
 
@@ -68,21 +105,23 @@ str_lies m (value.Bytes n k) i h = absurd i
 str_lies m (value.BuiltIn b) i h = absurd i
 str_lies m (value.Function n x) i h = absurd i
 str_lies m (value.Range p) i h = absurd i
+str_lies m (value.Tuple p) i h = absurd i
 str_lies m (value.Kind k) i h = absurd i
 str_lies m (value.Object x) i h = absurd i
 
-pub text_kept : (t : List ℕ) (rows more : Rows) (names : List pure.Text) (ranges : List Steps) (os : List Object) (r : Result Ref Fault) → Adds t rows more r → ObjectsLie (memory_of rows names ranges os) os → ObjectsLie (memory_of more names ranges os) os
-text_kept t rows more names ranges os (Ok r) a h = (goes rows more names names ranges ranges os (texts_last rows more names ranges os a.1.grown) h).lie
-text_kept t rows more names ranges os (Err (Raises c)) a h = subst (λ xs. ObjectsLie (memory_of xs names ranges os) os) (sym a.2) h
-text_kept t rows more names ranges os (Err NoMemory) a h = subst (λ xs. ObjectsLie (memory_of xs names ranges os) os) (sym a) h
+module _ (t : List ℕ) (rows more : Rows) (names : List pure.Text) (ranges : List Steps) (items : List Ref) (ts : List Tuple) (os : List Object) where
+  pub text_kept : (r : Result Ref Fault) → Adds t rows more r → IsArena rows names ranges items ts os → IsArena more names ranges items ts os
+  text_kept (Ok r) a h = arena_kept rows more names names ranges ranges items items ts os (texts_last rows more names ranges a.1.grown) (same_row items) h
+  text_kept (Err (Raises c)) a h = subst (λ xs. IsArena xs names ranges items ts os) (sym a.2) h
+  text_kept (Err NoMemory) a h = subst (λ xs. IsArena xs names ranges items ts os) (sym a) h
 
-pub text_placed : (t : List ℕ) (rows more : Rows) (names : List pure.Text) (ranges : List Steps) (os : List Object) (r : Result Ref Fault) → Adds t rows more r → ObjectsLie (memory_of rows names ranges os) os → PlacesText t (memory_of rows names ranges os) (memory_of more names ranges os) r
-text_placed t rows more names ranges os (Ok r) a h =
-    let g = goes rows more names names ranges ranges os (texts_last rows more names ranges os a.1.grown) h in
-    let m = memory_of more names ranges os in
-    (a.0, record { denotes = str_is m t r a.1.text a.1.is; lies = str_lies m r a.1.text a.1.lies; extends = g.extends; store = g.store })
-text_placed t rows more names ranges os (Err (Raises c)) a h = (a.0, a.1, ap (λ xs. memory_of xs names ranges os) a.2)
-text_placed t rows more names ranges os (Err NoMemory) a h = ap (λ xs. memory_of xs names ranges os) a
+  pub text_placed : (r : Result Ref Fault) → Adds t rows more r → IsArena rows names ranges items ts os → PlacesText t (memory_of rows names ranges items ts os) (memory_of more names ranges items ts os) r
+  text_placed (Ok r) a h =
+      let g = keeps rows more names names ranges ranges items items ts os (texts_last rows more names ranges a.1.grown) (same_row items) h in
+      let m = memory_of more names ranges items ts os in
+      (a.0, record { denotes = str_is m t r a.1.text a.1.is; lies = str_lies m r a.1.text a.1.lies; extends = g.goes.extends; store = g.goes.store })
+  text_placed (Err (Raises c)) a h = (a.0, a.1, ap (λ xs. memory_of xs names ranges items ts os) a.2)
+  text_placed (Err NoMemory) a h = ap (λ xs. memory_of xs names ranges items ts os) a
 
 -- ---- bytes
 
@@ -99,6 +138,7 @@ bytes_are m t (value.Bytes c k) i n e = absurd i
 bytes_are m t (value.BuiltIn b) i n e = absurd i
 bytes_are m t (value.Function z x) i n e = absurd i
 bytes_are m t (value.Range p) i n e = absurd i
+bytes_are m t (value.Tuple p) i n e = absurd i
 bytes_are m t (value.Kind k) i n e = absurd i
 bytes_are m t (value.Object x) i n e = absurd i
 
@@ -115,20 +155,21 @@ bytes_lie m (value.Bytes c k) i n h = absurd i
 bytes_lie m (value.BuiltIn b) i n h = absurd i
 bytes_lie m (value.Function z x) i n h = absurd i
 bytes_lie m (value.Range p) i n h = absurd i
+bytes_lie m (value.Tuple p) i n h = absurd i
 bytes_lie m (value.Kind k) i n h = absurd i
 bytes_lie m (value.Object x) i n h = absurd i
 
-pub bytes_placed : (t : List ℕ) (rows more : Rows) (names : List pure.Text) (ranges : List Steps) (os : List Object) (r : Ref) → Adds t rows more (Ok r) → IsNarrow r → ObjectsLie (memory_of rows names ranges os) os
-    → PlacesBytes t (memory_of rows names ranges os) (memory_of more names ranges os) (Ok (bytes_of_text r))
-bytes_placed t rows more names ranges os r a n h =
-    let g = goes rows more names names ranges ranges os (texts_last rows more names ranges os a.1.grown) h in
-    let m = memory_of more names ranges os in
-    (a.0, record { denotes = bytes_are m t r a.1.text n a.1.is; lies = bytes_lie m r a.1.text n a.1.lies; extends = g.extends; store = g.store })
+module _ (t : List ℕ) (rows more : Rows) (names : List pure.Text) (ranges : List Steps) (items : List Ref) (ts : List Tuple) (os : List Object) where
+  pub bytes_placed : (r : Ref) → Adds t rows more (Ok r) → IsNarrow r → IsArena rows names ranges items ts os
+      → PlacesBytes t (memory_of rows names ranges items ts os) (memory_of more names ranges items ts os) (Ok (bytes_of_text r))
+  bytes_placed r a n h =
+      let g = keeps rows more names names ranges ranges items items ts os (texts_last rows more names ranges a.1.grown) (same_row items) h in
+      let m = memory_of more names ranges items ts os in
+      (a.0, record { denotes = bytes_are m t r a.1.text n a.1.is; lies = bytes_lie m r a.1.text n a.1.lies; extends = g.goes.extends; store = g.goes.store })
 
-pub bytes_refused : (t : List ℕ) (rows more : Rows) (names : List pure.Text) (ranges : List Steps) (os : List Object) (e : Fault) → Adds t rows more (Err e)
-    → PlacesBytes t (memory_of rows names ranges os) (memory_of more names ranges os) (Err e)
-bytes_refused t rows more names ranges os (Raises c) a = (a.0, a.1, ap (λ xs. memory_of xs names ranges os) a.2)
-bytes_refused t rows more names ranges os NoMemory a = ap (λ xs. memory_of xs names ranges os) a
+  pub bytes_refused : (e : Fault) → Adds t rows more (Err e) → PlacesBytes t (memory_of rows names ranges items ts os) (memory_of more names ranges items ts os) (Err e)
+  bytes_refused (Raises c) a = (a.0, a.1, ap (λ xs. memory_of xs names ranges items ts os) a.2)
+  bytes_refused NoMemory a = ap (λ xs. memory_of xs names ranges items ts os) a
 
 -- bytes lie where the text does that lies as they do
 pub bytes_text_lies : (m : Memory) (r : Ref) → Lies m r → TextLies m.texts (text_of_bytes r)
@@ -144,6 +185,7 @@ bytes_text_lies m (value.Wide c k) h = tt
 bytes_text_lies m (value.BuiltIn b) h = tt
 bytes_text_lies m (value.Function z x) h = tt
 bytes_text_lies m (value.Range p) h = tt
+bytes_text_lies m (value.Tuple p) h = tt
 bytes_text_lies m (value.Kind k) h = tt
 bytes_text_lies m (value.Object x) h = tt
 
@@ -160,40 +202,43 @@ bytes_text_narrow (value.Wide c k) = tt
 bytes_text_narrow (value.BuiltIn b) = tt
 bytes_text_narrow (value.Function z x) = tt
 bytes_text_narrow (value.Range p) = tt
+bytes_text_narrow (value.Tuple p) = tt
 bytes_text_narrow (value.Kind k) = tt
 bytes_text_narrow (value.Object x) = tt
 
 -- ---- ranges and names
 
-ranges_last : (rows : Rows) (names : List pure.Text) (ranges : List Steps) (s : Steps) (os : List Object) → Lasts (memory_of rows names ranges os) (memory_of rows names (ranges ++ s ∷ []) os)
-ranges_last rows names ranges s os = record { texts = grows_none rows; names = ([], sym (append-nil names)); ranges = (range_of s ∷ [], map_push range_of ranges s) }
+module _ (rows : Rows) (names : List pure.Text) (ranges : List Steps) (items : List Ref) (ts : List Tuple) (os : List Object) (h : IsArena rows names ranges items ts os) where
+  ranges_last : (s : Steps) → Grounded (base_of rows names ranges) (base_of rows names (ranges ++ s ∷ []))
+  ranges_last s = record { texts = grows_none rows; names = ([], sym (append-nil names)); ranges = (range_of s ∷ [], map_push range_of ranges s) }
 
-pub range_kept : (rows : Rows) (names : List pure.Text) (ranges : List Steps) (s : Steps) (os : List Object) → ObjectsLie (memory_of rows names ranges os) os → ObjectsLie (memory_of rows names (ranges ++ s ∷ []) os) os
-range_kept rows names ranges s os h = (goes rows rows names names ranges (ranges ++ s ∷ []) os (ranges_last rows names ranges s os) h).lie
+  pub range_kept : (s : Steps) → IsArena rows names (ranges ++ s ∷ []) items ts os
+  range_kept s = arena_kept rows rows names names ranges (ranges ++ s ∷ []) items items ts os (ranges_last s) (same_row items) h
 
-pub range_placed : (rows : Rows) (names : List pure.Text) (ranges : List Steps) (s : Steps) (os : List Object) (n : ℕ) → n ≡ length ranges → ObjectsLie (memory_of rows names ranges os) os → Placed (memory_of rows names ranges os) (range_of s) (value.Range n) (memory_of rows names (ranges ++ s ∷ []) os)
-range_placed rows names ranges s os n e h =
-    let g = goes rows rows names names ranges (ranges ++ s ∷ []) os (ranges_last rows names ranges s os) h in
-    let l : length (map range_of ranges) ≡ n = length-map ranges range_of ∙ sym e in
-    let m : map range_of (ranges ++ s ∷ []) ≡ map range_of ranges ++ range_of s ∷ [] = map_push range_of ranges s in record {
-      denotes = ap (λ xs. get_or xs n pure.Nothing) m ∙ get_or_push (map range_of ranges) (range_of s) pure.Nothing n l;
-      lies = omega (arith, ap length m, length_push (map range_of ranges) (range_of s), l);
-      extends = g.extends;
-      store = g.store;
-    }
+  pub range_placed : (s : Steps) (n : ℕ) → n ≡ length ranges → Placed (memory_of rows names ranges items ts os) (range_of s) (value.Range n) (memory_of rows names (ranges ++ s ∷ []) items ts os)
+  range_placed s n e =
+      let g = keeps rows rows names names ranges (ranges ++ s ∷ []) items items ts os (ranges_last s) (same_row items) h in
+      let l : length (map range_of ranges) ≡ n = length-map ranges range_of ∙ sym e in
+      let m : map range_of (ranges ++ s ∷ []) ≡ map range_of ranges ++ range_of s ∷ [] = map_push range_of ranges s in record {
+        denotes = ap (λ xs. get_or xs n pure.Nothing) m ∙ get_or_push (map range_of ranges) (range_of s) pure.Nothing n l;
+        lies = omega (arith, ap length m, length_push (map range_of ranges) (range_of s), l);
+        extends = g.goes.extends;
+        store = g.goes.store;
+      }
 
-names_last : (rows : Rows) (names : List pure.Text) (x : pure.Text) (ranges : List Steps) (os : List Object) → Lasts (memory_of rows names ranges os) (memory_of rows (names ++ x ∷ []) ranges os)
-names_last rows names x ranges os = record { texts = grows_none rows; names = (x ∷ [], refl); ranges = ([], sym (append-nil (map range_of ranges))) }
+  names_last : (x : pure.Text) → Grounded (base_of rows names ranges) (base_of rows (names ++ x ∷ []) ranges)
+  names_last x = record { texts = grows_none rows; names = (x ∷ [], refl); ranges = ([], sym (append-nil (map range_of ranges))) }
 
-pub name_kept : (rows : Rows) (names : List pure.Text) (x : pure.Text) (ranges : List Steps) (os : List Object) → ObjectsLie (memory_of rows names ranges os) os → ObjectsLie (memory_of rows (names ++ x ∷ []) ranges os) os
-name_kept rows names x ranges os h = (goes rows rows names (names ++ x ∷ []) ranges ranges os (names_last rows names x ranges os) h).lie
+  pub name_kept : (x : pure.Text) → IsArena rows (names ++ x ∷ []) ranges items ts os
+  name_kept x = arena_kept rows rows names (names ++ x ∷ []) ranges ranges items items ts os (names_last x) (same_row items) h
 
-pub name_added : (rows : Rows) (names : List pure.Text) (x : pure.Text) (ranges : List Steps) (os : List Object) (n : ℕ) → n ≡ length names → ObjectsLie (memory_of rows names ranges os) os → IsNamed x (memory_of rows names ranges os) (memory_of rows (names ++ x ∷ []) ranges os) n
-name_added rows names x ranges os n e h =
-    let g = goes rows rows names (names ++ x ∷ []) ranges ranges os (names_last rows names x ranges os) h in record {
-      number = e;
-      memory = ap (λ s. record (grounds_of rows (names ++ x ∷ []) ranges) { store = s }) g.store;
-    }
+  pub name_added : (x : pure.Text) (n : ℕ) → n ≡ length names → IsNamed x (memory_of rows names ranges items ts os) (memory_of rows (names ++ x ∷ []) ranges items ts os) n
+  name_added x n e =
+      let g = keeps rows rows names (names ++ x ∷ []) ranges ranges items items ts os (names_last x) (same_row items) h in
+      let b = base_of rows (names ++ x ∷ []) ranges in record {
+        number = e;
+        memory = ap (λ s. record b { tuples = table b items [] ts; store = s }) g.goes.store ∙ ap (λ vs. record b { tuples = vs; store = map (object_of (grounds_of rows names ranges items ts)) os }) g.tuples;
+      }
 
 -- ---- objects
 
@@ -201,18 +246,133 @@ objects_push : (m : Memory) (os : List Object) (o : Object) → ObjectsLie m os 
 objects_push m [] o h k = (k, tt)
 objects_push m (q ∷ os) o h k = (h.0, objects_push m os o h.1 k)
 
-pub object_kept : (rows : Rows) (names : List pure.Text) (ranges : List Steps) (os : List Object) (o : Object) → ObjectsLie (memory_of rows names ranges os) os → ObjectLies (memory_of rows names ranges os) o → ObjectsLie (memory_of rows names ranges (os ++ o ∷ [])) (os ++ o ∷ [])
-object_kept rows names ranges os o h k =
-    let m = memory_of rows names ranges (os ++ o ∷ []) in
-    let f = object_of (grounds_of rows names ranges) in
-    let e : Extends (memory_of rows names ranges os) m = record {
-      lasts = record { texts = grows_none rows; names = ([], sym (append-nil names)); ranges = ([], sym (append-nil (map range_of ranges))) };
-      objects = omega (arith, length-map os f, length-map (os ++ o ∷ []) f, length_push os o);
-    } in
-    objects_push m os o (objects_lie-extends os e h) (object_lies-extends o e k)
+grounded_same : (rows : Rows) (names : List pure.Text) (ranges : List Steps) → Grounded (base_of rows names ranges) (base_of rows names ranges)
+grounded_same rows names ranges = record { texts = grows_none rows; names = ([], sym (append-nil names)); ranges = ([], sym (append-nil (map range_of ranges))) }
+
+pub object_kept : (rows : Rows) (names : List pure.Text) (ranges : List Steps) (items : List Ref) (ts : List Tuple) (os : List Object) (o : Object) → IsArena rows names ranges items ts os → ObjectLies (memory_of rows names ranges items ts os) o → IsArena rows names ranges items ts (os ++ o ∷ [])
+object_kept rows names ranges items ts os o h k =
+    let m = memory_of rows names ranges items ts (os ++ o ∷ []) in
+    let g = grounds_of rows names ranges items ts in
+    let f = object_of g in
+    let longer : length (map f os) ≤ length (map f (os ++ o ∷ [])) = omega (arith, length-map os f, length-map (os ++ o ∷ []) f, length_push os o) in
+    let e : Extends (memory_of rows names ranges items ts os) m = record {
+      lasts = record { texts = grows_none rows; names = ([], sym (append-nil names)); ranges = ([], sym (append-nil (map range_of ranges))); tuples = ([], sym (append-nil g.tuples)) };
+      objects = longer;
+    } in record {
+      tuples = tuples_lie-last (map f os) (map f (os ++ o ∷ [])) (grounded_same rows names ranges) longer items items (same_row items) [] ts h.tuples;
+      objects = objects_push m os o (objects_lie-extends os e h.objects) (object_lies-extends o e k);
+    }
 
 -- the object at an address
 pub object_at : (m : Memory) (os : List Object) (x : ℕ) (o : Object) → ObjectsLie m os → x < length os → o ≡ get_or os x o → ObjectLies m o
 object_at m [] x o h lt e = absurd (omega arith)
 object_at m (q ∷ os) zero o h lt e = subst (ObjectLies m) (sym e) h.0
 object_at m (q ∷ os) (suc x) o h lt e = object_at m os x o h.1 (omega arith) e
+
+-- ---- tuples
+
+module _ (rows : Rows) (names : List pure.Text) (ranges : List Steps) (items : List Ref) (ts : List Tuple) (os : List Object) (h : IsArena rows names ranges items ts os) where
+  -- a tuple by its place
+  pub tuple_shown : (x : ℕ) → x < length (grounds_of rows names ranges items ts).tuples → Shown (memory_of rows names ranges items ts os).store (memory_of rows names ranges items ts os) items (get_or (grounds_of rows names ranges items ts).tuples x pure.Nothing) (tuple_in (record { items = items; tuples = ts }) x)
+  tuple_shown x lt =
+      let b = base_of rows names ranges in
+      let m = memory_of rows names ranges items ts os in
+      let all = table b items [] ts in
+      let few : length all ≡ length ts = length-table b items [] ts ∙ omega arith in
+      let t = tuple_in (record { items = items; tuples = ts }) x in
+      let there : t ≡ get_or ts x t = default_same ts x (tuple_in (record { items = []; tuples = [] }) 0) t (omega (arith, few, lt)) in
+      let z : 0 + x ≡ x = omega arith in
+      let s = subst (λ n. Shown m.store (with_tuples all b) items (get_or all n pure.Nothing) t) z (table_at m.store b items [] ts x t h.tuples (omega (arith, few, lt)) there) in record {
+        within = s.within;
+        lie = s.lie;
+        is = s.is ∙ ap pure.tuple_of (sym (all-bare m.store (with_tuples all b) (items_at items t)));
+        values = s.values;
+        levels = s.levels;
+      }
+
+  -- a tuple more
+  module _ (xs : List Ref) (size : Size) (lie : AllLie (memory_of rows names ranges items ts os) xs) (values : size.values ≡ count_of (pure.tuple_of (all_of (memory_of rows names ranges items ts os) xs))) (levels : size.levels ≡ levels_of (pure.tuple_of (all_of (memory_of rows names ranges items ts os) xs))) where
+    row_more : (more : List Ref) × (items ++ xs ≡ items ++ more)
+    row_more = (xs, refl)
+
+    abbrev pushed : Tuple
+    pushed = record { start = length items; length = length xs; size = size }
+
+    own_items : items_at (items ++ xs) pushed ≡ xs
+    own_items = ap (take (length xs)) (drop_at items xs (length items) refl) ∙ take_all (length xs) xs (omega arith)
+
+    mid : Kept (memory_of rows names ranges items ts os) (memory_of rows names ranges (items ++ xs) ts os) os
+    mid = keeps rows rows names names ranges ranges items (items ++ xs) ts os (grounded_same rows names ranges) row_more h
+
+    mid_arena : IsArena rows names ranges (items ++ xs) ts os
+    mid_arena = arena_kept rows rows names names ranges ranges items (items ++ xs) ts os (grounded_same rows names ranges) row_more h
+
+    denoted : tuple_at (grounds_of rows names ranges (items ++ xs) ts) (items ++ xs) pushed ≡ pure.tuple_of (all_of (memory_of rows names ranges items ts os) xs)
+    denoted =
+        let m = memory_of rows names ranges (items ++ xs) ts os in
+        let g = grounds_of rows names ranges (items ++ xs) ts in
+        ap pure.tuple_of (ap (all_of g) own_items ∙ sym (all-bare m.store g xs) ∙ all-lasts xs mid.goes.extends.lasts lie)
+
+    pushed_lies : TupleLies (memory_of rows names ranges (items ++ xs) ts os).store (grounds_of rows names ranges (items ++ xs) ts) (items ++ xs) pushed
+    pushed_lies = record {
+      within = omega (arith, length-append items xs);
+      lie = subst (AllLie (memory_of rows names ranges (items ++ xs) ts os)) (sym own_items) (all_lie-extends xs mid.goes.extends lie);
+      values = values ∙ ap count_of (sym denoted);
+      levels = levels ∙ ap levels_of (sym denoted);
+    }
+
+    new_tuples : table (base_of rows names ranges) (items ++ xs) [] (ts ++ pushed ∷ []) ≡ table (base_of rows names ranges) (items ++ xs) [] ts ++ tuple_at (grounds_of rows names ranges (items ++ xs) ts) (items ++ xs) pushed ∷ []
+    new_tuples = table_push (base_of rows names ranges) (items ++ xs) [] ts pushed
+
+    after : Goes (memory_of rows names ranges (items ++ xs) ts os) (memory_of rows names ranges (items ++ xs) (ts ++ pushed ∷ []) os) os
+    after =
+        let v = tuple_at (grounds_of rows names ranges (items ++ xs) ts) (items ++ xs) pushed in
+        let l : Lasts (memory_of rows names ranges (items ++ xs) ts os) (memory_of rows names ranges (items ++ xs) (ts ++ pushed ∷ []) os) = record {
+          texts = grows_none rows;
+          names = ([], sym (append-nil names));
+          ranges = ([], sym (append-nil (map range_of ranges)));
+          tuples = (v ∷ [], new_tuples);
+        } in
+        goes rows rows names names ranges ranges (items ++ xs) (items ++ xs) ts (ts ++ pushed ∷ []) os l mid_arena.objects
+
+    pub tuple_kept : IsArena rows names ranges (items ++ xs) (ts ++ record { start = length items; length = length xs; size = size } ∷ []) os
+    tuple_kept = record {
+      tuples = subst (λ s. TuplesLie s (base_of rows names ranges) (items ++ xs) [] (ts ++ pushed ∷ [])) (sym after.store)
+          (tuples_lie-push (memory_of rows names ranges (items ++ xs) ts os).store (base_of rows names ranges) (items ++ xs) [] ts pushed mid_arena.tuples pushed_lies);
+      objects = after.lie;
+    }
+
+    pub tuple_placed : (place : ℕ) → place ≡ length ts → Placed (memory_of rows names ranges items ts os) (pure.tuple_of (all_of (memory_of rows names ranges items ts os) xs)) (value.Tuple place) (memory_of rows names ranges (items ++ xs) (ts ++ record { start = length items; length = length xs; size = size } ∷ []) os)
+    tuple_placed place e =
+        let b = base_of rows names ranges in
+        let all = table b (items ++ xs) [] ts in
+        let v = tuple_at (grounds_of rows names ranges (items ++ xs) ts) (items ++ xs) pushed in
+        let few : length all ≡ place = length-table b (items ++ xs) [] ts ∙ omega (arith, e) in record {
+          denotes = ap (λ vs. get_or vs place pure.Nothing) new_tuples ∙ get_or_push all v pure.Nothing place few ∙ denoted;
+          lies = omega (arith, ap length new_tuples, length_push all v, few);
+          extends = extends_more mid.goes.extends after.extends;
+          store = after.store ∙ mid.goes.store;
+        }
+
+-- what is known of the tuple at a place
+pub record TupleAt (m : Memory) (items : List Ref) (ts : List Tuple) (x : ℕ) : Type 0 where
+  pub there : x < length ts
+  pub within : (tuple_in (record { items = items; tuples = ts }) x).start + (tuple_in (record { items = items; tuples = ts }) x).length ≤ length items
+  pub lie : AllLie m (items_at items (tuple_in (record { items = items; tuples = ts }) x))
+  pub is : pure.tuple_of (all_of m (items_at items (tuple_in (record { items = items; tuples = ts }) x))) ≡ get_or m.tuples x pure.Nothing
+  pub values : (tuple_in (record { items = items; tuples = ts }) x).size.values ≡ count_of (get_or m.tuples x pure.Nothing)
+  pub levels : (tuple_in (record { items = items; tuples = ts }) x).size.levels ≡ levels_of (get_or m.tuples x pure.Nothing)
+
+tuple_here : (rows : Rows) (names : List pure.Text) (ranges : List Steps) (items : List Ref) (ts : List Tuple) (os : List Object) → IsArena rows names ranges items ts os → (x : ℕ) → x < length (memory_of rows names ranges items ts os).tuples → TupleAt (memory_of rows names ranges items ts os) items ts x
+tuple_here rows names ranges items ts os h x lt =
+    let s = tuple_shown rows names ranges items ts os h x lt in record {
+      there = omega (arith, lt, length-table (base_of rows names ranges) items [] ts);
+      within = s.within;
+      lie = s.lie;
+      is = sym s.is;
+      values = s.values;
+      levels = s.levels;
+    }
+
+pub tuple_view : (m : Memory) (rows : Rows) (names : List pure.Text) (ranges : List Steps) (items : List Ref) (ts : List Tuple) (os : List Object) → memory_of rows names ranges items ts os ≡ m → IsArena rows names ranges items ts os → (x : ℕ) → x < length m.tuples → TupleAt m items ts x
+tuple_view m rows names ranges items ts os e h x lt = subst (λ n. x < length n.tuples → TupleAt n items ts x) e (tuple_here rows names ranges items ts os h x) lt

@@ -16,7 +16,7 @@ use Rattle.si_arena.proofs.Rows.{text-grows, text_lies-grows, grows_none}
 -- ---- an arena goes on
 
 pub lasts_same : (m : Memory) → Lasts m m
-lasts_same m = record { texts = grows_none m.texts; names = ([], sym (append-nil m.names)); ranges = ([], sym (append-nil m.ranges)) }
+lasts_same m = record { texts = grows_none m.texts; names = ([], sym (append-nil m.names)); ranges = ([], sym (append-nil m.ranges)); tuples = ([], sym (append-nil m.tuples)) }
 
 pub extends_same : (m : Memory) → Extends m m
 extends_same m = record { lasts = lasts_same m; objects = omega arith }
@@ -33,6 +33,7 @@ extends_more {a = a} {b = b} {c = c} p q = record {
     };
     names = more_more a.names b.names c.names p.lasts.names q.lasts.names;
     ranges = more_more a.ranges b.ranges c.ranges p.lasts.ranges q.lasts.ranges;
+    tuples = more_more a.tuples b.tuples c.tuples p.lasts.tuples q.lasts.tuples;
   };
   objects = omega (arith, p.objects, q.objects);
 }
@@ -54,6 +55,7 @@ value-lasts (value.BuiltIn b) e h = refl
 value-lasts {old = old} {new = new} (value.Function n x) e h =
     ap (λ t. pure.Function t n) (ap (λ xs. get_or xs x []) e.names.1 ∙ get_or_append_left old.names e.names.0 [] x h)
 value-lasts {old = old} {new = new} (value.Range p) e h = ap (λ xs. get_or xs p pure.Nothing) e.ranges.1 ∙ get_or_append_left old.ranges e.ranges.0 pure.Nothing p h
+value-lasts {old = old} {new = new} (value.Tuple p) e h = ap (λ xs. get_or xs p pure.Nothing) e.tuples.1 ∙ get_or_append_left old.tuples e.tuples.0 pure.Nothing p h
 value-lasts (value.Kind k) e h = refl
 value-lasts (value.Object x) e h = refl
 
@@ -71,6 +73,7 @@ lies-extends {old = old} {new = new} (value.Bytes n i) e h = text_lies-grows old
 lies-extends (value.BuiltIn b) e h = h
 lies-extends {old = old} {new = new} (value.Function n x) e h = omega (arith, h, ap length e.lasts.names.1, length-append old.names e.lasts.names.0)
 lies-extends {old = old} {new = new} (value.Range p) e h = omega (arith, h, ap length e.lasts.ranges.1, length-append old.ranges e.lasts.ranges.0)
+lies-extends {old = old} {new = new} (value.Tuple p) e h = omega (arith, h, ap length e.lasts.tuples.1, length-append old.tuples e.lasts.tuples.0)
 lies-extends (value.Kind k) e h = h
 lies-extends {old = old} {new = new} (value.Object x) e h = omega (arith, h, e.objects)
 
@@ -88,6 +91,7 @@ bound-lasts (value.Bytes n i) e h = ap (λ v. Some v) (value-lasts (value.Bytes 
 bound-lasts (value.BuiltIn b) e h = refl
 bound-lasts (value.Function n x) e h = ap (λ v. Some v) (value-lasts (value.Function n x) e h)
 bound-lasts (value.Range p) e h = ap (λ v. Some v) (value-lasts (value.Range p) e h)
+bound-lasts (value.Tuple p) e h = ap (λ v. Some v) (value-lasts (value.Tuple p) e h)
 bound-lasts (value.Kind k) e h = refl
 bound-lasts (value.Object x) e h = refl
 
@@ -104,6 +108,7 @@ holds-extends (value.Bytes n i) e h = lies-extends (value.Bytes n i) e h
 holds-extends (value.BuiltIn b) e h = h
 holds-extends (value.Function n x) e h = lies-extends (value.Function n x) e h
 holds-extends (value.Range p) e h = lies-extends (value.Range p) e h
+holds-extends (value.Tuple p) e h = lies-extends (value.Tuple p) e h
 holds-extends (value.Kind k) e h = h
 holds-extends (value.Object x) e h = lies-extends (value.Object x) e h
 
@@ -178,6 +183,7 @@ extends_named {old = old} {new = new} {x = x} p = record {
     };
     names = (x ∷ [], ap (λ (m : Memory). m.names) p.memory);
     ranges = ([], ap (λ (m : Memory). m.ranges) p.memory ∙ sym (append-nil old.ranges));
+    tuples = ([], ap (λ (m : Memory). m.tuples) p.memory ∙ sym (append-nil old.tuples));
   };
   objects = omega (arith, ap (λ (m : Memory). length m.store) p.memory);
 }
@@ -192,6 +198,7 @@ extends_made {old = old} {new = new} {o = o} p = record {
     };
     names = ([], ap (λ (m : Memory). m.names) p.memory ∙ sym (append-nil old.names));
     ranges = ([], ap (λ (m : Memory). m.ranges) p.memory ∙ sym (append-nil old.ranges));
+    tuples = ([], ap (λ (m : Memory). m.tuples) p.memory ∙ sym (append-nil old.tuples));
   };
   objects = omega (arith, ap (λ (m : Memory). length m.store) p.memory, length-append old.store (o ∷ []));
 }

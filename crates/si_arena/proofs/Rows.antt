@@ -26,6 +26,7 @@ text-grows old new (value.Bytes n i) g h = refl
 text-grows old new (value.BuiltIn b) g h = refl
 text-grows old new (value.Function n m) g h = refl
 text-grows old new (value.Range p) g h = refl
+text-grows old new (value.Tuple p) g h = refl
 text-grows old new (value.Kind k) g h = refl
 text-grows old new (value.Object x) g h = refl
 
@@ -42,6 +43,7 @@ text_lies-grows old new (value.Bytes n i) g h = h
 text_lies-grows old new (value.BuiltIn b) g h = h
 text_lies-grows old new (value.Function n m) g h = h
 text_lies-grows old new (value.Range p) g h = h
+text_lies-grows old new (value.Tuple p) g h = h
 text_lies-grows old new (value.Kind k) g h = h
 text_lies-grows old new (value.Object x) g h = h
 

@@ -3,5 +3,7 @@ pub mod Texts
 pub mod Bytes
 pub mod Causes
 pub mod Memory
+pub mod Tuples
+pub mod Arenas
 pub mod Views
 pub mod Objects

@@ -1,7 +1,8 @@
 -- What an arena stands for, and what a value that lies in it denotes.
-use Rattle.std.specs.Prelude.{◌≡◌, ℕ, ◌<◌, ◌≤◌, List, [], ◌∷◌, ◌++◌, map, length, get_or, Option, Some, None, Result, Ok, Err}
+use Rattle.std.specs.Prelude.{◌≡◌, ℕ, ◌<◌, ◌≤◌, List, [], ◌∷◌, ◌++◌, map, length, get_or, true, false, Option, Some, None, Result, Ok, Err}
 use Rattle.si_semantics.specs.Value as pure
 use Rattle.si_semantics.specs.Text.{max_length}
+use Rattle.si_semantics.specs.Tuples.{is_too_large}
 use Rattle.si_arena.specs.declared.value.BuiltIn.{BuiltIn}
 use Rattle.si_arena.specs.declared.value.BuiltIn.TheVariants as built
 use Rattle.si_arena.specs.declared.value.Ref.{Ref}
@@ -15,11 +16,12 @@ use Rattle.si_arena.specs.declared.cause.Cause.TheVariants.{TooLong}
 use Rattle.si_arena.specs.Texts.{Rows, text_of, TextLies, Grows}
 use Rattle.si_arena.specs.Causes.{kind_of, message_of, name_at, CauseLies}
 
--- the texts, the names, what the place of each range denotes, and the objects by their addresses
+-- the texts, the names, what the places of ranges and of tuples denote, and the objects by their addresses
 pub record Memory : Type 0 where
   pub texts : Rows
   pub names : List pure.Text
   pub ranges : List pure.Value
+  pub tuples : List pure.Value
   pub store : List pure.Object
 
 abbrev pub built_in_of : BuiltIn → pure.BuiltIn
@@ -36,6 +38,7 @@ built_in_of built.Chr = pure.Chr
 built_in_of built.Min = pure.Min
 built_in_of built.Max = pure.Max
 built_in_of built.Bytes = pure.MakeBytes
+built_in_of built.Tuple = pure.MakeTuple
 
 -- what a value denotes; of what denotes none, None
 abbrev pub value_of : Memory → Ref → pure.Value
@@ -51,6 +54,7 @@ value_of m (value.Bytes count start) = pure.Bytes (text_of m.texts (value.Narrow
 value_of m (value.BuiltIn b) = pure.Provided (built_in_of b)
 value_of m (value.Function number name) = pure.Function (name_at m.names name) number
 value_of m (value.Range place) = get_or m.ranges place pure.Nothing
+value_of m (value.Tuple place) = get_or m.tuples place pure.Nothing
 value_of m (value.Kind k) = pure.Class k
 value_of m (value.Object x) = pure.Address x
 
@@ -71,6 +75,7 @@ Lies m (value.Wide count start) = TextLies m.texts (value.Wide count start)
 Lies m (value.Bytes count start) = TextLies m.texts (value.Narrow count start)
 Lies m (value.Function number name) = name < length m.names
 Lies m (value.Range place) = place < length m.ranges
+Lies m (value.Tuple place) = place < length m.tuples
 Lies m (value.Object x) = x < length m.store
 Lies m _ = Unit {0}
 
@@ -104,20 +109,14 @@ abbrev pub ObjectsLie : Memory → List Object → Type 0
 ObjectsLie m [] = Unit {0}
 ObjectsLie m (o ∷ os) = ObjectLies m o × ObjectsLie m os
 
--- what stands in an arena without its objects, and these
-abbrev pub grounds_of : Rows → List pure.Text → List Steps → Memory
-grounds_of rows names ranges = record { texts = rows; names = names; ranges = map range_of ranges; store = [] }
-
-abbrev pub memory_of : Rows → List pure.Text → List Steps → List Object → Memory
-memory_of rows names ranges os = record (grounds_of rows names ranges) { store = map (object_of (grounds_of rows names ranges)) os }
-
 -- ---- the words of contracts
 
--- texts, names and ranges go on: those that were there are as they were
+-- texts, names, ranges and tuples go on: those that were there are as they were
 pub record Lasts (old new : Memory) : Type 0 where
   pub texts : Grows old.texts new.texts
   pub names : (more : List pure.Text) × (new.names ≡ old.names ++ more)
   pub ranges : (more : List pure.Value) × (new.ranges ≡ old.ranges ++ more)
+  pub tuples : (more : List pure.Value) × (new.tuples ≡ old.tuples ++ more)
 
 -- an arena goes on, with as many objects or more: what lies in it lies in it still, and denotes the same
 -- (`proofs/Lying.antt`)
@@ -143,6 +142,12 @@ abbrev pub PlacesBytes : List ℕ → Memory → Memory → Result Ref Fault →
 PlacesBytes bs old new (Ok r) = (length bs ≤ max_length) × Placed old (pure.Bytes bs) r new
 PlacesBytes bs old new (Err (Raises cause)) = (max_length < length bs) × (cause ≡ TooLong) × (new ≡ old)
 PlacesBytes bs old new (Err NoMemory) = new ≡ old
+
+-- a tuple of these items is placed, unless it is too large or memory is refused: then the arena is as it was
+abbrev pub PlacesTuple : List pure.Value → Memory → Memory → Result Ref Fault → Type 0
+PlacesTuple vs old new (Ok r) = (is_too_large (pure.tuple_of vs) ≡ false) × Placed old (pure.tuple_of vs) r new
+PlacesTuple vs old new (Err (Raises cause)) = (is_too_large (pure.tuple_of vs) ≡ true) × (cause ≡ TooLong) × (new ≡ old)
+PlacesTuple vs old new (Err NoMemory) = new ≡ old
 
 -- a name has the next number, and nothing else is changed
 pub record IsNamed (x : pure.Text) (old new : Memory) (place : ℕ) : Type 0 where

@@ -6,50 +6,61 @@ ghost use Rattle.si_semantics.specs.Value as pure;
 ghost use Rattle.si_arena.specs.Short.{FitsShort};
 ghost use Rattle.si_arena.specs.Texts.{IsNarrow, GoesOn, size_of, text_of, repeated_text};
 ghost use Rattle.si_arena.specs.Causes.{name_at};
-ghost use Rattle.si_arena.specs.Memory.{value_of, range_of, object_of, ObjectLies, Lies, Placed, PlacesText, PlacesBytes, IsNamed, IsMade};
+ghost use Rattle.si_semantics.specs.Tuples.{count_of, levels_of};
 ghost use Rattle.si_arena.specs.Bytes.{bytes_of, text_of_bytes};
+ghost use Rattle.si_arena.specs.Tuples.{Measures};
+ghost use Rattle.si_arena.specs.Memory.{value_of, all_of, range_of, object_of, ObjectLies, Lies, AllLie, Placed, PlacesText, PlacesBytes, PlacesTuple, IsNamed, IsMade};
 ghost use Rattle.si_arena.specs.Views.{value_in};
 
 use crate::bytes::{bytes_of_text, text_of_bytes};
 use crate::cause::{Cause, Fault};
 use crate::object::{Object, Steps};
 use crate::texts::Texts;
+use crate::tuples::{Size, Tuples};
 use crate::value::Ref;
 use crate::view::View;
+use si_plain::limits::{MAX_TUPLE_LEVELS, MAX_TUPLE_VALUES};
 use si_plain::{NoMemory, Text};
 use std::alloc::Global;
 use std::marker::Model;
 
-/// What the scripts of one interpreter hold: texts, names, ranges and objects.
+/// What the scripts of one interpreter hold: texts, names, ranges, tuples and objects.
 #[derive(Drop)]
 pub struct Arena {
     alloc: Global,
     texts: Texts,
     names: Vec<Text>,
     ranges: Vec<Steps>,
+    tuples: Tuples,
     objects: Vec<Object>,
 }
 
 impl Model for Arena {
-    ghost use Rattle.si_arena.specs.Memory.{Memory, memory_of, grounds_of, ObjectsLie};
+    ghost use Rattle.si_arena.specs.Memory.{Memory};
+    ghost use Rattle.si_arena.specs.Arenas.{memory_of, IsArena};
+    ghost use Rattle.std.specs.Coded.{codes};
+    ghost use Rattle.si_semantics.specs.Code.{value_code};
 
     ghost Value = { Memory };
 
-    ghost view = { λ a. memory_of a.texts a.names.items a.ranges.items a.objects.items };
+    ghost coded = { Prim.hlevel (codes, value_code) };
 
-    ghost invariant = { λ a. ObjectsLie (memory_of a.texts a.names.items a.ranges.items a.objects.items) a.objects.items };
+    ghost view = { λ a. memory_of a.texts a.names.items a.ranges.items a.tuples.items a.tuples.tuples a.objects.items };
+
+    ghost invariant = { λ a. IsArena a.texts a.names.items a.ranges.items a.tuples.items a.tuples.tuples a.objects.items };
 }
 
 impl Arena {
     /// An arena that holds nothing.
     pub fn new(alloc: Global) -> Arena
-        ensures { result ≡ record { texts = record { narrow = []; wide = [] }; names = []; ranges = []; store = [] } }
+        ensures { result ≡ record { texts = record { narrow = []; wide = [] }; names = []; ranges = []; tuples = []; store = [] } }
     {
         Arena {
             alloc,
             texts: Texts::new(alloc),
             names: Vec::new(alloc),
             ranges: Vec::new(alloc),
+            tuples: Tuples::new(alloc),
             objects: Vec::new(alloc),
         }
     }
@@ -144,6 +155,58 @@ impl Arena {
         Ok(Ref::Range(place))
     }
 
+    /// A tuple of these items (Python Language Reference 3.14, 3.2.5.1). `TooLong` where it is more than 65,536 values, or
+    /// more than 200 levels deep; unchanged where it is refused.
+    pub fn place_tuple(&mut self, items: &[Ref]) -> Result<Ref, Fault>
+        requires { AllLie self.old items.now }
+        ensures { PlacesTuple (all_of self.old items.now) self.old self.new result }
+    {
+        let Some(size) = self.size_of_all(items) else {
+            return Err(Fault::Raises(Cause::TooLong));
+        };
+        let place = self.tuples.push(items, size)?;
+        Ok(Ref::Tuple(place))
+    }
+
+    // How large a tuple of these items is, where it is not too large.
+    fn size_of_all(&self, items: &[Ref]) -> Option<Size>
+        requires { AllLie self.now items.now }
+        ensures { Measures (pure.tuple_of (all_of self.now items.now)) result }
+    {
+        let mut values = 1;
+        let mut levels = 0;
+        for i in 0..items.len() {
+            let more = self.size(items[i]);
+            if more.values > MAX_TUPLE_VALUES - values {
+                return None;
+            }
+            values += more.values;
+            levels = more.levels.max(levels);
+        }
+        if levels >= MAX_TUPLE_LEVELS {
+            return None;
+        }
+        Some(Size {
+            values,
+            levels: levels + 1,
+        })
+    }
+
+    /// How large a value is.
+    pub fn size(&self, value: Ref) -> Size
+        requires { Lies self.now value }
+        ensures values { result.values ≡ count_of (value_of self.now value) }
+        ensures levels { result.levels ≡ levels_of (value_of self.now value) }
+    {
+        match value {
+            Ref::Tuple(place) => self.tuples.size(place),
+            _ => Size {
+                values: 1,
+                levels: 0,
+            },
+        }
+    }
+
     /// A name, by which functions and causes are named, and its number; unchanged where memory is refused.
     pub fn add_name(&mut self, name: &str) -> Result<usize, NoMemory>
         ensures ok { IfOk result (λ number. IsNamed (characters_of name.now) self.old self.new number) }
@@ -170,9 +233,9 @@ impl Arena {
 impl Arena {
     ghost use Rattle.std.specs.Prelude.{◌≡◌, ◌<◌, length, get_or, slice_get, Some, IfOk};
     ghost use Rattle.si_arena.specs.Causes.{name_at, message_of, CauseLies};
-    ghost use Rattle.si_arena.specs.Memory.{value_of, range_of, object_of, ObjectLies, Lies};
+    ghost use Rattle.si_arena.specs.Memory.{value_of, all_of, range_of, object_of, ObjectLies, Lies, AllLie};
     ghost use Rattle.si_arena.specs.Bytes.{bytes_of};
-    ghost use Rattle.si_arena.specs.Views.{value_in, ShowsText};
+    ghost use Rattle.si_arena.specs.Views.{value_in, ShowsText, PartsLie};
 
     /// The bytes that a value is; none of what is no bytes.
     pub fn bytes<'a>(&'a self, value: &'a Ref) -> &'a [u8]
@@ -194,8 +257,9 @@ impl Arena {
     /// What a value is.
     pub fn view<'a>(&'a self, value: &'a Ref) -> View<'a>
         requires { Lies self.now value.now }
-        ensures value { value_in result ≡ value_of self.now value.now }
+        ensures value { value_in self.now result ≡ value_of self.now value.now }
         ensures text { ShowsText result value.now }
+        ensures parts { PartsLie self.now result }
     {
         match value {
             Ref::Unbound => unreachable!(),
@@ -210,6 +274,7 @@ impl Arena {
             Ref::BuiltIn(built_in) => View::BuiltIn(*built_in),
             Ref::Function { number, name } => View::Function(*number, &self.names[*name]),
             Ref::Range(place) => View::Range(&self.ranges[*place]),
+            Ref::Tuple(place) => View::Tuple(self.tuples.items(*place)),
             Ref::Kind(kind) => View::Kind(*kind),
             Ref::Object(address) => View::Object(*address),
         }
@@ -221,6 +286,15 @@ impl Arena {
         ensures { range_of result.now ≡ get_or self.now.ranges place pure.Nothing }
     {
         &self.ranges[place]
+    }
+
+    /// The items of the tuple at a place.
+    pub fn tuple(&self, place: usize) -> &[Ref]
+        requires { place < length self.now.tuples }
+        ensures tuple { pure.tuple_of (all_of self.now result.now) ≡ get_or self.now.tuples place pure.Nothing }
+        ensures lie { AllLie self.now result.now }
+    {
+        self.tuples.items(place)
     }
 
     /// The object at an address.
@@ -305,6 +379,25 @@ mod tests {
             _ => false,
         };
         assert!(rt; refused);
+        Ok(())
+    }
+
+    #[test]
+    fn a_tuple_holds_its_items(rt: HostRuntime) -> Result<(), Fail> {
+        let mut arena = Arena::new(rt.alloc());
+        let Ok(empty) = arena.place_tuple(&[]) else {
+            return Ok(());
+        };
+        let Ok(pair) = arena.place_tuple(&[Ref::Int(7), empty]) else {
+            return Ok(());
+        };
+        let shown = match arena.view(&pair) {
+            View::Tuple(items) => items.len() == 2,
+            _ => false,
+        };
+        assert!(rt; shown);
+        let size = arena.size(pair);
+        assert!(rt; size.values == 3 && size.levels == 2);
         Ok(())
     }
 

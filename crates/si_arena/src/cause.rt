@@ -19,8 +19,8 @@ pub enum Cause {
     NotCallable,
     /// A call with arguments that do not fit what is called (Python Language Reference 3.14, 6.3.3).
     WrongArguments,
-    /// One call of own functions too many within each other, or one exception too many to be written (this project's
-    /// own).
+    /// One call of own functions too many within each other, or one tuple or exception too many to be written or
+    /// compared (this project's own).
     TooDeep,
     /// A bare `raise` where no exception is active (Python Language Reference 3.14, 7.8).
     NoneActive,

@@ -1,16 +1,15 @@
 // The arena of one interpreter: what its scripts' values are, and what lies behind them.
 //
 // A value is a `Ref`, which is copied. None, truths, integers, kinds, built-ins, functions, short texts and a few bytes
-// are in the `Ref` itself; a longer text, and more bytes, are a slice of a row of characters, and a range lies at a place:
-// they stay as they are for good. An exception is an object, at an address. `specs/Memory.antt` says what an arena stands for and what a `Ref`
-// that lies in it denotes; each call says what is denoted after it: what lay in the arena lies in it and denotes the
-// same after anything is placed or made (`proofs/Lying.antt` has these laws for the crates above), and a call that is
-// refused changes nothing.
+// are in the `Ref` itself; a longer text, and more bytes, are a slice of a row of characters, a range lies at a place, and
+// so does a tuple, whose items are a slice of a row of values: all stay as they are for good. An exception is an object,
+// at an address. `specs/Memory.antt` says what an arena stands for and what a `Ref` that lies in it denotes; each call says
+// what is denoted after it: what lay in the arena lies in it and denotes the same after anything is placed or made
+// (`proofs/Lying.antt` has these laws for the crates above), and a call that is refused changes nothing.
 //
 // In reading order: `short` (a text in a `Ref`), `value` (`Ref`), `cause` (why an exception was raised, and what it
 // says), `object` (ranges and exceptions), `characters` and `texts` (the two rows of characters), `bytes` (which lie
-// as texts do), `view` (what a `Ref`
-// shows) and `arena`.
+// as texts do), `tuples`, `view` (what a `Ref` shows) and `arena`.
 #![tactic(auto)]
 
 mod arena;
@@ -20,6 +19,7 @@ mod characters;
 mod object;
 mod short;
 mod texts;
+mod tuples;
 mod value;
 mod view;
 
@@ -28,5 +28,6 @@ pub use cause::{Cause, Fault};
 pub use characters::Characters;
 pub use object::{Object, Steps};
 pub use short::Short;
+pub use tuples::Size;
 pub use value::{BuiltIn, Ref};
 pub use view::View;

@@ -20,6 +20,7 @@ pub enum BuiltIn {
     Min,
     Max,
     Bytes,
+    Tuple,
 }
 
 /// Which row of the arena has room for a text: the narrow one for characters below 256 alone.
@@ -55,6 +56,8 @@ pub enum Ref {
     Function { number: u32, name: usize },
     /// A range, by its place among the arena's ranges.
     Range(usize),
+    /// A tuple, by its place among the arena's tuples.
+    Tuple(usize),
     /// A kind of exception.
     Kind(Kind),
     /// An object, by its address.

@@ -2,7 +2,7 @@
 
 use crate::characters::Characters;
 use crate::object::Steps;
-use crate::value::BuiltIn;
+use crate::value::{BuiltIn, Ref};
 use si_plain::{Kind, Text};
 
 /// What a value is: case for case what the language has (Python Language Reference 3.14, 3.2).
@@ -18,6 +18,8 @@ pub enum View<'a> {
     /// A function of a script, by its number and its name.
     Function(u32, &'a Text),
     Range(&'a Steps),
+    /// A tuple, by its items.
+    Tuple(&'a [Ref]),
     /// A kind of exception.
     Kind(Kind),
     /// An object, by its address.

@@ -9,7 +9,6 @@ use Rattle.std.proofs.lemmas.List.Sums.{fold-append}
 use Rattle.std.proofs.lemmas.Option.{slice_get-map}
 use Rattle.si_plain.specs.Names.{with_name}
 use Rattle.si_semantics.specs.Value.{Text, Nothing}
-use Rattle.si_semantics.specs.Tree as tree
 use Rattle.si_semantics.specs.Tree.{Function, Stmts, functions_of, functions_in, functions_in_clauses}
 use Rattle.si_semantics.specs.Grammar.{elifs_of, clauses_of}
 use Rattle.si_semantics.specs.Scope.{locals_of}

@@ -7,7 +7,6 @@ use Rattle.si_semantics.specs.Tree.{functions_in, functions_of}
 use Rattle.si_syntax.specs.declared.expr.Expr.{Expr}
 use Rattle.si_syntax.specs.declared.stmt.For.{For}
 use Rattle.si_syntax.specs.declared.stmt.Stmt.{Stmt}
-use Rattle.si_syntax.specs.declared.stmt.While.{While}
 use Rattle.si_syntax.specs.Trees.{body_of, expr_of, for_of, target_of}
 use Rattle.si_slots.specs.Machine as machine
 use Rattle.si_slots.specs.Machine.{ToTemporary}

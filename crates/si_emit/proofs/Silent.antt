@@ -101,6 +101,7 @@ starts_condition ls (tree.Unary o a) g = starts_simple ls (tree.Unary o a) g
 starts_condition ls (tree.Binary o a b) g = starts_simple ls (tree.Binary o a b) g
 starts_condition ls (tree.Subscript a b) g = starts_simple ls (tree.Subscript a b) g
 starts_condition ls (tree.Call f args names) g = starts_simple ls (tree.Call f args names) g
+starts_condition ls (tree.Tuple items) g = starts_simple ls (tree.Tuple items) g
 starts_condition ls (tree.Boolean o a more) g = starts_boolean ls (early_of o g) o a more g
 starts_condition ls (tree.Compare a cs) g = starts_simple ls (tree.Compare a cs) g
 starts_condition ls (tree.Conditional a b c) g = starts_simple ls (tree.Conditional a b c) g

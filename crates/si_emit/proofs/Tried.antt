@@ -11,9 +11,7 @@ use Rattle.si_plain.proofs.Begins.{length-Begins}
 use Rattle.si_slots.specs.Machine as machine
 use Rattle.si_slots.specs.Machine.{Instr, Temporary, ToTemporary, Ahead}
 use Rattle.si_syntax.specs.declared.stmt.Clause.{Clause as ClauseParts}
-use Rattle.si_syntax.specs.declared.stmt.Finally.{Finally}
 use Rattle.si_syntax.specs.declared.stmt.Stmt.{Stmt}
-use Rattle.si_syntax.specs.declared.stmt.Try.{Try}
 use Rattle.si_syntax.specs.Trees.{body_of, clause_of}
 use Rattle.si_syntax.proofs.Rows.{rest_is}
 use Rattle.si_slots.specs.Code.{stmt_code, stmts_code, finally_code, named_code, bind_code, unbind_code, clause_code, clauses_code, try_code}

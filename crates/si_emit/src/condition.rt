@@ -80,10 +80,12 @@ fn row_of(expr: &Expr) -> Option<(BooleanOperator, &Expr, &[Expr])>
         Expr::Nothing => None,
         Expr::Truth(_) => None,
         Expr::Str(_) => None,
+        Expr::Bytes(_) => None,
         Expr::Unary(_, _) => None,
         Expr::Binary(_, _, _) => None,
         Expr::Call(_, _, _) => None,
         Expr::Subscript(_, _) => None,
+        Expr::Tuple(_) => None,
         Expr::Compare(_, _) => None,
         Expr::Conditional(_, _, _) => None,
     }

@@ -4,11 +4,11 @@
 // code and the functions that si_slots/specs/Code.antt gives the script's tree; or memory was refused, and the table is as
 // it was. Within the crate a refused call may leave the table with more than it had: `compile` returns to a mark.
 //
-// In reading order: `operand`, where the operand of an instruction lies; `expression`, the code of each expression and of
-// a test; `condition`, the tests of statements, with `and` and `or`; `naming`, how names are bound; `simple`, statements
-// without suites; `suite`, statements one after another; `silence`, which of them have no code; `choosing`, the code of `if`;
-// `repeats` and `handlers`, that of loops and of `try`, with `loops` and `trying`, their parts around their suites;
-// `script`, the code of a whole script, functions first. specs/inner is for the proofs alone.
+// In reading order: `operand`, where the operand of an instruction lies; `expression`, the code of each expression and
+// of a test; `condition`, the tests of statements, with `and` and `or`; `naming`, how names are bound; `simple`,
+// statements without suites; `suite`, statements one after another; `silence`, which of them have no code; `choosing`,
+// the code of `if`; `repeats` and `handlers`, that of loops and of `try`, with `loops` and `trying`, their parts around
+// their suites; `script`, the code of a whole script, functions first. specs/inner is for the proofs alone.
 #![tactic(auto)]
 
 mod choosing;

@@ -9,7 +9,7 @@ ghost use Rattle.si_parcel.specs.declared.action.Action.TheVariants.{Get};
 ghost use Rattle.si_hub.specs.Hubs.{IsTold, state_of, reply_at, can_act, Acts, takes_none};
 
 use crate::shared::Shared;
-use si_parcel::{Action, Answer};
+use si_parcel::{Action, Answer, BoxedText};
 use si_plain::{Limits, NoMemory, Text};
 use si_queues::Queue;
 use si_semantics::sharing::within_limits;
@@ -24,8 +24,8 @@ pub struct Call {
     pub answer: Answer,
 }
 
-// A call is written to memory that is in no cache: two lines of it.
-const _: () = prove!(std::mem::size_of::<Call>() <= 128);
+// A call is written to memory that is in no cache: a line of it.
+const _: () = prove!(std::mem::size_of::<Call>() <= 64);
 
 impl Model for Call {
     ghost use Rattle.si_semantics.specs.History.{Call};
@@ -97,7 +97,8 @@ impl Hub {
         ensures { IfOk result (λ h. h.past ≡ record { script = characters_of script.now; limits = limits; journal = [] }) }
     {
         let text = Text::from_str(alloc, script)?;
-        let shared = Shared::new(alloc, Text::from_str(alloc, script)?)?;
+        let first = BoxedText::new(alloc, Text::from_str(alloc, script)?)?;
+        let shared = Shared::new(alloc, first)?;
         Ok(Hub {
             alloc,
             script: text,

@@ -6,8 +6,8 @@ ghost use Rattle.si_semantics.specs.Shared.{Replied, is_enabled};
 ghost use Rattle.si_parcel.specs.Shared.{answer_of, outcome_of};
 
 use crate::shared::Shared;
-use si_parcel::{Answer, Binds, Outcome};
-use si_plain::{NoMemory, Text};
+use si_parcel::{Answer, Binds, BoxedText, Outcome};
+use si_plain::NoMemory;
 use si_registry::Standing;
 
 impl Shared {
@@ -39,7 +39,7 @@ impl Shared {
         }
     }
 
-    pub(crate) fn start(&mut self, id: u32, text: Text) -> Result<Answer, NoMemory>
+    pub(crate) fn start(&mut self, id: u32, text: BoxedText) -> Result<Answer, NoMemory>
         requires { is_enabled (shared.start id text self.old) ≡ true }
         ensures ok { IfOk result (λ r. shared.start id text self.old ≡ Replied (answer_of r) self.new) }
         ensures err { OnErr result (self.new ≡ self.old) }

@@ -6,8 +6,8 @@ ghost use Rattle.si_semantics.specs.Shared.{Replied, reply, is_enabled, first_st
 ghost use Rattle.si_parcel.specs.Shared.{action_of, answer_of};
 ghost use Rattle.si_hub.specs.Hubs.{takes_none};
 
-use si_parcel::{Action, Answer};
-use si_plain::{NoMemory, Text};
+use si_parcel::{Action, Answer, BoxedText};
+use si_plain::NoMemory;
 use si_queues::Queues;
 use si_registry::Registry;
 use std::alloc::Global;
@@ -34,7 +34,7 @@ impl Model for Shared {
 
 impl Shared {
     // At first interpreter 0 runs, and its run lies in its inbox.
-    pub(crate) fn new(alloc: Global, script: Text) -> Result<Shared, NoMemory>
+    pub(crate) fn new(alloc: Global, script: BoxedText) -> Result<Shared, NoMemory>
         ensures { IfOk result (λ s. s ≡ first_state script) }
     {
         let mut registry = Registry::new(alloc);

@@ -1,7 +1,7 @@
 // What the tests of the hub share, and the worked sequence of the definitions.
 
 use crate::{Hub, Why};
-use si_parcel::{Action, Answer, Binds, Job, Outcome, Parcel};
+use si_parcel::{Action, Answer, Binds, BoxedText, Job, Outcome, Parcel};
 use si_plain::{Limits, NoMemory, Text};
 use std::alloc::Global;
 use std::test::Fail;
@@ -10,12 +10,16 @@ pub(crate) fn text(alloc: Global, text: &str) -> Result<Text, NoMemory> {
     Text::from_str(alloc, text)
 }
 
+pub(crate) fn boxed(alloc: Global, chars: &str) -> Result<BoxedText, NoMemory> {
+    Ok(BoxedText::new(alloc, text(alloc, chars)?)?)
+}
+
 // `x = 1`
 pub(crate) fn x_is_one(alloc: Global) -> Result<Binds, NoMemory> {
     let mut pairs = Vec::with_capacity(alloc, 1)?;
     let x = text(alloc, "x")?;
     pairs.push((x, Parcel::int(1)))?;
-    Ok(Binds::new(pairs))
+    Ok(Binds::new(alloc, pairs)?)
 }
 
 // A hub of an empty script with so many interpreters.
@@ -54,7 +58,7 @@ fn asked(alloc: Global, at: u32) -> Result<(u32, Action), NoMemory> {
         3 => (1, Action::Take),
         4 => (0, Action::Create),
         5 => (0, Action::Prepare(1, x_is_one(alloc)?)),
-        6 => (0, Action::Start(1, text(alloc, "t")?)),
+        6 => (0, Action::Start(1, boxed(alloc, "t")?)),
         7 => (0, Action::Close(1)),
         8 => (0, Action::IsRunning(1)),
         9 => (0, Action::Await(1)),
@@ -74,7 +78,7 @@ fn asked(alloc: Global, at: u32) -> Result<(u32, Action), NoMemory> {
 fn answered(alloc: Global, at: u32) -> Result<Option<Answer>, NoMemory> {
     Ok(match at {
         0 => None,
-        1 => Some(Answer::Given(Job::Run(0, text(alloc, "")?))),
+        1 => Some(Answer::Given(Job::Run(0, boxed(alloc, "")?))),
         2 => Some(Answer::Created(1)),
         3 => None,
         4 => Some(Answer::Limit),
@@ -85,7 +89,7 @@ fn answered(alloc: Global, at: u32) -> Result<Option<Answer>, NoMemory> {
         9 | 10 => None,
         11 => Some(Answer::Given(Job::Bind(x_is_one(alloc)?))),
         12 => None,
-        13 => Some(Answer::Given(Job::Run(1, text(alloc, "t")?))),
+        13 => Some(Answer::Given(Job::Run(1, boxed(alloc, "t")?))),
         14 => Some(Answer::Done),
         15 => Some(Answer::Ended(Outcome::Returned)),
         16 => Some(Answer::Done),

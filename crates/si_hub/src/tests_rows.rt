@@ -1,10 +1,10 @@
 // Each action through its row: each answer that it may be given, and where it is not enabled.
 
 use crate::Hub;
-use crate::tests::{act, hub, same, text, x_is_one};
-use si_parcel::{Action, Answer, Ids, Job, Outcome, Parcel};
-use si_plain::{Kind, NoMemory, Text};
-use std::alloc::Global;
+use crate::tests::{act, boxed, hub, same, x_is_one};
+use si_parcel::{Action, Answer, BoxedText, Ids, Job, Outcome, Parcel};
+use si_plain::{Kind, NoMemory};
+use std::alloc::{AllocError, Global};
 use std::test::Fail;
 
 // A hub whose interpreter 0 has taken its run.
@@ -15,13 +15,16 @@ fn running(alloc: Global, interpreters: u32) -> Result<Hub, Fail> {
 }
 
 // A text that takes memory: it is longer than the 15 bytes that a text has room for in itself.
-fn long(alloc: Global) -> Result<Text, NoMemory> {
-    text(alloc, "more than fifteen bytes")
+fn long(alloc: Global) -> Result<BoxedText, NoMemory> {
+    boxed(alloc, "more than fifteen bytes")
 }
 
 fn item(alloc: Global) -> Result<Parcel, NoMemory> {
-    let item = Parcel::str(long(alloc)?);
-    Ok(item.unwrap_or(Parcel::none()))
+    let text = long(alloc)?.into_text();
+    match Parcel::str(alloc, text) {
+        Ok(item) => Ok(item),
+        Err(_) => Err(AllocError),
+    }
 }
 
 // What interpreter 0 asks of a queue of one item.

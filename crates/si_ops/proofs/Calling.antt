@@ -1,12 +1,12 @@
 -- Calls that go as their definitions.
-use Rattle.std.proofs.Common.{◌≡◌, ℕ, ◌+◌, ◌<◌, ◌≤◌, List, [], ◌∷◌, length, get_or, Bool, true, false, cond, Option, Some, None, Result, Ok, Err, refl, sym, ap, subst, ◌∙◌, arith, nat_lt, lt-ltb}
+use Rattle.std.proofs.Common.{◌≡◌, ℕ, ◌+◌, ◌<◌, ◌≤◌, List, [], ◌∷◌, length, get_or, Bool, true, false, cond, Result, Ok, Err, refl, sym, ap, subst, ◌∙◌, arith, nat_lt, lt-ltb}
 use Rattle.std.specs.declared.string.String.{String}
 use Rattle.std.specs.String.{string_bytes, string_len, string_capacity}
 use Rattle.si_plain.specs.declared.kind.Kind.{Kind}
-use Rattle.si_plain.specs.declared.kind.Kind.TheVariants.{OverflowError}
+use Rattle.si_plain.specs.declared.kind.Kind.TheVariants.{OverflowError, RecursionError}
 use Rattle.si_semantics.specs.Value as pure
 use Rattle.si_semantics.specs.World.{World, Ran}
-use Rattle.si_semantics.specs.Text.{written, max_length}
+use Rattle.si_semantics.specs.Text.{Written, Whole, Broken, written, max_length}
 use Rattle.si_semantics.specs.Operations.{gave, text}
 use Rattle.si_arena.specs.declared.value.Ref.{Ref}
 use Rattle.si_arena.specs.declared.cause.Cause.{Cause}
@@ -62,16 +62,20 @@ said_of NoMemory h = h
 
 -- ---- texts
 
-short_enough : (o : Option pure.Text) (t : pure.Text) → written o ≡ Ok t → nat_lt max_length (length t) ≡ false
-short_enough None t e = cc
-short_enough (Some s) t e = by (nat_lt max_length (length s)) refl e
+short_enough : (w : Written) (t : pure.Text) → written w ≡ Ok t → nat_lt max_length (length t) ≡ false
+short_enough (Whole s) t e = by (nat_lt max_length (length s)) refl e
   where
     by : (b : Bool) → nat_lt max_length (length s) ≡ b → ◌≡◌ {A = Result pure.Text Kind} (cond b (Err OverflowError) (Ok s)) (Ok t) → nat_lt max_length (length t) ≡ false
     by true h e = cc
     by false h e = let same : s ≡ t = cc in ap (λ x. nat_lt max_length (length x)) (sym same) ∙ h
+short_enough (Broken s) t e = by (nat_lt max_length (length s)) e
+  where
+    by : (b : Bool) → ◌≡◌ {A = Result pure.Text Kind} (cond b (Err OverflowError) (Err RecursionError)) (Ok t) → nat_lt max_length (length t) ≡ false
+    by true e = cc
+    by false e = cc
 
 -- a text that was written and is placed
-pub text_placed : (o : List pure.Object → Option pure.Text) (t : pure.Text) (old new : Memory) (r : Result Ref Fault) → written (o old.store) ≡ Ok t → PlacesText t old new r → Runs (λ w. text (written (o w.store)) w) old new r
+pub text_placed : (o : List pure.Object → Written) (t : pure.Text) (old new : Memory) (r : Result Ref Fault) → written (o old.store) ≡ Ok t → PlacesText t old new r → Runs (λ w. text (written (o w.store)) w) old new r
 text_placed o t old new (Ok r) is h = (
   (λ w e. ap (λ s. text (written (o s)) w) e ∙ ap (λ p. text p w) is ∙ ap (λ v. gave v w) (sym h.1.denotes)),
   h.1.lies,
@@ -85,7 +89,7 @@ text_placed o t old new (Err (Raises cause)) is h =
 text_placed o t old new (Err NoMemory) is h = h
 
 -- a text that can't be written
-pub text_throws : (o : List pure.Object → Option pure.Text) (m : Memory) (cause : Cause) → IsUnwritten (written (o m.store)) cause → Throws (λ w. text (written (o w.store)) w) m cause
+pub text_throws : (o : List pure.Object → Written) (m : Memory) (cause : Cause) → IsUnwritten (written (o m.store)) cause → Throws (λ w. text (written (o w.store)) w) m cause
 text_throws o m TooDeep h = ((λ w e. ap (λ s. text (written (o s)) w) e ∙ ap (λ p. text p w) h), tt)
 text_throws o m TooLong h = ((λ w e. ap (λ s. text (written (o s)) w) e ∙ ap (λ p. text p w) h), tt)
 text_throws o m (Arithmetic k) h = absurd h
@@ -98,7 +102,7 @@ text_throws o m (NotDefined s) h = absurd h
 text_throws o m (NotBound s) h = absurd h
 
 -- what was not added can't be placed
-pub text_refused : {Z : Type 0} (U : Type 0) (o : List pure.Object → Option pure.Text) (longest : List ℕ) (s t : String Z) (m : Memory) (fault : Fault) → Appends {U = U} (written (o m.store)) longest s t (Err fault) → Runs (λ w. text (written (o w.store)) w) m m (Err fault)
+pub text_refused : {Z : Type 0} (U : Type 0) (o : List pure.Object → Written) (longest : List ℕ) (s t : String Z) (m : Memory) (fault : Fault) → Appends {U = U} (written (o m.store)) longest s t (Err fault) → Runs (λ w. text (written (o w.store)) w) m m (Err fault)
 text_refused U o longest s t m (Raises cause) h = (text_throws o m cause h.0, refl)
 text_refused U o longest s t m NoMemory h = refl
 

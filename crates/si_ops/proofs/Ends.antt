@@ -1,6 +1,6 @@
 -- What stands after a text in a String, and where that may be cut.
-use Rattle.std.proofs.Common.{◌≡◌, ℕ, ◌≤◌, Bool, true, false, cond, List, [], ◌∷◌, ◌++◌, length, take, drop, encode_utf8, encode_utf8_all, Option, Some, None, Result, Ok, Err, refl, sym, ap, subst, ◌∙◌, arith, append_assoc, append-nil, length-drop, le-ltb, ◌-◌}
-use Rattle.std.specs.Prelude.{◌&&◌, is_some, not, nat_lt, IsErrAnd}
+use Rattle.std.proofs.Common.{◌≡◌, ℕ, ◌≤◌, Bool, true, false, List, [], ◌∷◌, ◌++◌, length, take, drop, encode_utf8, encode_utf8_all, Result, Err, refl, sym, ap, subst, ◌∙◌, arith, append_assoc, length-drop, le-ltb, ◌-◌}
+use Rattle.std.specs.Prelude.{◌&&◌, nat_lt, IsErrAnd}
 use Rattle.std.specs.Str.{IsUtf8, IsCharBoundary}
 use Rattle.std.specs.String.{string_bytes}
 use Rattle.std.specs.String.Boundary.{IsSplitPoint}
@@ -12,12 +12,10 @@ use Rattle.std.proofs.lemmas.Result.{err_from_is_err_and}
 use Rattle.std.proofs.lemmas.Str.{encodes_same, cons_from_encodes, IsUtf8-string_bytes, IsCharBoundary-at_seam, IsUtf8-drop, chars-encodes, length-le-encodes}
 use Rattle.si_plain.specs.Characters.{characters_of}
 use Rattle.si_plain.specs.declared.kind.Kind.{Kind}
-use Rattle.si_plain.specs.declared.kind.Kind.TheVariants.{OverflowError, RecursionError}
 use Rattle.si_semantics.specs.Value.{Text}
-use Rattle.si_semantics.specs.Text.{written, max_length}
 use Rattle.si_arena.specs.declared.cause.Fault.{Fault}
 use Rattle.si_arena.specs.declared.cause.Fault.TheVariants.{Raises, NoMemory}
-use Rattle.si_ops.specs.Writing.{Adds, Begins, Writes, Appends, spelled}
+use Rattle.si_ops.specs.Writing.{Adds, Begins, Writes, Appends}
 
 -- ---- characters after characters
 
@@ -69,32 +67,9 @@ text_at old new t start e p =
     ∙ ap characters_of (drop-append_seam (string_bytes old) (encode_utf8_all t))
     ∙ ap characters_of (sym u.1.1) ∙ chars-encodes u.0 u.1.0 ∙ same
 
-text_behind : {Z : Type 0} (old new : String Z) (t : List ℕ) (start : ℕ) → start ≡ length (string_bytes old) → Adds (encode_utf8_all t) old new → characters_of (drop start (string_bytes new)) ≡ t
-text_behind old new t start e p = text_at old new t start e p.bytes
-
--- ---- what was added, by its length
-
 -- what a `?` hands on
 pub passed : {U F : Type 0} (r : Result U F) (P : Result U F → Type 0) (e : F) → IsErrAnd r (λ f. f ≡ e) → P (Err e) → P r
 passed r P e h p = let q = err_from_is_err_and r h in subst P (sym (q.1 ∙ ap Err q.2)) p
-
-some_of : (o : Option Text) → is_some o ≡ true → (t : Text) × (o ≡ Some t)
-some_of None h = cc
-some_of (Some t) h = (t, refl)
-
-pub short_enough : {Z : Type 0} (o : Option Text) (old new : String Z) (start : ℕ) (long : Bool) → is_some o ≡ true → start ≡ length (string_bytes old) → Adds (spelled o) old new → long ≡ nat_lt max_length (length (characters_of (drop start (string_bytes new)))) → long ≡ false → (t : Text) × (written o ≡ Ok t) × Adds (encode_utf8_all t) old new
-short_enough o old new start long there e p l short =
-    let s = some_of o there in
-    let q : Adds (encode_utf8_all s.0) old new = subst (λ x. Adds (spelled x) old new) s.1 p in
-    let counted : nat_lt max_length (length s.0) ≡ false = ap (λ x. nat_lt max_length (length x)) (sym (text_behind old new s.0 start e q)) ∙ sym l ∙ short in
-    (s.0, ap written s.1 ∙ ap (λ b. cond b (Err OverflowError) (Ok s.0)) counted, q)
-
-pub over_long : {Z : Type 0} (o : Option Text) (old new : String Z) (start : ℕ) (long : Bool) → is_some o ≡ true → start ≡ length (string_bytes old) → Adds (spelled o) old new → long ≡ nat_lt max_length (length (characters_of (drop start (string_bytes new)))) → long ≡ true → (written o ≡ Err OverflowError) × Begins old new
-over_long o old new start long there e p l too =
-    let s = some_of o there in
-    let q : Adds (encode_utf8_all s.0) old new = subst (λ x. Adds (spelled x) old new) s.1 p in
-    let counted : nat_lt max_length (length s.0) ≡ true = ap (λ x. nat_lt max_length (length x)) (sym (text_behind old new s.0 start e q)) ∙ sym l ∙ too in
-    (ap written s.1 ∙ ap (λ b. cond b (Err OverflowError) (Ok s.0)) counted, begins_adds q)
 
 -- ---- what can't be added is taken back
 
@@ -112,15 +87,3 @@ few bs start u b h =
     let v = IsUtf8-drop bs start u b in
     let same : characters_of (drop start bs) ≡ v.0 = ap characters_of (sym v.1.1) ∙ chars-encodes v.0 v.1.0 in
     sym (le-ltb 1048576 (length (characters_of (drop start bs))) (omega (arith, ap length same, length-le-encodes v.0, ap length v.1.1, length-drop start bs)))
-
--- whether objects are too deep within each other
-pub too_deep : (o : Option Text) (b : Bool) → b ≡ not (is_some o) → b ≡ true → written o ≡ Err RecursionError
-too_deep None b e h = refl
-too_deep (Some t) b e h = cc
-
-pub there_is : (o : Option Text) (b : Bool) → b ≡ not (is_some o) → b ≡ false → is_some o ≡ true
-there_is None b e h = cc
-there_is (Some t) b e h = refl
-
-pub begins_same : {Z : Type 0} (s : String Z) → Begins s s
-begins_same s = ([], sym (append-nil (string_bytes s)))

@@ -8,11 +8,12 @@ use Rattle.si_arena.specs.declared.value.Ref.TheVariants as value
 use Rattle.si_arena.specs.Memory.{Memory, Lies, Extends}
 use Rattle.si_arena.specs.Texts.{text_of, TextLies}
 use Rattle.si_arena.proofs.Rows.{text-grows}
-use Rattle.si_arena.proofs.Lying.{lies-extends}
+use Rattle.si_arena.proofs.Lying.{value-lasts, lies-extends}
 use Rattle.si_arena.proofs.Growing.{bytes_text_lies}
 use Rattle.si_arena.specs.Bytes.{bytes_of, text_of_bytes}
+use Rattle.si_ops.specs.Operands.{members_of}
 use Rattle.si_ops.specs.declared.items.Items.{Items}
-use Rattle.si_ops.specs.declared.items.Items.TheVariants.{Numbers, Characters, Octets, NoMore}
+use Rattle.si_ops.specs.declared.items.Items.TheVariants.{Numbers, Characters, Octets, Members, NoMore}
 use Rattle.si_ops.specs.Items.{items_of, ItemsLie, GivesNext}
 
 -- three integers, each by another that is equal
@@ -37,6 +38,7 @@ lies_text m (value.Bytes n i) h = tt
 lies_text m (value.BuiltIn b) h = tt
 lies_text m (value.Function n x) h = tt
 lies_text m (value.Range p) h = tt
+lies_text m (value.Tuple p) h = tt
 lies_text m (value.Kind k) h = tt
 lies_text m (value.Object x) h = tt
 
@@ -51,6 +53,7 @@ pub items-lasts : {old new : Memory} (items : Items) → Extends old new → Ite
 items-lasts (Numbers at stop step) e h = refl
 items-lasts (Characters text given count) e h = ap (λ s. operations.Characters (drop given s)) (text_kept text e h.0)
 items-lasts (Octets bytes given) e h = ap (λ s. operations.Octets (drop given s)) (bytes_kept bytes e h)
+items-lasts (Members tuple given) e h = ap (λ v. operations.Items (drop given (members_of v))) (value-lasts tuple e.lasts h)
 items-lasts NoMore e h = refl
 
 -- and they lie in it
@@ -58,4 +61,5 @@ pub items_lie-extends : {old new : Memory} (items : Items) → Extends old new �
 items_lie-extends (Numbers at stop step) e h = tt
 items_lie-extends (Characters text given count) e h = (lies-extends text e h.0, h.1 ∙ ap length (sym (text_kept text e h.0)))
 items_lie-extends (Octets bytes given) e h = lies-extends bytes e h
+items_lie-extends (Members tuple given) e h = lies-extends tuple e h
 items_lie-extends NoMore e h = tt

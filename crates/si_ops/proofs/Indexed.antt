@@ -24,6 +24,7 @@ text_is m (value.Bytes n i) h = absurd h
 text_is m (value.BuiltIn b) h = absurd h
 text_is m (value.Function n x) h = absurd h
 text_is m (value.Range p) h = absurd h
+text_is m (value.Tuple p) h = absurd h
 text_is m (value.Kind k) h = absurd h
 text_is m (value.Object x) h = absurd h
 

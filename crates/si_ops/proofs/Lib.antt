@@ -12,8 +12,13 @@ pub mod Quoting
 pub mod Spelling
 pub mod Showing
 pub mod Ends
+pub mod Puts
 pub mod Named
 pub mod Lines
 pub mod Calling
 pub mod Reading
+pub mod Tupled
 pub mod Providing
+pub mod Equal
+pub mod Gathered
+pub mod RunningTuples

@@ -1,14 +1,14 @@
 -- Lines that `print` writes, value by value.
-use Rattle.std.proofs.Common.{◌≡◌, ℕ, zero, suc, ◌+◌, ◌<◌, List, [], ◌∷◌, ◌++◌, length, take, drop, get_or, map, encode_utf8_all, Option, Some, None, Result, Ok, Err, cond, Bool, true, false, refl, sym, ap, ap₂, subst, ◌∙◌, arith, append_assoc, append-nil, drop-cons}
+use Rattle.std.proofs.Common.{◌≡◌, ℕ, zero, suc, ◌+◌, ◌<◌, List, [], ◌∷◌, ◌++◌, length, take, drop, get_or, map, encode_utf8_all, Result, Ok, Err, cond, Bool, true, false, refl, sym, ap, ap₂, subst, ◌∙◌, arith, append_assoc, append-nil, drop-cons}
 use Rattle.std.specs.Prelude.{nat_lt}
 use Rattle.std.specs.declared.string.String.{String}
 use Rattle.std.specs.String.{string_bytes}
 use Rattle.std.proofs.lemmas.List.{take_more, take-append-drop, map-append}
 use Rattle.std.proofs.lemmas.Str.{encodes-append}
 use Rattle.si_plain.specs.declared.kind.Kind.{Kind}
-use Rattle.si_plain.specs.declared.kind.Kind.TheVariants.{OverflowError}
+use Rattle.si_plain.specs.declared.kind.Kind.TheVariants.{OverflowError, RecursionError}
 use Rattle.si_semantics.specs.Value.{Text, Value, Object}
-use Rattle.si_semantics.specs.Text.{str_in, str_of, written, max_nested, max_length, line_of, line_behind}
+use Rattle.si_semantics.specs.Text.{Written, Whole, Broken, str_in, str_of, written, max_nested, max_length, line_of, line_behind}
 use Rattle.si_arena.specs.declared.value.Ref.{Ref}
 use Rattle.si_arena.specs.declared.cause.Cause.{Cause}
 use Rattle.si_arena.specs.declared.cause.Cause.TheVariants.{Arithmetic, TooLong, WrongType, NotCallable, WrongArguments, TooDeep, NoneActive, Outside, NotDefined, NotBound}
@@ -93,13 +93,17 @@ bytes_joined store (v ∷ vs) ws =
 
 -- ---- the bytes of what is written
 
-written_bytes : (o : Option Text) (t : Text) → written o ≡ Ok t → encode_utf8_all t ≡ spelled o
-written_bytes None t e = cc
-written_bytes (Some s) t e = by (nat_lt max_length (length s)) e
+written_bytes : (w : Written) (t : Text) → written w ≡ Ok t → encode_utf8_all t ≡ spelled w
+written_bytes (Whole s) t e = by (nat_lt max_length (length s)) e
   where
     by : (b : Bool) → ◌≡◌ {A = Result Text Kind} (cond b (Err OverflowError) (Ok s)) (Ok t) → encode_utf8_all t ≡ encode_utf8_all s
     by true e = cc
     by false e = let same : s ≡ t = cc in ap encode_utf8_all (sym same)
+written_bytes (Broken s) t e = by (nat_lt max_length (length s)) e
+  where
+    by : (b : Bool) → ◌≡◌ {A = Result Text Kind} (cond b (Err OverflowError) (Err RecursionError)) (Ok t) → encode_utf8_all t ≡ encode_utf8_all s
+    by true e = cc
+    by false e = cc
 
 -- a space in UTF-8 is one byte, and so is a newline
 space_bytes : (t : Text) → encode_utf8_all (32 ∷ t) ≡ 32 ∷ encode_utf8_all t

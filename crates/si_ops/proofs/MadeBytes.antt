@@ -89,7 +89,7 @@ unfolding sum_of
 near a c n h = near_by (a +ℤ c) n (in_range (a +ℤ c)) refl h
 
 -- one item more is left
-one_left : (n : ℕ) (z c : ℤ) → 0 < n → stepped n z c ≡ z ∷ stepped (n - 1) (z +ℤ c) c
+pub one_left : (n : ℕ) (z c : ℤ) → 0 < n → stepped n z c ≡ z ∷ stepped (n - 1) (z +ℤ c) c
 one_left zero z c h = absurd (omega (arith, h))
 one_left (suc n) z c h = let e : n ≡ suc n - 1 = omega arith in ap (λ k. z ∷ stepped k (z +ℤ c) c) e
 

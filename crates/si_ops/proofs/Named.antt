@@ -75,6 +75,7 @@ built_in_characters pure.Chr = refl
 built_in_characters pure.Min = refl
 built_in_characters pure.Max = refl
 built_in_characters pure.MakeBytes = refl
+built_in_characters pure.MakeTuple = refl
 
 -- ---- kinds by their names
 

@@ -1,5 +1,5 @@
 -- Operations that go as their definitions.
-use Rattle.std.proofs.Common.{◌≡◌, ◌≢◌, ◌+◌, arith, length-append, ℤ, ◌≤◌, ◌++◌, length, Bool, true, false, Option, Some, None, Result, Ok, Err, IsOk, cond, refl, sym, ap, subst, ◌∙◌, nat_lt, lt-ltb, le-ltb, pos, negsuc, to_z, of_z, w64}
+use Rattle.std.proofs.Common.{◌≡◌, ◌≢◌, ◌+◌, arith, length-append, ℤ, ◌≤◌, ◌++◌, length, Bool, true, false, Result, Ok, Err, IsOk, cond, refl, sym, ap, subst, ◌∙◌, nat_lt, lt-ltb, le-ltb, pos, negsuc, to_z, of_z, w64}
 use Rattle.si_semantics.specs.Value as pure
 use Rattle.si_semantics.specs.Tree as tree
 use Rattle.si_semantics.specs.World.{World, Ran}
@@ -20,7 +20,7 @@ use Rattle.si_arena.specs.Texts.{repeated_text, IsNarrow}
 use Rattle.si_arena.proofs.Repeats.{length_times}
 use Rattle.si_ops.specs.declared.operand.Operand.{Operand}
 use Rattle.si_ops.specs.Runs.{Throws, Runs, Tells}
-use Rattle.si_ops.specs.Operands.{IsOther, IsNoInteger, Stands, text_made, NeedsNone, IsTold}
+use Rattle.si_ops.specs.Operands.{IsOther, IsNoInteger, Stands, Made, NoneMade, TextMade, TupleMade, made_of, NeedsNone, IsTold}
 
 -- an operation that goes as another
 pub runs_as : (f g : World → Ran) (old new : Memory) (r : Result Ref Fault) → ((w : World) → f w ≡ g w) → Runs g old new r → Runs f old new r
@@ -92,7 +92,7 @@ truths_count binary.Power a b w f g h = refl
 -- what an operator does with two values, and which memory it needs
 pub record Goes (o : tree.BinaryOperator) (u v : pure.Value) (left right : Ref) (old new : Memory) (r : Result Ref Fault) : Type 0 where
   pub runs : Runs (λ w. operate o u v w) old new r
-  pub memory : NeedsNone left right (text_made o u v) → (new ≡ old) × IsTold r
+  pub memory : NeedsNone left right (made_of o u v) → (new ≡ old) × IsTold r
 
 module _ (o : tree.BinaryOperator) (left right : Ref) (old new : Memory) (r : Result Ref Fault) where
   -- values that are equal to others
@@ -117,19 +117,21 @@ pub ok_told : (r : Result Ref Fault) → IsOk r → IsTold r
 ok_told (Ok r) h = tt
 ok_told (Err e) h = absurd (no_truth h)
 
-pub needs_left : (left right : Ref) (t : Option pure.Text) → NeedsNone left right t → NeedsNone left left t
-needs_left left right None h = tt
-needs_left left right (Some t) h = (h.0, h.0, h.2)
+pub needs_left : (left right : Ref) (t : Made) → NeedsNone left right t → NeedsNone left left t
+needs_left left right NoneMade h = tt
+needs_left left right (TextMade t) h = (h.0, h.0, h.2)
+needs_left left right (TupleMade vs) h = h
 
-pub needs_right : (left right : Ref) (t : Option pure.Text) → NeedsNone left right t → NeedsNone right right t
-needs_right left right None h = tt
-needs_right left right (Some t) h = (h.1, h.1, h.2)
+pub needs_right : (left right : Ref) (t : Made) → NeedsNone left right t → NeedsNone right right t
+needs_right left right NoneMade h = tt
+needs_right left right (TextMade t) h = (h.1, h.1, h.2)
+needs_right left right (TupleMade vs) h = h
 
 -- an operator that does with two values what it does with two others
-pub goes_as : (o : tree.BinaryOperator) (u v x y : pure.Value) (left right text : Ref) (old new : Memory) (r : Result Ref Fault) → ((w : World) → operate o u v w ≡ operate o x y w) → text_made o u v ≡ text_made o x y → (NeedsNone left right (text_made o x y) → NeedsNone text text (text_made o x y)) → Goes o x y text text old new r → Goes o u v left right old new r
+pub goes_as : (o : tree.BinaryOperator) (u v x y : pure.Value) (left right text : Ref) (old new : Memory) (r : Result Ref Fault) → ((w : World) → operate o u v w ≡ operate o x y w) → made_of o u v ≡ made_of o x y → (NeedsNone left right (made_of o x y) → NeedsNone text text (made_of o x y)) → Goes o x y text text old new r → Goes o u v left right old new r
 goes_as o u v x y left right text old new r same made needs h = record {
   runs = runs_as (λ w. operate o u v w) (λ w. operate o x y w) old new r same h.runs;
-  memory = λ n. let P : Option pure.Text → Type 0 = λ t. NeedsNone left right t in h.memory (needs (subst P made n));
+  memory = λ n. let P : Made → Type 0 = λ t. NeedsNone left right t in h.memory (needs (subst P made n));
 }
 
 -- an integer and a text may change places
@@ -146,7 +148,7 @@ turned tree.BitAnd i s w = refl
 turned tree.ShiftLeft i s w = refl
 turned tree.ShiftRight i s w = refl
 
-made_turned : (o : tree.BinaryOperator) (i : ℤ) (s : pure.Text) → text_made o (pure.Int i) (pure.Str s) ≡ text_made o (pure.Str s) (pure.Int i)
+made_turned : (o : tree.BinaryOperator) (i : ℤ) (s : pure.Text) → made_of o (pure.Int i) (pure.Str s) ≡ made_of o (pure.Str s) (pure.Int i)
 made_turned tree.Add i s = refl
 made_turned tree.Subtract i s = refl
 made_turned tree.Multiply i s = refl
@@ -173,7 +175,7 @@ counted tree.BitAnd b s w = refl
 counted tree.ShiftLeft b s w = refl
 counted tree.ShiftRight b s w = refl
 
-made_counted : (o : tree.BinaryOperator) (b : Bool) (s : pure.Text) → text_made o (pure.Str s) (pure.Truth b) ≡ text_made o (pure.Str s) (pure.Int (int_of_truth b))
+made_counted : (o : tree.BinaryOperator) (b : Bool) (s : pure.Text) → made_of o (pure.Str s) (pure.Truth b) ≡ made_of o (pure.Str s) (pure.Int (int_of_truth b))
 made_counted tree.Add b s = refl
 made_counted tree.Subtract b s = refl
 made_counted tree.Multiply b s = refl
@@ -199,7 +201,7 @@ truth_turned tree.BitAnd b s w = refl
 truth_turned tree.ShiftLeft b s w = refl
 truth_turned tree.ShiftRight b s w = refl
 
-made_truth_turned : (o : tree.BinaryOperator) (b : Bool) (s : pure.Text) → text_made o (pure.Truth b) (pure.Str s) ≡ text_made o (pure.Str s) (pure.Int (int_of_truth b))
+made_truth_turned : (o : tree.BinaryOperator) (b : Bool) (s : pure.Text) → made_of o (pure.Truth b) (pure.Str s) ≡ made_of o (pure.Str s) (pure.Int (int_of_truth b))
 made_truth_turned tree.Add b s = refl
 made_truth_turned tree.Subtract b s = refl
 made_truth_turned tree.Multiply b s = refl
@@ -238,7 +240,7 @@ module _ (o : tree.BinaryOperator) (left right : Ref) (old new : Memory) (r : Re
   text_int_go h e f =
       let x = pure.Str s in
       let y = pure.Int i in
-      goes_at o left right old new r u v x y e f (goes_as o x y x y left right left old new r (λ w. refl) refl (needs_left left right (text_made o x y)) h)
+      goes_at o left right old new r u v x y e f (goes_as o x y x y left right left old new r (λ w. refl) refl (needs_left left right (made_of o x y)) h)
 
   pub text_truth_go : (b : Bool) → Goes o (pure.Str s) (pure.Int i) left left old new r → u ≡ pure.Str s → v ≡ pure.Truth b → i ≡ int_of_truth b → Goes o u v left right old new r
   text_truth_go b h e f k =
@@ -246,13 +248,13 @@ module _ (o : tree.BinaryOperator) (left right : Ref) (old new : Memory) (r : Re
       let y = pure.Int (int_of_truth b) in
       let P : ℤ → Type 0 = λ z. Goes o x (pure.Int z) left left old new r in
       goes_at o left right old new r u v x (pure.Truth b) e f
-      (goes_as o x (pure.Truth b) x y left right left old new r (counted o b s) (made_counted o b s) (needs_left left right (text_made o x y)) (subst P k h))
+      (goes_as o x (pure.Truth b) x y left right left old new r (counted o b s) (made_counted o b s) (needs_left left right (made_of o x y)) (subst P k h))
 
   pub int_text_go : Goes o (pure.Str s) (pure.Int i) right right old new r → u ≡ pure.Int i → v ≡ pure.Str s → Goes o u v left right old new r
   int_text_go h e f =
       let x = pure.Str s in
       let y = pure.Int i in
-      goes_at o left right old new r u v y x e f (goes_as o y x x y left right right old new r (turned o i s) (made_turned o i s) (needs_right left right (text_made o x y)) h)
+      goes_at o left right old new r u v y x e f (goes_as o y x x y left right right old new r (turned o i s) (made_turned o i s) (needs_right left right (made_of o x y)) h)
 
   pub truth_text_go : (b : Bool) → Goes o (pure.Str s) (pure.Int i) right right old new r → u ≡ pure.Truth b → v ≡ pure.Str s → i ≡ int_of_truth b → Goes o u v left right old new r
   truth_text_go b h e f k =
@@ -260,7 +262,7 @@ module _ (o : tree.BinaryOperator) (left right : Ref) (old new : Memory) (r : Re
       let y = pure.Int (int_of_truth b) in
       let P : ℤ → Type 0 = λ z. Goes o x (pure.Int z) right right old new r in
       goes_at o left right old new r u v (pure.Truth b) x e f
-      (goes_as o (pure.Truth b) x x y left right right old new r (truth_turned o b s) (made_truth_turned o b s) (needs_right left right (text_made o x y)) (subst P k h))
+      (goes_as o (pure.Truth b) x x y left right right old new r (truth_turned o b s) (made_truth_turned o b s) (needs_right left right (made_of o x y)) (subst P k h))
 
 -- what a truth counts as is an integer of 64 bits
 truth_fits : (b : Bool) → to_z w64 (of_z w64 (int_of_truth b)) ≡ int_of_truth b

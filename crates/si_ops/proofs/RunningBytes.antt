@@ -1,10 +1,10 @@
 -- Operators between bytes, and between bytes and integers, that go as their definitions.
-use Rattle.std.proofs.Common.{◌≡◌, ◌+◌, arith, length-append, ℕ, ℤ, List, ◌≤◌, ◌++◌, length, Bool, true, false, Result, Ok, Err, IsOk, cond, refl, sym, ap, subst, ◌∙◌, nat_lt, lt-ltb, le-ltb, pos, negsuc}
+use Rattle.std.proofs.Common.{◌≡◌, ◌+◌, arith, length-append, ℕ, ℤ, List, ◌≤◌, ◌++◌, length, Bool, true, false, Option, Some, Result, Ok, Err, IsOk, cond, refl, sym, ap, subst, ◌∙◌, nat_lt, lt-ltb, le-ltb, pos, negsuc}
 use Rattle.si_semantics.specs.Value as pure
 use Rattle.si_semantics.specs.Tree as tree
 use Rattle.si_semantics.specs.World.{World, Ran}
 use Rattle.si_semantics.specs.Text.{max_length}
-use Rattle.si_semantics.specs.Operations.{gave, bytes_within, too_long, bytes_repeated, times, operate, int_of_truth}
+use Rattle.si_semantics.specs.Operations.{gave, refused, bytes_made, bytes_within, too_long, bytes_repeated, times, operate, int_of_truth}
 use Rattle.si_plain.specs.declared.operators.BinaryOperator.{BinaryOperator}
 use Rattle.si_plain.specs.declared.operators.BinaryOperator.TheVariants as binary
 use Rattle.si_arena.specs.declared.value.Ref.{Ref}
@@ -13,8 +13,10 @@ use Rattle.si_arena.specs.declared.cause.Fault.TheVariants.{Raises, NoMemory}
 use Rattle.si_arena.specs.Memory.{Memory, PlacesBytes}
 use Rattle.si_arena.specs.Texts.{repeated_text}
 use Rattle.si_arena.proofs.Repeats.{length_times}
+use Rattle.si_arena.specs.Causes.{kind_of, message_of, CauseLies}
+use Rattle.si_ops.specs.Calls.{IsRefusal}
 use Rattle.si_ops.specs.Runs.{Runs}
-use Rattle.si_ops.specs.Operands.{text_made}
+use Rattle.si_ops.specs.Operands.{made_of}
 use Rattle.si_ops.proofs.Running.{throws_long, Goes, goes_at, goes_as, needs_left, needs_right, ok_told}
 
 -- an operation that places bytes
@@ -67,7 +69,7 @@ turned tree.BitAnd i s w = refl
 turned tree.ShiftLeft i s w = refl
 turned tree.ShiftRight i s w = refl
 
-made_turned : (o : tree.BinaryOperator) (i : ℤ) (s : List ℕ) → text_made o (pure.Int i) (pure.Bytes s) ≡ text_made o (pure.Bytes s) (pure.Int i)
+made_turned : (o : tree.BinaryOperator) (i : ℤ) (s : List ℕ) → made_of o (pure.Int i) (pure.Bytes s) ≡ made_of o (pure.Bytes s) (pure.Int i)
 made_turned tree.Add i s = refl
 made_turned tree.Subtract i s = refl
 made_turned tree.Multiply i s = refl
@@ -94,7 +96,7 @@ counted tree.BitAnd b s w = refl
 counted tree.ShiftLeft b s w = refl
 counted tree.ShiftRight b s w = refl
 
-made_counted : (o : tree.BinaryOperator) (b : Bool) (s : List ℕ) → text_made o (pure.Bytes s) (pure.Truth b) ≡ text_made o (pure.Bytes s) (pure.Int (int_of_truth b))
+made_counted : (o : tree.BinaryOperator) (b : Bool) (s : List ℕ) → made_of o (pure.Bytes s) (pure.Truth b) ≡ made_of o (pure.Bytes s) (pure.Int (int_of_truth b))
 made_counted tree.Add b s = refl
 made_counted tree.Subtract b s = refl
 made_counted tree.Multiply b s = refl
@@ -120,7 +122,7 @@ truth_turned tree.BitAnd b s w = refl
 truth_turned tree.ShiftLeft b s w = refl
 truth_turned tree.ShiftRight b s w = refl
 
-made_truth_turned : (o : tree.BinaryOperator) (b : Bool) (s : List ℕ) → text_made o (pure.Truth b) (pure.Bytes s) ≡ text_made o (pure.Bytes s) (pure.Int (int_of_truth b))
+made_truth_turned : (o : tree.BinaryOperator) (b : Bool) (s : List ℕ) → made_of o (pure.Truth b) (pure.Bytes s) ≡ made_of o (pure.Bytes s) (pure.Int (int_of_truth b))
 made_truth_turned tree.Add b s = refl
 made_truth_turned tree.Subtract b s = refl
 made_truth_turned tree.Multiply b s = refl
@@ -139,7 +141,7 @@ module _ (o : tree.BinaryOperator) (left right : Ref) (old new : Memory) (r : Re
   bytes_int_go h e f =
       let x = pure.Bytes s in
       let y = pure.Int i in
-      goes_at o left right old new r u v x y e f (goes_as o x y x y left right left old new r (λ w. refl) refl (needs_left left right (text_made o x y)) h)
+      goes_at o left right old new r u v x y e f (goes_as o x y x y left right left old new r (λ w. refl) refl (needs_left left right (made_of o x y)) h)
 
   pub bytes_truth_go : (b : Bool) → Goes o (pure.Bytes s) (pure.Int i) left left old new r → u ≡ pure.Bytes s → v ≡ pure.Truth b → i ≡ int_of_truth b → Goes o u v left right old new r
   bytes_truth_go b h e f k =
@@ -147,13 +149,13 @@ module _ (o : tree.BinaryOperator) (left right : Ref) (old new : Memory) (r : Re
       let y = pure.Int (int_of_truth b) in
       let P : ℤ → Type 0 = λ z. Goes o x (pure.Int z) left left old new r in
       goes_at o left right old new r u v x (pure.Truth b) e f
-      (goes_as o x (pure.Truth b) x y left right left old new r (counted o b s) (made_counted o b s) (needs_left left right (text_made o x y)) (subst P k h))
+      (goes_as o x (pure.Truth b) x y left right left old new r (counted o b s) (made_counted o b s) (needs_left left right (made_of o x y)) (subst P k h))
 
   pub int_bytes_go : Goes o (pure.Bytes s) (pure.Int i) right right old new r → u ≡ pure.Int i → v ≡ pure.Bytes s → Goes o u v left right old new r
   int_bytes_go h e f =
       let x = pure.Bytes s in
       let y = pure.Int i in
-      goes_at o left right old new r u v y x e f (goes_as o y x x y left right right old new r (turned o i s) (made_turned o i s) (needs_right left right (text_made o x y)) h)
+      goes_at o left right old new r u v y x e f (goes_as o y x x y left right right old new r (turned o i s) (made_turned o i s) (needs_right left right (made_of o x y)) h)
 
   pub truth_bytes_go : (b : Bool) → Goes o (pure.Bytes s) (pure.Int i) right right old new r → u ≡ pure.Truth b → v ≡ pure.Bytes s → i ≡ int_of_truth b → Goes o u v left right old new r
   truth_bytes_go b h e f k =
@@ -161,7 +163,7 @@ module _ (o : tree.BinaryOperator) (left right : Ref) (old new : Memory) (r : Re
       let y = pure.Int (int_of_truth b) in
       let P : ℤ → Type 0 = λ z. Goes o x (pure.Int z) right right old new r in
       goes_at o left right old new r u v (pure.Truth b) x e f
-      (goes_as o (pure.Truth b) x x y left right right old new r (truth_turned o b s) (made_truth_turned o b s) (needs_right left right (text_made o x y)) (subst P k h))
+      (goes_as o (pure.Truth b) x x y left right right old new r (truth_turned o b s) (made_truth_turned o b s) (needs_right left right (made_of o x y)) (subst P k h))
 
 -- bytes are joined
 pub join_bytes_go : (o : BinaryOperator) (s t : List ℕ) (left right : Ref) (old new : Memory) (r : Result Ref Fault) → o ≡ binary.Add → PlacesBytes (s ++ t) old new r → (length s + length t ≤ 14 → (new ≡ old) × IsOk r) → Goes o (pure.Bytes s) (pure.Bytes t) left right old new r
@@ -181,3 +183,18 @@ repeat_bytes_go o s i j text old new r e k p short =
       runs = repeat_runs s i old new r p;
       memory = λ n. let h = short n.2 in (h.0, ok_told r h.1);
     }))
+
+-- ---- bytes that are made of items
+
+-- there are none
+pub none_run : (f : World → Ran) (made : Option (List ℕ)) (m : Memory) (fault : Fault) → ((w : World) → f w ≡ bytes_made made w) → IsRefusal fault made → Runs f m m (Err fault)
+none_run f made m (Raises cause) is h =
+    let thrown : (w : World) → f w ≡ refused (kind_of cause) (message_of m.names cause) w =
+    λ w. is w ∙ ap (λ o. bytes_made o w) h.0 ∙ ap (λ k. refused (kind_of k) (message_of m.names k) w) (sym h.1) in
+    (((λ w e. thrown w), subst (CauseLies m.names) (sym h.1) tt), refl)
+none_run f made m NoMemory is h = refl
+
+-- there are these
+pub made_run : (f : World → Ran) (made : Option (List ℕ)) (bs : List ℕ) (old new : Memory) (r : Result Ref Fault) → ((w : World) → f w ≡ bytes_made made w) → made ≡ Some bs → PlacesBytes bs old new r → Runs f old new r
+made_run f made bs old new r is e h =
+    bytes_runs f bs old new r (λ w g. is w ∙ ap (λ o. bytes_made o w) e ∙ within_fits bs w g) (λ w g. is w ∙ ap (λ o. bytes_made o w) e ∙ within_over bs w g) h

@@ -2,7 +2,7 @@
 -- those of the arena.
 use Rattle.std.specs.Prelude.{◌≡◌, Bool, Option, Some, None, Result, Ok, Err}
 use Rattle.si_plain.specs.declared.kind.Kind.{Kind}
-use Rattle.si_plain.specs.declared.kind.Kind.TheVariants.{TypeError}
+use Rattle.si_plain.specs.declared.kind.Kind.TheVariants.{TypeError, RecursionError, ValueError}
 use Rattle.si_semantics.specs.Value as pure
 use Rattle.si_semantics.specs.World.{World, Ran}
 use Rattle.si_semantics.specs.Operations.{gave, refused}
@@ -10,6 +10,8 @@ use Rattle.si_arena.specs.declared.value.Ref.{Ref}
 use Rattle.si_arena.specs.declared.cause.Cause.{Cause}
 use Rattle.si_arena.specs.declared.cause.Fault.{Fault}
 use Rattle.si_arena.specs.declared.cause.Fault.TheVariants.{Raises, NoMemory}
+use Rattle.si_ops.specs.declared.refusal.Refusal.{Refusal}
+use Rattle.si_ops.specs.declared.refusal.Refusal.TheVariants.{WrongType, TooDeep, WrongValue}
 use Rattle.si_arena.specs.Causes.{kind_of, message_of, CauseLies}
 use Rattle.si_arena.specs.Memory.{Memory, value_of, Lies, Extends}
 
@@ -25,6 +27,17 @@ Throws f m cause = ((w : World) → w.store ≡ m.store → f w ≡ refused (kin
 abbrev pub answer_of : Option Bool → Result Bool Kind
 answer_of (Some b) = Ok b
 answer_of None = Err TypeError
+
+-- the kind of the exception with which a comparison refuses
+abbrev pub kind_refused : Refusal → Result Bool Kind
+kind_refused WrongType = Err TypeError
+kind_refused TooDeep = Err RecursionError
+kind_refused WrongValue = Err ValueError
+
+-- what a comparison gives, or why it refuses
+abbrev pub decided : Result Bool Refusal → Result Bool Kind
+decided (Ok b) = Ok b
+decided (Err refusal) = kind_refused refusal
 
 -- an operation that takes no memory: a truth, or why it raises
 abbrev pub Decides : (World → Ran) → Memory → Result Bool Cause → Type 0

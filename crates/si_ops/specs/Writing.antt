@@ -1,12 +1,10 @@
 -- What is written at the end of a String, in UTF-8.
-use Rattle.std.specs.Prelude.{codes, ◌≡◌, ℕ, ◌+◌, ◌<◌, ◌≤◌, List, [], ◌∷◌, ◌++◌, length, ℤ, pos, Option, Some, None, Result, Ok, Err, encode_utf8_all, flat_map, if◌then◌else◌}
+use Rattle.std.specs.Prelude.{codes, ◌≡◌, ℕ, ◌+◌, ◌<◌, ◌≤◌, List, [], ◌∷◌, ◌++◌, length, ℤ, pos, Bool, Result, Ok, Err, encode_utf8_all, flat_map, if◌then◌else◌}
 use Rattle.si_plain.specs.Repr.{escaped_byte}
-use Rattle.si_semantics.specs.Value.{Text, Value, Str, Object}
+use Rattle.si_semantics.specs.Value.{Text, Value, Object}
 use Rattle.si_plain.specs.declared.kind.Kind.{Kind}
 use Rattle.si_plain.specs.declared.kind.Kind.TheVariants.{KeyError, RecursionError, OverflowError}
-use Rattle.si_semantics.specs.Text.{same_int, decimal, repr_text, repr_atom, str_in, str_of, max_nested}
-use Rattle.si_arena.specs.declared.value.Ref.{Ref}
-use Rattle.si_arena.specs.declared.value.Ref.TheVariants as ref
+use Rattle.si_semantics.specs.Text.{same_int, decimal, repr_text, Written, Whole, Broken, str_in, str_of, max_nested}
 use Rattle.si_arena.specs.declared.cause.Cause.{Cause}
 use Rattle.si_arena.specs.declared.cause.Cause.TheVariants.{TooDeep, TooLong}
 use Rattle.si_arena.specs.declared.cause.Fault.{Fault}
@@ -41,10 +39,18 @@ range_end step = if same_int step (pos 1) then codes ")" else codes ", " ++ deci
 abbrev pub step_bytes : ℤ → List ℕ
 step_bytes step = if same_int step (pos 1) then codes ")" else codes ", " ++ (encode_utf8_all (decimal step) ++ codes ")")
 
--- a text in UTF-8, where there is one
-abbrev pub spelled : Option Text → List ℕ
-spelled None = []
-spelled (Some t) = encode_utf8_all t
+-- what is written of a value, all of it or up to where it breaks
+abbrev pub text_written : Written → Text
+text_written (Whole t) = t
+text_written (Broken t) = t
+
+-- the same in UTF-8
+abbrev pub spelled : Written → List ℕ
+spelled w = encode_utf8_all (text_written w)
+
+-- the most bytes of the characters of a str in UTF-8
+abbrev pub max_bytes : ℕ
+max_bytes = 4194304
 
 -- the str of an exception of a kind that says this (Standard Library, "Built-in Exceptions")
 abbrev pub caused_str : Kind → Text → Text
@@ -55,16 +61,28 @@ caused_str k t = t
 abbrev pub bytes_between : ℕ → List ℕ → Text
 bytes_between quote bs = quote ∷ flat_map (escaped_byte quote) bs ++ quote ∷ []
 
--- the str of a value that is no object
-abbrev pub plain_str : Value → Text
-plain_str (Str t) = t
-plain_str v = repr_atom v
+-- a part of these bytes was added, and from a start on there are more than any str has
+pub record Overruns {Z : Type 0} (bs : List ℕ) (start : ℕ) (old new : String Z) : Type 0 where
+  pub part : List ℕ
+  pub rest : List ℕ
+  pub is : bs ≡ part ++ rest
+  pub added : Adds part old new
+  pub past : start + max_bytes < length (string_bytes new)
 
--- a value that is no object and no range
-abbrev pub IsPlain : Ref → Type 0
-IsPlain (ref.Object x) = ⊥
-IsPlain (ref.Range place) = ⊥
-IsPlain _ = Unit {0}
+-- what is written was added, all of it, or up to where it breaks; or a part of it, where it is too long; or memory was
+-- refused
+abbrev pub Puts : {Z U : Type 0} → Written → ℕ → String Z → String Z → Result U Fault → Type 0
+Puts w start old new (Ok _) = (t : Text) × (w ≡ Whole t) × Adds (encode_utf8_all t) old new
+Puts w start old new (Err (Raises TooDeep)) = (t : Text) × (w ≡ Broken t) × Adds (encode_utf8_all t) old new
+Puts w start old new (Err (Raises TooLong)) = Overruns (spelled w) start old new
+Puts w start old new (Err (Raises _)) = ⊥
+Puts w start old new (Err NoMemory) = Lacks (spelled w) old new
+
+-- what came of a text, by whether it is too long: that is told, unless memory was refused
+abbrev pub judged_by : {U : Type 0} → Bool → Result U Fault → Result U Fault
+judged_by long (Err NoMemory) = Err NoMemory
+judged_by long (Err (Raises cause)) = if long then Err (Raises TooLong) else Err (Raises cause)
+judged_by long (Ok u) = if long then Err (Raises TooLong) else Ok u
 
 -- ---- what is promised
 
@@ -92,7 +110,8 @@ abbrev pub spaced_in : List Object → List Value → Result Text Kind
 spaced_in store [] = Ok []
 spaced_in store (v ∷ vs) = elim (str_in store v) [ Err k ↦ Err k | Ok t ↦ elim (spaced_in store vs) [ Err k ↦ Err k | Ok rest ↦ Ok (32 ∷ (t ++ rest)) ] ]
 
--- the str of values in UTF-8, each with a space before it, however long it is; of one that is too deep nothing
+-- the str of values in UTF-8, each with a space before it, however long it is; of one that is too deep what stands
+-- before it breaks
 abbrev pub spaced_bytes : List Object → List Value → List ℕ
 spaced_bytes store [] = []
 spaced_bytes store (v ∷ vs) = 32 ∷ (spelled (str_of max_nested store v) ++ spaced_bytes store vs)

@@ -8,11 +8,12 @@ ghost use Rattle.si_semantics.specs.Operations.{operate_integers, operate_truths
 ghost use Rattle.si_arena.specs.Memory.{Memory, value_of, Lies};
 ghost use Rattle.si_arena.specs.Texts.{text_of};
 ghost use Rattle.si_ops.specs.Runs.{Runs, Tells};
-ghost use Rattle.si_ops.specs.Operands.{IsNoInteger, text_made, NeedsNone, IsTold};
+ghost use Rattle.si_ops.specs.Operands.{IsNoInteger, made_of, NeedsNone, IsTold};
 
 use crate::bytes::{byte_copies, joined_bytes};
 use crate::operand::Operand;
 use crate::truth::{int_of_truth, is_true};
+use crate::tuples::{joined_tuples, tuple_copies};
 use si_arena::{Arena, Cause, Fault, Ref};
 use si_plain::{
     BinaryOperator, Kind, UnaryOperator, add, bit_and, bit_or, bit_xor, floordiv, invert, modulo,
@@ -29,6 +30,7 @@ pub fn unary(arena: &Arena, operator: UnaryOperator, value: Ref) -> Result<Ref, 
         Operand::Truth(truth) => of_truth(operator, truth),
         Operand::Text => of_other(arena, operator, value),
         Operand::Bytes => of_other(arena, operator, value),
+        Operand::Tuple => of_other(arena, operator, value),
         Operand::Other => of_other(arena, operator, value),
     }
 }
@@ -80,8 +82,8 @@ fn of_other(arena: &Arena, operator: UnaryOperator, value: Ref) -> Result<Ref, C
 }
 
 /// An operator between two values (Python Language Reference 3.14, 6.5 and 6.7 to 6.9). It takes no memory where it
-/// makes neither a str nor bytes, nor where it makes at most 14 characters of operands that have no wide one, or at most
-/// 14 bytes.
+/// makes neither a str, nor bytes, nor a tuple, nor where it makes at most 14 characters of operands that have no wide one, or
+/// at most 14 bytes, nor where a tuple would be too large.
 #[inline(always)]
 pub fn binary(
     arena: &mut Arena,
@@ -92,7 +94,7 @@ pub fn binary(
     requires left { Lies arena.old left }
     requires right { Lies arena.old right }
     ensures runs { Runs (λ w. operate operator (value_of arena.old left) (value_of arena.old right) w) arena.old arena.new result }
-    ensures memory { NeedsNone left right (text_made operator (value_of arena.old left) (value_of arena.old right)) → (arena.new ≡ arena.old) × IsTold result }
+    ensures memory { NeedsNone left right (made_of operator (value_of arena.old left) (value_of arena.old right)) → (arena.new ≡ arena.old) × IsTold result }
 {
     match (left, right) {
         (Ref::Int(x), Ref::Int(y)) => integers(operator, x, y),
@@ -156,7 +158,7 @@ fn operands(
     requires left { Lies arena.old left }
     requires right { Lies arena.old right }
     ensures runs { Runs (λ w. operate operator (value_of arena.old left) (value_of arena.old right) w) arena.old arena.new result }
-    ensures memory { NeedsNone left right (text_made operator (value_of arena.old left) (value_of arena.old right)) → (arena.new ≡ arena.old) × IsTold result }
+    ensures memory { NeedsNone left right (made_of operator (value_of arena.old left) (value_of arena.old right)) → (arena.new ≡ arena.old) × IsTold result }
 {
     let (first, second) = (Operand::of(arena, left), Operand::of(arena, right));
     match (first, second) {
@@ -174,8 +176,22 @@ fn operands(
         (Operand::Bytes, Operand::Truth(b)) => byte_copies(arena, operator, left, int_of_truth(b)),
         (Operand::Integer(n), Operand::Bytes) => byte_copies(arena, operator, right, n),
         (Operand::Truth(b), Operand::Bytes) => byte_copies(arena, operator, right, int_of_truth(b)),
+        (Operand::Tuple, Operand::Tuple) => joined_tuples(arena, operator, left, right),
+        (Operand::Tuple, Operand::Integer(n)) => tuple_copies(arena, operator, left, n),
+        (Operand::Tuple, Operand::Truth(b)) => tuple_copies(arena, operator, left, int_of_truth(b)),
+        (Operand::Integer(n), Operand::Tuple) => tuple_copies(arena, operator, right, n),
+        (Operand::Truth(b), Operand::Tuple) => tuple_copies(
+            arena,
+            operator,
+            right,
+            int_of_truth(b),
+        ),
         (Operand::Text, Operand::Bytes) => Err(Fault::Raises(Cause::WrongType)),
+        (Operand::Text, Operand::Tuple) => Err(Fault::Raises(Cause::WrongType)),
         (Operand::Bytes, Operand::Text) => Err(Fault::Raises(Cause::WrongType)),
+        (Operand::Bytes, Operand::Tuple) => Err(Fault::Raises(Cause::WrongType)),
+        (Operand::Tuple, Operand::Text) => Err(Fault::Raises(Cause::WrongType)),
+        (Operand::Tuple, Operand::Bytes) => Err(Fault::Raises(Cause::WrongType)),
         (Operand::Other, _) => Err(Fault::Raises(Cause::WrongType)),
         (_, Operand::Other) => Err(Fault::Raises(Cause::WrongType)),
     }
@@ -186,7 +202,7 @@ fn joined(arena: &mut Arena, operator: BinaryOperator, left: Ref, right: Ref) ->
     requires left { Lies arena.old left }
     requires right { Lies arena.old right }
     ensures runs { Runs (λ w. operate operator (Str (text_of arena.old.texts left)) (Str (text_of arena.old.texts right)) w) arena.old arena.new result }
-    ensures memory { NeedsNone left right (text_made operator (Str (text_of arena.old.texts left)) (Str (text_of arena.old.texts right))) → (arena.new ≡ arena.old) × IsTold result }
+    ensures memory { NeedsNone left right (made_of operator (Str (text_of arena.old.texts left)) (Str (text_of arena.old.texts right))) → (arena.new ≡ arena.old) × IsTold result }
 {
     match operator {
         BinaryOperator::Add => arena.join(left, right),
@@ -198,7 +214,7 @@ fn joined(arena: &mut Arena, operator: BinaryOperator, left: Ref, right: Ref) ->
 fn copies(arena: &mut Arena, operator: BinaryOperator, text: Ref, count: i64) -> Result<Ref, Fault>
     requires { Lies arena.old text }
     ensures runs { Runs (λ w. operate operator (Str (text_of arena.old.texts text)) (Int count) w) arena.old arena.new result }
-    ensures memory { NeedsNone text text (text_made operator (Str (text_of arena.old.texts text)) (Int count)) → (arena.new ≡ arena.old) × IsTold result }
+    ensures memory { NeedsNone text text (made_of operator (Str (text_of arena.old.texts text)) (Int count)) → (arena.new ≡ arena.old) × IsTold result }
 {
     match operator {
         BinaryOperator::Multiply => arena.repeat(text, count),

@@ -3,19 +3,19 @@
 ghost use Rattle.std.specs.Prelude.{codes, ◌≡◌, ◌++◌, OnOk, OnErr, encode_utf8_all};
 ghost use Rattle.si_plain.specs.Kinds.{name_of};
 ghost use Rattle.si_semantics.specs.Text as semantics;
-ghost use Rattle.si_arena.specs.Memory.{built_in_of};
+ghost use Rattle.si_arena.specs.Memory.{Memory, built_in_of};
 ghost use Rattle.si_arena.specs.Views.{value_in};
-ghost use Rattle.si_ops.specs.Writing.{Adds, Lacks, step_bytes, plain_str};
+ghost use Rattle.si_ops.specs.Writing.{Adds, Lacks, step_bytes};
 
-use crate::pieces::{put, put_characters, put_int, put_within};
+use crate::pieces::{put, put_int, put_within};
 use crate::quoted::{put_bytes, put_quoted};
 use si_arena::{BuiltIn, View};
 use si_plain::{Kind, NoMemory, Text};
 
-// Adds the `repr` of what is shown; of an object nothing.
+// Adds the `repr` of what is shown; of what holds values nothing.
 pub fn put_view(out: &mut String, view: View) -> Result<(), NoMemory>
-    ensures ok { OnOk result (Adds (encode_utf8_all (semantics.repr_atom (value_in view.entry))) out.old out.new) }
-    ensures err { OnErr result (Lacks (encode_utf8_all (semantics.repr_atom (value_in view.entry))) out.old out.new) }
+    ensures ok { (m : Memory) → OnOk result (Adds (encode_utf8_all (semantics.repr_atom (value_in m view.entry))) out.old out.new) }
+    ensures err { (m : Memory) → OnErr result (Lacks (encode_utf8_all (semantics.repr_atom (value_in m view.entry))) out.old out.new) }
 {
     match view {
         View::None => put(out, "None"),
@@ -28,18 +28,8 @@ pub fn put_view(out: &mut String, view: View) -> Result<(), NoMemory>
         View::Function(_, name) => put_function(out, name),
         View::Range(steps) => put_range(out, steps.start, steps.stop, steps.step),
         View::Kind(kind) => put_class(out, kind),
+        View::Tuple(_) => Ok(()),
         View::Object(_) => Ok(()),
-    }
-}
-
-// Adds the `str` of what is shown; of an object nothing.
-pub fn put_view_str(out: &mut String, view: View) -> Result<(), NoMemory>
-    ensures ok { OnOk result (Adds (encode_utf8_all (plain_str (value_in view.entry))) out.old out.new) }
-    ensures err { OnErr result (Lacks (encode_utf8_all (plain_str (value_in view.entry))) out.old out.new) }
-{
-    match view {
-        View::Str(characters) => put_characters(out, characters),
-        _ => put_view(out, view),
     }
 }
 
@@ -69,6 +59,7 @@ pub fn built_in_name(function: BuiltIn) -> &'static str
         BuiltIn::Min => "min",
         BuiltIn::Max => "max",
         BuiltIn::Bytes => "bytes",
+        BuiltIn::Tuple => "tuple",
     }
 }
 

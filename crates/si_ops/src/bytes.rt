@@ -8,10 +8,11 @@ ghost use Rattle.si_semantics.specs.Operations.{operate, bytes_from, range_items
 ghost use Rattle.si_arena.specs.Memory.{value_of, range_of, all_of, Lies, AllLie};
 ghost use Rattle.si_arena.specs.Bytes.{bytes_of};
 ghost use Rattle.si_ops.specs.Runs.{Runs};
-ghost use Rattle.si_ops.specs.Operands.{text_made, NeedsNone, IsTold};
+ghost use Rattle.si_ops.specs.Operands.{made_of, NeedsNone, IsTold};
 ghost use Rattle.si_plain.specs.Integers.{sum_of};
 ghost use Rattle.si_ops.specs.Calls.{IsRefusal, byte_of, StepsTo};
 
+use crate::operand::integer_in;
 use crate::ranges::items_in;
 use si_arena::{Arena, Cause, Fault, Ref, Steps, View};
 use si_plain::{BinaryOperator, Kind, NoMemory, add};
@@ -27,7 +28,7 @@ pub fn joined_bytes(
     requires left { Lies arena.old left }
     requires right { Lies arena.old right }
     ensures runs { Runs (λ w. operate operator (Bytes (bytes_of arena.old.texts left)) (Bytes (bytes_of arena.old.texts right)) w) arena.old arena.new result }
-    ensures memory { NeedsNone left right (text_made operator (Bytes (bytes_of arena.old.texts left)) (Bytes (bytes_of arena.old.texts right))) → (arena.new ≡ arena.old) × IsTold result }
+    ensures memory { NeedsNone left right (made_of operator (Bytes (bytes_of arena.old.texts left)) (Bytes (bytes_of arena.old.texts right))) → (arena.new ≡ arena.old) × IsTold result }
 {
     match operator {
         BinaryOperator::Add => arena.join_bytes(left, right),
@@ -44,7 +45,7 @@ pub fn byte_copies(
 ) -> Result<Ref, Fault>
     requires { Lies arena.old bytes }
     ensures runs { Runs (λ w. operate operator (Bytes (bytes_of arena.old.texts bytes)) (Int count) w) arena.old arena.new result }
-    ensures memory { NeedsNone bytes bytes (text_made operator (Bytes (bytes_of arena.old.texts bytes)) (Int count)) → (arena.new ≡ arena.old) × IsTold result }
+    ensures memory { NeedsNone bytes bytes (made_of operator (Bytes (bytes_of arena.old.texts bytes)) (Int count)) → (arena.new ≡ arena.old) × IsTold result }
 {
     match operator {
         BinaryOperator::Multiply => arena.repeat_bytes(bytes, count),
@@ -70,6 +71,7 @@ fn place_items(arena: &mut Arena, value: Ref) -> Result<Ref, Fault>
 {
     let bytes = match arena.view(&value) {
         View::Range(steps) => bytes_in(arena.allocator(), steps)?,
+        View::Tuple(items) => bytes_meant(arena, items)?,
         _ => return Err(Fault::Raises(Cause::WrongType)),
     };
     arena.place_bytes(bytes.as_slice())
@@ -90,6 +92,33 @@ fn bytes_in(alloc: Global, steps: &Steps) -> Result<Vec<u8>, Fault>
         at = step_from(at, steps.step);
     }
     Ok(bytes)
+}
+
+// The bytes that values are, where each is one.
+fn bytes_meant(arena: &Arena, items: &[Ref]) -> Result<Vec<u8>, Fault>
+    requires { AllLie arena.now items.now }
+    ensures ok { IfOk result (λ bytes. operations.bytes_in (all_of arena.now items.now) ≡ Some bytes.items) }
+    ensures err { IfErr result (λ fault. IsRefusal fault (operations.bytes_in (all_of arena.now items.now))) }
+{
+    let mut bytes = Vec::new(arena.allocator());
+    for i in 0..items.len() {
+        let Some(byte) = byte_meant(arena, items[i]) else {
+            return Err(Fault::Raises(Cause::Arithmetic(Kind::ValueError)));
+        };
+        keep(&mut bytes, byte)?;
+    }
+    Ok(bytes)
+}
+
+// The byte that a value is.
+fn byte_meant(arena: &Arena, value: Ref) -> Option<u8>
+    requires { Lies arena.now value }
+    ensures { result ≡ operations.byte_meant (operations.integer_in (value_of arena.now value)) }
+{
+    match integer_in(arena, value) {
+        Ok(n) => byte_of(n),
+        Err(_) => None,
+    }
 }
 
 // Puts a byte after others.

@@ -16,6 +16,7 @@ use crate::provided::{
     call_abs, call_bool, call_chr, call_int, call_len, call_max, call_min, call_ord,
 };
 use crate::shown::{push_repr, push_str};
+use crate::tuples::call_tuple;
 use si_arena::{Arena, BuiltIn, Cause, Fault, Object, Ref, Steps, View};
 use si_plain::Kind;
 
@@ -33,8 +34,8 @@ pub enum Called {
 /// which makes one. What `print` prints is added to `line`, where a `str` is also written before it is placed.
 /// `NotCallable` for any other value, `WrongArguments`, `WrongType`, `Arithmetic`, `TooDeep` and `TooLong` as the
 /// definition raises them. Where nothing is given, the arena and the text of `line` are as before. Memory is asked for
-/// neither by `print`, where the line has room, nor by what makes no str, no bytes, no range and no exception, nor where
-/// the value can't be called.
+/// neither by `print`, where the line has room, nor by `tuple`, where it makes none, nor by what makes no str, no bytes, no
+/// range and no exception, nor where the value can't be called.
 pub fn call(
     arena: &mut Arena,
     line: &mut String,
@@ -109,6 +110,10 @@ fn call_built_in(
         BuiltIn::Bytes => {
             let bytes = call_bytes(arena, arguments)?;
             Ok(Called::Value(bytes))
+        }
+        BuiltIn::Tuple => {
+            let tuple = call_tuple(arena, arguments)?;
+            Ok(Called::Value(tuple))
         }
     }
 }

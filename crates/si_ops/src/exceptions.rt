@@ -1,16 +1,16 @@
 // Which except clause catches which exception, and what `raise` raises.
 
-ghost use Rattle.std.specs.Prelude.{◌≡◌, ℕ, ◌<◌, length, IsOk, IsSome, Some, IfSome, IfOk, OnErr};
+ghost use Rattle.std.specs.Prelude.{◌≡◌, Option, ℕ, ◌<◌, length, IsOk, IsSome, Some, IfSome, IfOk, OnErr};
 ghost use Rattle.si_semantics.specs.Value as pure;
 ghost use Rattle.si_semantics.specs.Operations as operations;
 ghost use Rattle.si_arena.specs.declared.value.Ref.TheVariants as ref;
 ghost use Rattle.si_arena.specs.Causes.{kind_of, message_of, CauseLies};
-ghost use Rattle.si_arena.specs.Memory.{value_of, object_of, Lies, ObjectLies, IsMade};
+ghost use Rattle.si_arena.specs.Memory.{value_of, all_of, object_of, Lies, AllLie, ObjectLies, IsMade};
 ghost use Rattle.si_ops.specs.Runs.{Decides};
 ghost use Rattle.si_ops.specs.Raised.{IsRaised};
 
 use si_arena::{Arena, Cause, Object, Ref, View};
-use si_plain::NoMemory;
+use si_plain::{Kind, NoMemory};
 
 /// Whether an except clause with this value matches the exception at an address (Python Language Reference 3.14,
 /// 8.4.1). It takes no memory.
@@ -21,8 +21,27 @@ pub fn catches(arena: &Arena, clause: Ref, address: usize) -> Result<bool, Cause
 {
     match arena.view(&clause) {
         View::Kind(top) => Ok(arena.object(address).kind().is_a(top)),
+        View::Tuple(kinds) => match is_of_one(arena, kinds, arena.object(address).kind()) {
+            Some(truth) => Ok(truth),
+            None => Err(Cause::WrongType),
+        },
         _ => Err(Cause::WrongType),
     }
+}
+
+// Whether a kind is one of these, or under one; there is no answer where one of these is no kind.
+fn is_of_one(arena: &Arena, kinds: &[Ref], kind: Kind) -> Option<bool>
+    requires { AllLie arena.now kinds.now }
+    ensures { (a : Option pure.Value) → result ≡ operations.is_of_one (all_of arena.now kinds.now) (Some (pure.Exception kind a)) }
+{
+    let mut matches = false;
+    for i in 0..kinds.len() {
+        let View::Kind(top) = arena.view(&kinds[i]) else {
+            return None;
+        };
+        matches = matches || kind.is_a(top);
+    }
+    Some(matches)
 }
 
 /// The exception that `raise` with a value raises, by its address (Python Language Reference 3.14, 7.8): an exception
@@ -39,6 +58,10 @@ pub fn raised_by(arena: &mut Arena, value: Ref) -> Result<usize, NoMemory>
         Ref::Kind(kind) => make_at(arena, Object::Bare(kind)),
         Ref::Range(place) => {
             let _steps = arena.steps(place);
+            raised_for(arena, Cause::WrongType)
+        }
+        Ref::Tuple(place) => {
+            let _items = arena.tuple(place);
             raised_for(arena, Cause::WrongType)
         }
         _ => raised_for(arena, Cause::WrongType),

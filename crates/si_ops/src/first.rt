@@ -80,7 +80,7 @@ fn is_spelled(name: &str, word: &str) -> bool
 }
 
 // The built-ins that are no kinds (Python Standard Library 3.14, "Built-in Functions").
-fn built_ins() -> [BuiltIn; 13]
+fn built_ins() -> [BuiltIn; 14]
     ensures { map built_in_of result ≡ operations.built_ins }
 {
     [
@@ -97,6 +97,7 @@ fn built_ins() -> [BuiltIn; 13]
         BuiltIn::Min,
         BuiltIn::Max,
         BuiltIn::Bytes,
+        BuiltIn::Tuple,
     ]
 }
 

@@ -9,6 +9,7 @@ ghost use Rattle.si_ops.specs.Items.{items_of, ItemsLie, GivesNext};
 ghost use Rattle.si_ops.specs.declared.items.Items.TheVariants as item;
 
 use crate::ranges::is_item;
+use crate::tuples::members;
 use si_arena::{Arena, Ref, View};
 use si_plain::add;
 
@@ -21,6 +22,8 @@ pub enum Items {
     Characters { text: Ref, given: u32, length: u32 },
     /// Bytes, each as an integer, of which so many were given.
     Octets { bytes: Ref, given: usize },
+    /// The items of a tuple, of which so many were given.
+    Members { tuple: Ref, given: usize },
     /// Nothing.
     NoMore,
 }
@@ -50,6 +53,10 @@ impl Items {
                 bytes: value,
                 given: 0,
             }),
+            View::Tuple(_) => Some(Items::Members {
+                tuple: value,
+                given: 0,
+            }),
             _ => None,
         }
     }
@@ -68,6 +75,7 @@ impl Items {
                 length,
             } => next_character(arena, text, given, length),
             Items::Octets { bytes, given } => next_octet(arena, bytes, given),
+            Items::Members { tuple, given } => next_member(arena, tuple, given),
             Items::NoMore => None,
         }
     }
@@ -133,4 +141,18 @@ fn next_octet(arena: &Arena, bytes: Ref, given: usize) -> Option<(Ref, Items)>
     let octet = Ref::Int(i64::from(all[given]));
     let given = given + 1;
     Some((octet, Items::Octets { bytes, given }))
+}
+
+// The next item of a tuple, and what is left.
+fn next_member(arena: &Arena, tuple: Ref, given: usize) -> Option<(Ref, Items)>
+    requires { ItemsLie arena.now (item.Members tuple given) }
+    ensures { GivesNext arena.now (item.Members tuple given) result }
+{
+    let all = members(arena, &tuple);
+    if given >= all.len() {
+        return None;
+    }
+    let member = all[given];
+    let given = given + 1;
+    Some((member, Items::Members { tuple, given }))
 }

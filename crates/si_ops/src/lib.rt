@@ -7,12 +7,12 @@
 //
 // In reading order: `ranges` (the integers of a range), `characters` (texts compared where they lie), `truth` (whether a
 // value counts as true), `operand` (what a value is to an operator), `arithmetic` (operators before a value and between
-// two), `membership` (what is in a
-// value), `comparison`, `subscripts` (`E[i]`), `items` (what a `for` goes over), `exceptions` (which clause catches what, and what `raise` raises),
-// `pieces`, `quoted`, `atoms` and `messages` (the parts of what is written), `shown` (`str` and `repr`), `line` (what
-// `print` writes), `first` (the names that are there from the first), `numerals` (the integers that texts write),
-// `provided` (the built-ins that give a value), `bytes` (bytes joined, repeated and made) and `calls` (of what is there
-// from the first).
+// two), `refusal` (why a comparison has no answer), `equality` (`==`), `membership` (what is in a value), `comparison`,
+// `subscripts` (`E[i]`), `items` (what a `for` goes over), `exceptions` (which clause catches what, and what `raise`
+// raises), `pieces`, `quoted`, `atoms` and `messages` (the parts of what is written), `shown` (`str` and `repr`), `line`
+// (what `print` writes), `first` (the names that are there from the first), `numerals` (the integers that texts write),
+// `provided` (the built-ins that give a value), `bytes` and `tuples` (bytes and tuples joined, repeated and made) and
+// `calls` (of what is there from the first).
 #![tactic(auto)]
 
 mod arithmetic;
@@ -21,6 +21,7 @@ mod bytes;
 mod calls;
 mod characters;
 mod comparison;
+mod equality;
 mod exceptions;
 mod first;
 mod items;
@@ -33,9 +34,11 @@ mod pieces;
 mod provided;
 mod quoted;
 mod ranges;
+mod refusal;
 mod shown;
 mod subscripts;
 mod truth;
+mod tuples;
 
 pub use arithmetic::{binary, on_integers, unary};
 pub use calls::{Called, call, call_by_name};

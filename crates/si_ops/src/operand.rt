@@ -18,7 +18,8 @@ pub enum Operand {
     /// A str.
     Text,
     Bytes,
-    /// Of a kind that no operator on integers, on texts or on bytes takes.
+    Tuple,
+    /// Of a kind that no operator on integers, on texts, on bytes or on tuples takes.
     Other,
 }
 
@@ -37,6 +38,7 @@ impl Operand {
             View::BuiltIn(_) => Operand::Other,
             View::Function(_, _) => Operand::Other,
             View::Range(_) => Operand::Other,
+            View::Tuple(_) => Operand::Tuple,
             View::Kind(_) => Operand::Other,
             View::Object(_) => Operand::Other,
         }
@@ -58,6 +60,7 @@ pub fn integer_in(arena: &Arena, value: Ref) -> Result<i64, Cause>
         View::BuiltIn(_) => Err(Cause::WrongType),
         View::Function(_, _) => Err(Cause::WrongType),
         View::Range(_) => Err(Cause::WrongType),
+        View::Tuple(_) => Err(Cause::WrongType),
         View::Kind(_) => Err(Cause::WrongType),
         View::Object(_) => Err(Cause::WrongType),
     }

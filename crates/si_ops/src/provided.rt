@@ -39,6 +39,7 @@ fn length_in(arena: &Arena, value: Ref) -> Result<Ref, Cause>
         View::Str(text) => Ok(Ref::Int(length_of(text) as i64)),
         View::Bytes(bytes) => Ok(Ref::Int(bytes.len() as i64)),
         View::Range(steps) => integer(with_sign(items_in(steps), false)),
+        View::Tuple(items) => Ok(Ref::Int(items.len() as i64)),
         _ => Err(Cause::WrongType),
     }
 }

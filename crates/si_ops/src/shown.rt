@@ -1,24 +1,28 @@
 // `str` and `repr`.
 
-ghost use Rattle.std.specs.Prelude.{codes, ◌≡◌, ℕ, ◌<◌, ◌++◌, true, not, is_some, nat_lt, length, drop, get_or, OnOk, OnErr, string_bytes};
+ghost use Rattle.std.specs.Prelude.{codes, suc, ◌≡◌, ◌<◌, ◌+◌, ◌++◌, nat_lt, length, drop, OnOk, OnErr, string_bytes};
 ghost use Rattle.std.specs.Str.{IsCharBoundary};
 ghost use Rattle.si_plain.specs.Characters.{characters_of};
 ghost use Rattle.si_plain.specs.Kinds.{name_of};
-ghost use Rattle.si_semantics.specs.Value.{Nothing};
+ghost use Rattle.si_semantics.specs.Value as pure;
 ghost use Rattle.si_semantics.specs.Text as semantics;
-ghost use Rattle.si_arena.specs.Memory.{value_of, Lies};
-ghost use Rattle.si_ops.specs.Writing.{Adds, Lacks, Writes, Appends, spelled, IsPlain};
+ghost use Rattle.si_arena.specs.Memory.{Memory, value_of, all_of, Lies, AllLie};
+ghost use Rattle.si_ops.specs.Writing.{Adds, Lacks, Puts, Writes, Appends, spelled, judged_by, max_bytes};
 
-use crate::atoms::{put_view, put_view_str};
+use crate::atoms::put_view;
 use crate::messages::{put_caused_repr, put_caused_str};
-use crate::pieces::put;
+use crate::pieces::{put, put_characters};
 use si_arena::{Arena, Cause, Fault, Object, Ref, View};
-use si_plain::limits::{MAX_EXCEPTIONS_WRITTEN, MAX_STR_LENGTH};
+use si_plain::limits::{MAX_NESTED, MAX_STR_LENGTH};
 use si_plain::{Kind, NoMemory};
 
-/// Adds the `str` of a value at the end of a String (Python Standard Library 3.14, "Built-in Functions"). `TooDeep`
-/// where more than 200 objects are within each other, `TooLong` where it has more characters than a str may have;
-/// memory is asked for only where the String has no room. Where it is not added, the String's text is as before.
+// The most bytes of the characters of a str in UTF-8.
+const MAX_STR_BYTES: usize = 4_194_304;
+
+/// Adds the `str` of a value at the end of a String (Python Standard Library 3.14, "Built-in Functions"). `TooLong`
+/// where it has more characters than a str may have, `TooDeep` where more than 200 tuples and objects are within each
+/// other: what is met first from the left. Memory is asked for only where the String has no room. Where it is not
+/// added, the String's text is as before.
 pub fn push_str(out: &mut String, arena: &Arena, value: Ref) -> Result<(), Fault>
     requires { Lies arena.now value }
     ensures { Appends (semantics.str_in arena.now.store (value_of arena.now value)) (spelled (semantics.str_of semantics.max_nested arena.now.store (value_of arena.now value))) out.old out.new result }
@@ -54,15 +58,9 @@ pub fn add_str(out: &mut String, arena: &Arena, value: Ref) -> Result<(), Fault>
     requires { Lies arena.now value }
     ensures { Writes (semantics.str_in arena.now.store (value_of arena.now value)) (spelled (semantics.str_of semantics.max_nested arena.now.store (value_of arena.now value))) out.old out.new result }
 {
-    if is_too_deep(arena, value) {
-        return Err(Fault::Raises(Cause::TooDeep));
-    }
     let start = out.len();
-    put_str(out, arena, value, MAX_EXCEPTIONS_WRITTEN)?;
-    if is_too_long(out, start) {
-        return Err(Fault::Raises(Cause::TooLong));
-    }
-    Ok(())
+    let written = put_str(out, arena, value, MAX_NESTED, start);
+    judged(out, start, written)
 }
 
 // The same of the `repr`.
@@ -70,15 +68,25 @@ fn add_repr(out: &mut String, arena: &Arena, value: Ref) -> Result<(), Fault>
     requires { Lies arena.now value }
     ensures { Writes (semantics.repr_in arena.now.store (value_of arena.now value)) (spelled (semantics.repr_of semantics.max_nested arena.now.store (value_of arena.now value))) out.old out.new result }
 {
-    if is_too_deep(arena, value) {
-        return Err(Fault::Raises(Cause::TooDeep));
-    }
     let start = out.len();
-    put_repr(out, arena, value, MAX_EXCEPTIONS_WRITTEN)?;
-    if is_too_long(out, start) {
-        return Err(Fault::Raises(Cause::TooLong));
+    let written = put_repr(out, arena, value, MAX_NESTED, start);
+    judged(out, start, written)
+}
+
+// What came of the text that stands in a String from a start on: where it is too long, that is told.
+fn judged(out: &String, start: usize, written: Result<(), Fault>) -> Result<(), Fault>
+    requires { IsCharBoundary (string_bytes out.now) start }
+    ensures { result ≡ judged_by (nat_lt semantics.max_length (length (characters_of (drop start (string_bytes out.now))))) written }
+{
+    match written {
+        Err(Fault::NoMemory) => Err(Fault::NoMemory),
+        _ => {
+            if is_too_long(out, start) {
+                return Err(Fault::Raises(Cause::TooLong));
+            }
+            written
+        }
     }
-    Ok(())
 }
 
 // Whether what stands in a String from a start on has more characters than a str may have.
@@ -100,121 +108,200 @@ fn count_behind(out: &String, start: usize) -> usize
     out.as_str()[start..].chars().count()
 }
 
-// Whether more objects are within each other in a value than are written.
-fn is_too_deep(arena: &Arena, value: Ref) -> bool
+// Adds the `str` of a value, where tuples and objects are within each other at most so deep. It need not go on where it
+// is too long, by what stands in the String from a start on.
+#[cycle(str)]
+fn put_str(
+    out: &mut String,
+    arena: &Arena,
+    value: Ref,
+    depth: usize,
+    start: usize,
+) -> Result<(), Fault>
     requires { Lies arena.now value }
-    ensures repr { result ≡ not (is_some (semantics.repr_of semantics.max_nested arena.now.store (value_of arena.now value))) }
-    ensures str { result ≡ not (is_some (semantics.str_of semantics.max_nested arena.now.store (value_of arena.now value))) }
+    ensures { Puts (semantics.str_of depth arena.now.store (value_of arena.now value)) start out.old out.new result }
 {
-    !is_within(arena, value, MAX_EXCEPTIONS_WRITTEN)
-}
-
-// Whether at most so many objects are within each other in a value.
-fn is_within(arena: &Arena, value: Ref, depth: usize) -> bool
-    requires { Lies arena.now value }
-    ensures repr { result ≡ is_some (semantics.repr_of depth arena.now.store (value_of arena.now value)) }
-    ensures str { result ≡ is_some (semantics.str_of depth arena.now.store (value_of arena.now value)) }
-{
-    match value {
-        Ref::Object(address) => {
+    match arena.view(&value) {
+        View::Str(characters) => {
+            put_characters(out, characters)?;
+            Ok(())
+        }
+        View::Object(address) => {
             if depth == 0 {
-                return false;
+                return Err(Fault::Raises(Cause::TooDeep));
             }
-            match arena.object(address) {
-                Object::Bare(_) => true,
-                Object::Caused(_) => true,
-                Object::Made(_, argument) => is_within(arena, argument, depth - 1),
-            }
+            put_exception_str(out, arena, address, depth - 1, start)
         }
-        Ref::Range(place) => {
-            let _steps = arena.steps(place);
-            true
-        }
-        _ => true,
+        _ => put_repr(out, arena, value, depth, start),
     }
 }
 
-// Adds the `str` of a value in which at most so many objects are within each other.
-fn put_str(out: &mut String, arena: &Arena, value: Ref, depth: usize) -> Result<(), NoMemory>
-    requires { Lies arena.now value }
-    ensures ok { is_some (semantics.str_of depth arena.now.store (value_of arena.now value)) ≡ true → OnOk result (Adds (spelled (semantics.str_of depth arena.now.store (value_of arena.now value))) out.old out.new) }
-    ensures err { is_some (semantics.str_of depth arena.now.store (value_of arena.now value)) ≡ true → OnErr result (Lacks (spelled (semantics.str_of depth arena.now.store (value_of arena.now value))) out.old out.new) }
+// Adds the `str` of the exception at an address, where tuples and objects are within it at most so deep.
+#[cycle(str)]
+fn put_exception_str(
+    out: &mut String,
+    arena: &Arena,
+    address: usize,
+    depth: usize,
+    start: usize,
+) -> Result<(), Fault>
+    requires { address < length arena.now.store }
+    ensures { Puts (semantics.str_of (suc depth) arena.now.store (pure.Address address)) start out.old out.new result }
 {
-    match value {
-        Ref::Object(address) => {
-            if depth == 0 {
-                return Ok(());
-            }
-            match arena.object(address) {
-                Object::Bare(_) => Ok(()),
-                Object::Caused(cause) => put_caused_str(out, arena, cause),
-                Object::Made(kind, argument) => match kind {
-                    Kind::KeyError => put_repr(out, arena, argument, depth - 1),
-                    _ => put_str(out, arena, argument, depth - 1),
-                },
-            }
+    match arena.object(address) {
+        Object::Bare(_) => Ok(()),
+        Object::Caused(cause) => {
+            put_caused_str(out, arena, cause)?;
+            Ok(())
         }
-        Ref::Range(place) => put_range_at(out, arena, place),
-        _ => put_plain_str(out, arena, value),
+        Object::Made(kind, argument) => match kind {
+            Kind::KeyError => put_repr(out, arena, argument, depth, start),
+            _ => put_str(out, arena, argument, depth, start),
+        },
     }
 }
 
-// Adds the `repr` of a value in which at most so many objects are within each other.
-fn put_repr(out: &mut String, arena: &Arena, value: Ref, depth: usize) -> Result<(), NoMemory>
+// Adds the `repr` of a value, in the same way.
+#[cycle(repr)]
+fn put_repr(
+    out: &mut String,
+    arena: &Arena,
+    value: Ref,
+    depth: usize,
+    start: usize,
+) -> Result<(), Fault>
     requires { Lies arena.now value }
-    ensures ok { is_some (semantics.repr_of depth arena.now.store (value_of arena.now value)) ≡ true → OnOk result (Adds (spelled (semantics.repr_of depth arena.now.store (value_of arena.now value))) out.old out.new) }
-    ensures err { is_some (semantics.repr_of depth arena.now.store (value_of arena.now value)) ≡ true → OnErr result (Lacks (spelled (semantics.repr_of depth arena.now.store (value_of arena.now value))) out.old out.new) }
+    ensures { Puts (semantics.repr_of depth arena.now.store (value_of arena.now value)) start out.old out.new result }
 {
-    match value {
-        Ref::Object(address) => {
+    let view = arena.view(&value);
+    match view {
+        View::Tuple(items) => {
             if depth == 0 {
-                return Ok(());
+                return Err(Fault::Raises(Cause::TooDeep));
             }
-            match arena.object(address) {
-                Object::Bare(kind) => put_bare(out, kind),
-                Object::Caused(cause) => put_caused_repr(out, arena, cause),
-                Object::Made(kind, argument) => {
-                    put_opening(out, kind)?;
-                    put_repr(out, arena, argument, depth - 1)?;
-                    put(out, ")")?;
-                    Ok(())
-                }
-            }
+            put_tuple(out, arena, items, depth - 1, start)
         }
-        Ref::Range(place) => put_range_at(out, arena, place),
-        _ => put_plain_repr(out, arena, value),
+        View::Object(address) => {
+            if depth == 0 {
+                return Err(Fault::Raises(Cause::TooDeep));
+            }
+            put_exception(out, arena, address, depth - 1, start)
+        }
+        _ => {
+            put_view(out, view)?;
+            Ok(())
+        }
     }
 }
 
-// Adds the `str` of a value that is no object and no range.
-fn put_plain_str(out: &mut String, arena: &Arena, value: Ref) -> Result<(), NoMemory>
-    requires lies { Lies arena.now value }
-    requires plain { IsPlain value }
-    ensures ok { (n : ℕ) → OnOk result (Adds (spelled (semantics.str_of n arena.now.store (value_of arena.now value))) out.old out.new) }
-    ensures err { (n : ℕ) → OnErr result (Lacks (spelled (semantics.str_of n arena.now.store (value_of arena.now value))) out.old out.new) }
+// Adds the `repr` of a tuple, where tuples and objects are within it at most so deep (Python Language Reference 3.14,
+// 6.2.4).
+#[cycle(repr)]
+fn put_tuple(
+    out: &mut String,
+    arena: &Arena,
+    items: &[Ref],
+    depth: usize,
+    start: usize,
+) -> Result<(), Fault>
+    requires { AllLie arena.now items.now }
+    ensures { Puts (semantics.repr_of (suc depth) arena.now.store (pure.tuple_of (all_of arena.now items.now))) start out.old out.new result }
 {
-    put_view_str(out, arena.view(&value))
+    put(out, "(")?;
+    put_items(out, arena, items, depth, start)?;
+    put(out, tuple_end(items))?;
+    Ok(())
 }
 
-// Adds the `repr` of a value that is no object and no range.
-fn put_plain_repr(out: &mut String, arena: &Arena, value: Ref) -> Result<(), NoMemory>
-    requires lies { Lies arena.now value }
-    requires plain { IsPlain value }
-    ensures ok { (n : ℕ) → OnOk result (Adds (spelled (semantics.repr_of n arena.now.store (value_of arena.now value))) out.old out.new) }
-    ensures err { (n : ℕ) → OnErr result (Lacks (spelled (semantics.repr_of n arena.now.store (value_of arena.now value))) out.old out.new) }
+// What stands behind the items of a tuple.
+fn tuple_end(items: &[Ref]) -> &'static str
+    ensures { (m : Memory) → result.now ≡ semantics.tuple_end (all_of m items.now) }
 {
-    put_view(out, arena.view(&value))
+    match items {
+        [_] => ",)",
+        _ => ")",
+    }
 }
 
-// Adds a range, by its place: its `str` is its `repr`.
-fn put_range_at(out: &mut String, arena: &Arena, place: usize) -> Result<(), NoMemory>
-    requires { place < length arena.now.ranges }
-    ensures str_ok { (n : ℕ) → OnOk result (Adds (spelled (semantics.str_of n arena.now.store (get_or arena.now.ranges place Nothing))) out.old out.new) }
-    ensures str_err { (n : ℕ) → OnErr result (Lacks (spelled (semantics.str_of n arena.now.store (get_or arena.now.ranges place Nothing))) out.old out.new) }
-    ensures repr_ok { (n : ℕ) → OnOk result (Adds (spelled (semantics.repr_of n arena.now.store (get_or arena.now.ranges place Nothing))) out.old out.new) }
-    ensures repr_err { (n : ℕ) → OnErr result (Lacks (spelled (semantics.repr_of n arena.now.store (get_or arena.now.ranges place Nothing))) out.old out.new) }
+// Adds the `repr` of values, with a comma and a space between them.
+#[cycle(repr)]
+fn put_items(
+    out: &mut String,
+    arena: &Arena,
+    items: &[Ref],
+    depth: usize,
+    start: usize,
+) -> Result<(), Fault>
+    requires { AllLie arena.now items.now }
+    ensures { Puts (semantics.items_by (semantics.repr_of depth arena.now.store) (all_of arena.now items.now)) start out.old out.new result }
 {
-    put_view(out, View::Range(arena.steps(place)))
+    match items.split_first() {
+        None => Ok(()),
+        Some((first, others)) => {
+            put_repr(out, arena, *first, depth, start)?;
+            put_others(out, arena, others, depth, start)
+        }
+    }
+}
+
+// Adds the `repr` of values, each with a comma and a space before it, up to where it is too long.
+#[cycle(repr)]
+fn put_others(
+    out: &mut String,
+    arena: &Arena,
+    items: &[Ref],
+    depth: usize,
+    start: usize,
+) -> Result<(), Fault>
+    requires { AllLie arena.now items.now }
+    ensures { Puts (semantics.rest_by (semantics.repr_of depth arena.now.store) (all_of arena.now items.now)) start out.old out.new result }
+{
+    for item in items {
+        if is_past_all(out, start) {
+            return Err(Fault::Raises(Cause::TooLong));
+        }
+        put(out, ", ")?;
+        put_repr(out, arena, *item, depth, start)?;
+    }
+    Ok(())
+}
+
+// Whether more bytes stand in a String from a start on than any str has.
+fn is_past_all(out: &String, start: usize) -> bool
+    ensures { result ≡ nat_lt (start + max_bytes) (length (string_bytes out.now)) }
+{
+    out.len().saturating_sub(start) > MAX_STR_BYTES
+}
+
+// Adds the `repr` of the exception at an address, where tuples and objects are within it at most so deep (Python
+// Standard Library 3.14, "Built-in Exceptions").
+#[cycle(repr)]
+fn put_exception(
+    out: &mut String,
+    arena: &Arena,
+    address: usize,
+    depth: usize,
+    start: usize,
+) -> Result<(), Fault>
+    requires { address < length arena.now.store }
+    ensures { Puts (semantics.repr_of (suc depth) arena.now.store (pure.Address address)) start out.old out.new result }
+{
+    match arena.object(address) {
+        Object::Bare(kind) => {
+            put_bare(out, kind)?;
+            Ok(())
+        }
+        Object::Caused(cause) => {
+            put_caused_repr(out, arena, cause)?;
+            Ok(())
+        }
+        Object::Made(kind, argument) => {
+            put_opening(out, kind)?;
+            put_repr(out, arena, argument, depth, start)?;
+            put(out, ")")?;
+            Ok(())
+        }
+    }
 }
 
 // Adds a kind, and brackets with nothing between them.

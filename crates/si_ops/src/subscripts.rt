@@ -3,7 +3,7 @@
 ghost use Rattle.std.specs.Prelude.{◌≡◌, ◌<◌, IfSome, length};
 ghost use Rattle.si_semantics.specs.Subscription as subscription;
 ghost use Rattle.si_semantics.specs.Operations.{range_length};
-ghost use Rattle.si_arena.specs.Memory.{Memory, value_of, Lies};
+ghost use Rattle.si_arena.specs.Memory.{Memory, value_of, all_of, Lies, AllLie};
 ghost use Rattle.si_arena.specs.Texts.{text_of};
 ghost use Rattle.si_ops.specs.Runs.{Tells};
 
@@ -21,7 +21,9 @@ pub fn subscript(arena: &Arena, object: Ref, index: Ref) -> Result<Ref, Cause>
     let index = integer_in(arena, index)?;
     match arena.view(&object) {
         View::Str(text) => character_in(arena, object, length_of(text), index),
+        View::Bytes(bytes) => octet_in(bytes, index),
         View::Range(steps) => number_in(steps, index),
+        View::Tuple(items) => member_in(arena, items, index),
         _ => Err(Cause::WrongType),
     }
 }
@@ -34,6 +36,27 @@ fn character_in(arena: &Arena, text: Ref, count: usize, index: i64) -> Result<Re
 {
     match item_meant(count as u64, index) {
         Some(place) => Ok(arena.character(text, place as usize)),
+        None => Err(Cause::Outside),
+    }
+}
+
+// The byte at an index, as an integer.
+fn octet_in(bytes: &[u8], index: i64) -> Result<Ref, Cause>
+    ensures { (m : Memory) → Tells (λ w. subscription.byte_at bytes.now (subscription.item_meant (length bytes.now) index) w) m result }
+{
+    match item_meant(bytes.len() as u64, index) {
+        Some(place) => Ok(Ref::Int(i64::from(bytes[place as usize]))),
+        None => Err(Cause::Outside),
+    }
+}
+
+// The item of a tuple at an index.
+fn member_in(arena: &Arena, items: &[Ref], index: i64) -> Result<Ref, Cause>
+    requires { AllLie arena.now items.now }
+    ensures { Tells (λ w. subscription.item_of (all_of arena.now items.now) (subscription.item_meant (length items.now) index) w) arena.now result }
+{
+    match item_meant(items.len() as u64, index) {
+        Some(place) => Ok(items[place as usize]),
         None => Err(Cause::Outside),
     }
 }

@@ -4,7 +4,7 @@ ghost use Rattle.std.specs.Prelude.{◌≡◌};
 ghost use Rattle.si_semantics.specs.World.{World};
 ghost use Rattle.si_semantics.specs.Meaning as meaning;
 ghost use Rattle.si_semantics.specs.Operations as operations;
-ghost use Rattle.si_arena.specs.Memory.{value_of, Lies};
+ghost use Rattle.si_arena.specs.Memory.{Memory, value_of, Lies};
 ghost use Rattle.si_arena.specs.Views.{value_in};
 ghost use Rattle.si_arena.specs.Texts.{characters_in};
 ghost use Rattle.si_semantics.specs.Value.{Str, Bytes};
@@ -49,7 +49,7 @@ pub fn decides(arena: &Arena, operator: BooleanOperator, value: Ref) -> bool
 // Whether what is shown counts as true.
 #[inline(never)]
 fn is_shown_true(view: View) -> bool
-    ensures { (w : World) → result ≡ operations.is_true (value_in view.entry) w }
+    ensures { (m : Memory) (w : World) → result ≡ operations.is_true (value_in m view.entry) w }
 {
     match view {
         View::None => false,
@@ -60,6 +60,7 @@ fn is_shown_true(view: View) -> bool
         View::BuiltIn(_) => true,
         View::Function(_, _) => true,
         View::Range(steps) => is_item(steps.start, steps.stop, steps.step),
+        View::Tuple(items) => !items.is_empty(),
         View::Kind(_) => true,
         View::Object(_) => true,
     }

@@ -19,4 +19,4 @@ depth_le-size (Int n) = omega arith
 depth_le-size (Str s) = omega arith
 depth_le-size (Bytes bs) = omega arith
 depth_le-size (Queue id maxsize) = omega arith
-depth_le-size (Tuple size levels items) = omega (arith, most_le-sizes items.items)
+depth_le-size (Tuple levels size items) = omega (arith, most_le-sizes items.value.items)

@@ -14,11 +14,11 @@ tree_of_node (node.Int n) = tree.Leaf (tree.Int n)
 tree_of_node (node.Str s) = tree.Leaf (tree.Str s)
 tree_of_node (node.Bytes bs) = tree.Leaf (tree.Bytes bs)
 tree_of_node (node.Queue id maxsize) = tree.Leaf (tree.Queue id maxsize)
-tree_of_node (node.Tuple size levels items) = tuple_of items.items
+tree_of_node (node.Tuple levels size items) = tuple_of items.value.items
 
 -- the size and the levels of a tuple are kept beside its items
 abbrev pub IsMeasured : Node → Type 0
-IsMeasured (node.Tuple size levels items) = (size ≡ size_of (tuple_of items.items)) × (levels ≡ levels_of (tuple_of items.items))
+IsMeasured (node.Tuple levels size items) = (size ≡ size_of (tuple_of items.value.items)) × (levels ≡ levels_of (tuple_of items.value.items))
 IsMeasured _ = Unit {0}
 
 -- and the tree is within the limits

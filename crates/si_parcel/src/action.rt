@@ -3,9 +3,9 @@
 ghost use Rattle.std.specs.Prelude.{◌≡◌, ◌↔◌, true, IfOk, IsOk, IsTrue};
 
 use crate::binds::Binds;
+use crate::boxed_text::BoxedText;
 use crate::outcome::Outcome;
 use crate::parcel::Parcel;
-use si_plain::Text;
 use std::alloc::{AllocError, Global};
 
 /// A shared action. Interpreters, queues and runs go by their numbers.
@@ -28,7 +28,7 @@ pub enum Action {
     /// Names to bind in an interpreter.
     Prepare(u32, Binds),
     /// A run of this text in an interpreter.
-    Start(u32, Text),
+    Start(u32, BoxedText),
     /// How a run ended, once it has.
     Await(u64),
     /// Whether an interpreter runs.
@@ -44,7 +44,7 @@ pub enum Action {
 }
 
 // Each call of the journal has an action.
-const _: () = prove!(std::mem::size_of::<Action>() <= 56);
+const _: () = prove!(std::mem::size_of::<Action>() <= 24);
 
 impl Action {
     ghost use Rattle.si_parcel.specs.Shared.{action_of};

@@ -49,7 +49,7 @@ pub enum Answer {
 }
 
 // Each call of the journal has an answer.
-const _: () = prove!(std::mem::size_of::<Answer>() <= 64);
+const _: () = prove!(std::mem::size_of::<Answer>() <= 32);
 
 impl Answer {
     ghost use Rattle.si_semantics.specs.Actions.{fits};

@@ -4,8 +4,7 @@ ghost use Rattle.std.specs.Prelude.{codes, ◌≡◌, ◌++◌, OnOk, string_byt
 ghost use Rattle.std.specs.Fmt.{signed_decimal, decimal};
 ghost use Rattle.si_semantics.specs.Parcels.{length_of};
 
-use crate::octets::Octets;
-use si_plain::Text;
+use si_plain::{Octets, Text};
 use std::alloc::AllocError;
 
 /// A shareable value with no parts (PEP 734, "Shareable Objects"), as it is seen in its parcel, which keeps it in another

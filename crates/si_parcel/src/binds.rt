@@ -1,16 +1,17 @@
 // Names with their parcels.
 
-ghost use Rattle.std.specs.Prelude.{◌≡◌, ◌↔◌, IfOk, IsTrue};
+ghost use Rattle.std.specs.Prelude.{◌≡◌, ◌↔◌, IfOk, IfErr, IsTrue};
 
 use crate::parcel::Parcel;
 use si_plain::Text;
-use std::alloc::{AllocError, Global};
+use std::alloc::{AllocError, AllocFailed, Global};
+use std::boxed::Box;
 use std::marker::Model;
 
-/// Names to bind, each with its parcel, in order. A contract sees the list of the pairs.
+/// Names to bind, each with its parcel, in order: 8 bytes itself. A contract sees the list of the pairs.
 #[derive(Drop)]
 pub struct Binds {
-    pairs: Vec<(Text, Parcel)>,
+    pairs: Box<Vec<(Text, Parcel)>>,
 }
 
 impl Model for Binds {
@@ -22,15 +23,20 @@ impl Model for Binds {
 
     ghost coded = { binds_code };
 
-    ghost view = { λ b. b.pairs.items };
+    ghost view = { λ b. b.pairs.value.items };
 }
 
 impl Binds {
-    /// These pairs.
-    pub fn new(pairs: Vec<(Text, Parcel)>) -> Binds
-        ensures { result ≡ pairs.items }
+    /// These pairs. Where memory is refused, they come back.
+    pub fn new(
+        alloc: Global,
+        pairs: Vec<(Text, Parcel)>,
+    ) -> Result<Binds, AllocFailed<Vec<(Text, Parcel)>>>
+        ensures pairs { IfOk result (λ b. b ≡ pairs.items) }
+        ensures back { IfErr result (λ e. e.value ≡ pairs) }
     {
-        Binds { pairs }
+        let pairs = Box::new(alloc, pairs)?;
+        Ok(Binds { pairs })
     }
 
     /// Its pairs.
@@ -44,7 +50,7 @@ impl Binds {
     pub fn into_pairs(self) -> Vec<(Text, Parcel)>
         ensures { result.items ≡ self }
     {
-        self.pairs
+        Box::into_inner(self.pairs)
     }
 
     /// The same pairs again. `AllocError` where memory is refused.
@@ -52,11 +58,12 @@ impl Binds {
         ensures { IfOk result (λ b. b ≡ self.now) }
     {
         let mut pairs = Vec::with_capacity(alloc, self.pairs.len())?;
-        'pairs: for (name, parcel) in &self.pairs {
+        'pairs: for (name, parcel) in self.as_slice() {
             let name = name.clone()?;
             let parcel = parcel.clone_parcel(alloc)?;
             pairs.push((name, parcel))?;
         }
+        let pairs = Box::new(alloc, pairs)?;
         Ok(Binds { pairs })
     }
 

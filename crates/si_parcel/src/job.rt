@@ -3,7 +3,7 @@
 ghost use Rattle.std.specs.Prelude.{◌≡◌, ◌↔◌, true, IfOk, IsOk, IsTrue};
 
 use crate::binds::Binds;
-use si_plain::Text;
+use crate::boxed_text::BoxedText;
 use std::alloc::{AllocError, Global};
 
 /// What an interpreter is given to do.
@@ -12,7 +12,7 @@ pub enum Job {
     /// Names to bind.
     Bind(Binds),
     /// A run by its number, and its text.
-    Run(u64, Text),
+    Run(u64, BoxedText),
     /// To close.
     Closing,
 }

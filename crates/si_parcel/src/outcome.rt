@@ -2,16 +2,17 @@
 
 ghost use Rattle.std.specs.Prelude.{◌≡◌, ◌↔◌, true, IfOk, IsOk, IsTrue};
 
-use si_plain::{Kind, Text};
+use crate::boxed_text::BoxedText;
+use si_plain::Kind;
 use std::alloc::AllocError;
 
 /// How a run ended.
-#[derive(Debug, Drop)]
+#[derive(Drop)]
 pub enum Outcome {
     /// At its end.
     Returned,
     /// Left by an exception of this kind with this message.
-    Raised(Kind, Text),
+    Raised(Kind, BoxedText),
 }
 
 impl Outcome {

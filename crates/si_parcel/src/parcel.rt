@@ -1,20 +1,23 @@
 // A parcel: a value on its way from one interpreter to another.
 
-ghost use Rattle.std.specs.Prelude.{◌≡◌, ◌↔◌, ◌++◌, ◌<◌, ◌≤◌, Err, length, IsTrue, IfOk, IfErr, IsOk, OnOk, string_bytes, encode_utf8_all};
+ghost use Rattle.std.specs.Prelude.{◌≡◌, ◌↔◌, ◌++◌, ◌<◌, ◌≤◌, ◌⊎◌, Err, length, IsTrue, IfOk, IfErr, IsOk, OnOk, string_bytes, encode_utf8_all};
 ghost use Rattle.si_semantics.specs.Parcels.{Leaf, tuple_of, size_of, levels_of, IsParcel, shown, separator, closing};
 ghost use Rattle.si_semantics.specs.Parcels as tree;
 ghost use Rattle.si_parcel.specs.Tops.{tree_of_top};
 ghost use Rattle.si_parcel.specs.TreeCode.{tree_code};
 ghost use Rattle.si_parcel.specs.Same.{same_by, same_by_per, same_by_equiv};
 ghost use Rattle.si_parcel.specs.declared.refused.TupleFault.TheVariants.{TooLarge, TooDeep};
+ghost use Rattle.si_parcel.specs.declared.refused.TupleFault.TheVariants as tuple_fault;
+ghost use Rattle.si_parcel.specs.declared.refused.StrFault.TheVariants as str_fault;
 
 use crate::atom::{Atom, show_int, show_queue};
-use crate::octets::Octets;
-use crate::refused::{TooLong, TupleFault};
+use crate::boxed_text::BoxedText;
+use crate::refused::{StrFault, TooLong, TupleFault};
 use crate::top::Top;
 use si_plain::limits::MAX_STR_LENGTH;
-use si_plain::{Text, repr_bytes, repr_str};
+use si_plain::{Octets, Text, repr_bytes, repr_str};
 use std::alloc::{AllocError, Global};
+use std::boxed::Box;
 use std::marker::Model;
 
 /// The most values of a parcel: an atom counts 1, a tuple 1 and its items.
@@ -34,19 +37,20 @@ pub struct Parcel {
 #[cycle(parcel)]
 #[derive(Drop)]
 enum Node {
-    // the atoms stand here and not in an enum of their own, which would have a tag of 8 bytes more
+    // the atoms stand here and not in an enum of their own, which would have a tag of 8 bytes more; what is larger than 8
+    // bytes stands behind a pointer
     Nothing,
     Truth(bool),
     Int(i64),
-    Str(Text),
+    Str(BoxedText),
     Bytes(Octets),
     Queue(u32, u64),
-    // how many values and levels it has, and its items
-    Tuple(u32, u8, Vec<Parcel>),
+    // how many levels and values it has, and its items: in this order it has 16 bytes
+    Tuple(u8, u32, Box<Vec<Parcel>>),
 }
 
-// Each byte of a parcel is paid for twice in each call of the journal.
-const _: () = prove!(std::mem::size_of::<Parcel>() <= 48);
+// Each byte of a parcel is paid for in each call of the journal.
+const _: () = prove!(std::mem::size_of::<Parcel>() <= 16);
 
 impl Model for Parcel {
     ghost use Rattle.si_semantics.specs.Parcels.{Tree, size_of};
@@ -106,18 +110,22 @@ impl Parcel {
         }
     }
 
-    /// A str. `TooLong`, with the text, where it has more than 1,048,576 characters.
-    pub fn str(text: Text) -> Result<Parcel, TooLong<Text>>
+    /// A str. `TooLong`, with the text, exactly where it has more than 1,048,576 characters; else `NoMemory`, with the text,
+    /// where memory is refused.
+    pub fn str(alloc: Global, text: Text) -> Result<Parcel, StrFault>
         ensures str { IfOk result (λ p. p ≡ Leaf (tree.Str text)) }
-        ensures short { IsOk result ↔ (length text ≤ 1048576) }
-        ensures back { IfErr result (λ e. e.given ≡ text) }
+        ensures long { (result ≡ Err (str_fault.TooLong text)) ↔ (1048576 < length text) }
+        ensures back { IfErr result (λ e. (e ≡ str_fault.TooLong text) ⊎ (e ≡ str_fault.NoMemory text)) }
     {
         if text.len() > MAX_STR_LENGTH {
-            return Err(TooLong { given: text });
+            return Err(StrFault::TooLong(text));
         }
-        Ok(Parcel {
-            node: Node::Str(text),
-        })
+        match BoxedText::new(alloc, text) {
+            Err(refused) => Err(StrFault::NoMemory(refused.value)),
+            Ok(text) => Ok(Parcel {
+                node: Node::Str(text),
+            }),
+        }
     }
 
     /// A bytes. `TooLong`, with the bytes, where it has more than 1,048,576 of them.
@@ -135,12 +143,13 @@ impl Parcel {
     }
 
     /// A tuple of these items. `TooLarge`, with the items, where it would have more than 65,536 values; else `TooDeep`, with
-    /// the items, where it would have more than 200 levels.
-    pub fn tuple(items: Vec<Parcel>) -> Result<Parcel, TupleFault>
+    /// the items, where it would have more than 200 levels; else `NoMemory`, with the items, where memory is refused.
+    pub fn tuple(alloc: Global, items: Vec<Parcel>) -> Result<Parcel, TupleFault>
         ensures tuple { IfOk result (λ p. p ≡ tuple_of items.items) }
-        ensures small { IsOk result ↔ IsParcel (tuple_of items.items) }
+        ensures small { IsOk result → IsParcel (tuple_of items.items) }
         ensures large { (result ≡ Err (TooLarge items)) ↔ (65536 < size_of (tuple_of items.items)) }
         ensures deep { (result ≡ Err (TooDeep items)) ↔ ((size_of (tuple_of items.items) ≤ 65536) × (200 < levels_of (tuple_of items.items))) }
+        ensures back { IfErr result (λ e. (e ≡ TooLarge items) ⊎ ((e ≡ TooDeep items) ⊎ (e ≡ tuple_fault.NoMemory items))) }
     {
         let mut size = 1;
         let mut levels = 0;
@@ -157,8 +166,12 @@ impl Parcel {
         if levels == MAX_LEVELS {
             return Err(TupleFault::TooDeep(items));
         }
-        let node = Node::Tuple(size, levels + 1, items);
-        Ok(Parcel { node })
+        match Box::new(alloc, items) {
+            Err(refused) => Err(TupleFault::NoMemory(refused.value)),
+            Ok(items) => Ok(Parcel {
+                node: Node::Tuple(levels + 1, size, items),
+            }),
+        }
     }
 
     /// How many values it has: an atom counts 1, a tuple 1 and its items.
@@ -166,7 +179,7 @@ impl Parcel {
         ensures { result ≡ size_of self.now }
     {
         match &self.node {
-            Node::Tuple(size, _, _) => *size,
+            Node::Tuple(_, size, _) => *size,
             _ => 1,
         }
     }
@@ -176,7 +189,7 @@ impl Parcel {
         ensures { result ≡ levels_of self.now }
     {
         match &self.node {
-            Node::Tuple(_, levels, _) => *levels,
+            Node::Tuple(levels, _, _) => *levels,
             _ => 0,
         }
     }
@@ -189,7 +202,7 @@ impl Parcel {
             Node::Nothing => Top::Atom(Atom::Nothing),
             Node::Truth(truth) => Top::Atom(Atom::Truth(*truth)),
             Node::Int(int) => Top::Atom(Atom::Int(*int)),
-            Node::Str(text) => Top::Atom(Atom::Str(text)),
+            Node::Str(text) => Top::Atom(Atom::Str(text.as_text())),
             Node::Bytes(bytes) => Top::Atom(Atom::Bytes(bytes)),
             Node::Queue(id, maxsize) => Top::Atom(Atom::Queue(*id, *maxsize)),
             Node::Tuple(_, _, items) => Top::Tuple(items.as_slice()),
@@ -238,16 +251,16 @@ impl Parcel {
         ensures { IfOk result (λ p. p ≡ self.now) }
     {
         match &self.node {
-            Node::Tuple(size, levels, items) => {
+            Node::Tuple(levels, size, items) => {
                 let mut copies = Vec::with_capacity(alloc, items.len())?;
-                'copies: for item in items {
+                'copies: for item in items.as_slice() {
                     let copy = match &item.node {
                         Node::Tuple(_, _, _) => item.clone_tree(alloc)?,
                         _ => item.clone_atom()?,
                     };
                     copies.push(copy)?;
                 }
-                let node = Node::Tuple(*size, *levels, copies);
+                let node = Node::Tuple(*levels, *size, Box::new(alloc, copies)?);
                 Ok(Parcel { node })
             }
             _ => self.clone_atom(),
@@ -268,12 +281,14 @@ impl Parcel {
                 *id == *other && *maxsize == *size
             }
             (Node::Tuple(_, _, items), Node::Tuple(_, _, others)) => {
-                let len = items.len();
+                let parts = items.as_slice();
+                let others = others.as_slice();
+                let len = parts.len();
                 if len != others.len() {
                     return false;
                 }
                 'items: for i in 0..len {
-                    if !items[i].same(&others[i]) {
+                    if !parts[i].same(&others[i]) {
                         return false;
                     }
                 }
@@ -301,16 +316,17 @@ impl Parcel {
             Node::Truth(true) => out.push_str("True"),
             Node::Truth(false) => out.push_str("False"),
             Node::Int(n) => show_int(*n, out),
-            Node::Str(text) => out.push_str(repr_str(alloc, text.as_str())?.as_str()),
+            Node::Str(text) => out.push_str(repr_str(alloc, text.as_text().as_str())?.as_str()),
             Node::Bytes(bytes) => out.push_str(repr_bytes(alloc, bytes.as_slice())?.as_str()),
             Node::Queue(id, _) => show_queue(*id, out),
             Node::Tuple(_, _, items) => {
+                let parts = items.as_slice();
                 out.push_str("(")?;
-                'items: for (at, item) in items.iter().enumerate() {
+                'items: for (at, item) in parts.iter().enumerate() {
                     separate(out, at)?;
                     item.show_into(alloc, out)?;
                 }
-                close(out, items.len())
+                close(out, parts.len())
             }
         }
     }

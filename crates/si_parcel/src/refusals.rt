@@ -2,9 +2,8 @@
 //
 // `cases/refuse_memory` refuses these tests each of their allocations in turn.
 
-use crate::tests::{action, answer, binds, nested, raised};
+use crate::tests::{action, answer, binds, boxed, nested, raised};
 use crate::{Ids, Job};
-use si_plain::Text;
 use std::test::Fail;
 
 #[test]
@@ -54,7 +53,7 @@ fn refused_clone_of_an_answer(rt: HostRuntime) -> Result<(), Fail> {
 #[test]
 fn refused_clone_of_a_job(rt: HostRuntime) -> Result<(), Fail> {
     let alloc = rt.alloc();
-    let job = Job::Run(1, Text::from_str(alloc, "print('a long text')")?);
+    let job = Job::Run(1, boxed(alloc, "print('a long text')")?);
     if let Ok(copy) = job.clone_job(alloc) {
         assert!(rt; copy == job);
     }

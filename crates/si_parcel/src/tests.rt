@@ -1,20 +1,20 @@
 // Parcels and actions from end to end: the texts are what CPython 3.14 prints, but for that of a queue.
 
-use crate::{Action, Answer, Binds, Ids, Job, Octets, Outcome, Parcel, Top, TupleFault};
-use si_plain::{Kind, Text};
-use std::alloc::Global;
+use crate::{Action, Answer, Binds, BoxedText, Ids, Job, Outcome, Parcel, Top, TupleFault};
+use si_plain::{Kind, Octets, Text};
+use std::alloc::{AllocError, Global};
 use std::test::Fail;
 
 fn str(alloc: Global, text: &str) -> Result<Parcel, Fail> {
-    Ok(Parcel::str(Text::from_str(alloc, text)?).map_err(|_| "too long")?)
+    Ok(Parcel::str(alloc, Text::from_str(alloc, text)?).or(Err(AllocError))?)
 }
 
 fn bytes(alloc: Global, bytes: &[u8]) -> Result<Parcel, Fail> {
     Ok(Parcel::bytes(Octets::from_slice(alloc, bytes)?).map_err(|_| "too long")?)
 }
 
-fn tuple(items: Vec<Parcel>) -> Result<Parcel, Fail> {
-    Ok(Parcel::tuple(items).map_err(|_| "too large")?)
+fn tuple(alloc: Global, items: Vec<Parcel>) -> Result<Parcel, Fail> {
+    Ok(Parcel::tuple(alloc, items).or(Err(AllocError))?)
 }
 
 // `('a', (1, None), b'\x00')`
@@ -24,9 +24,9 @@ pub(crate) fn nested(alloc: Global) -> Result<Parcel, Fail> {
     inner.push(Parcel::none())?;
     let mut items = Vec::with_capacity(alloc, 3)?;
     items.push(str(alloc, "a")?)?;
-    items.push(tuple(inner)?)?;
+    items.push(tuple(alloc, inner)?)?;
     items.push(bytes(alloc, b"\x00")?)?;
-    tuple(items)
+    tuple(alloc, items)
 }
 
 // One item in so many tuples.
@@ -35,7 +35,7 @@ fn deep(alloc: Global, levels: u32) -> Result<Parcel, Fail> {
     for _ in 0..levels {
         let mut items = Vec::with_capacity(alloc, 1)?;
         items.push(parcel)?;
-        parcel = tuple(items)?;
+        parcel = tuple(alloc, items)?;
     }
     Ok(parcel)
 }
@@ -64,7 +64,7 @@ fn atoms(rt: HostRuntime) -> Result<(), Fail> {
     assert_eq!(rt; str(alloc, "it's")?.show(alloc)?.as_str(), "\"it's\"");
     assert_eq!(rt; bytes(alloc, b"a\xff")?.show(alloc)?.as_str(), "b'a\\xff'");
     assert_eq!(rt; deep(alloc, 1)?.show(alloc)?.as_str(), "(None,)");
-    assert_eq!(rt; tuple(Vec::new(alloc))?.show(alloc)?.as_str(), "()");
+    assert_eq!(rt; tuple(alloc, Vec::new(alloc))?.show(alloc)?.as_str(), "()");
     assert!(rt; Parcel::truth(true) != Parcel::int(1));
     assert!(rt; Parcel::queue(3, 10) != Parcel::queue(4, 10));
     assert!(rt; str(alloc, "a")? != bytes(alloc, b"a")?);
@@ -81,7 +81,7 @@ fn two_hundred_levels_and_no_more(rt: HostRuntime) -> Result<(), Fail> {
     assert!(rt; parcel != deep(alloc, 199)?);
     let mut items = Vec::with_capacity(alloc, 1)?;
     items.push(parcel)?;
-    assert!(rt; matches!(Parcel::tuple(items), Err(TupleFault::TooDeep(_))));
+    assert!(rt; matches!(Parcel::tuple(alloc, items), Err(TupleFault::TooDeep(_))));
     Ok(())
 }
 
@@ -92,26 +92,30 @@ fn as_many_values_as_allowed(rt: HostRuntime) -> Result<(), Fail> {
     for _ in 0..65_535 {
         items.push(Parcel::int(0))?;
     }
-    let parcel = tuple(items)?;
+    let parcel = tuple(alloc, items)?;
     assert_eq!(rt; parcel.size(), 65_536);
     assert_eq!(rt; parcel.show(alloc)?.len(), 196_605);
     assert!(rt; parcel.clone_parcel(alloc)? == parcel);
     let mut items = Vec::with_capacity(alloc, 1)?;
     items.push(parcel)?;
-    assert!(rt; matches!(Parcel::tuple(items), Err(TupleFault::TooLarge(_))));
+    assert!(rt; matches!(Parcel::tuple(alloc, items), Err(TupleFault::TooLarge(_))));
     Ok(())
 }
 
 pub(crate) fn binds(alloc: Global) -> Result<Binds, Fail> {
     let mut pairs = Vec::with_capacity(alloc, 1)?;
     pairs.push((Text::from_str(alloc, "x")?, nested(alloc)?))?;
-    Ok(Binds::new(pairs))
+    Ok(Binds::new(alloc, pairs)?)
+}
+
+pub(crate) fn boxed(alloc: Global, text: &str) -> Result<BoxedText, Fail> {
+    Ok(BoxedText::new(alloc, Text::from_str(alloc, text)?)?)
 }
 
 pub(crate) fn raised(alloc: Global) -> Result<Outcome, Fail> {
     Ok(Outcome::Raised(
         Kind::ValueError,
-        Text::from_str(alloc, "a message that is too long to lie in its text")?,
+        boxed(alloc, "a message that is too long to lie in its text")?,
     ))
 }
 
@@ -126,7 +130,7 @@ pub(crate) fn action(alloc: Global, at: u32) -> Result<Action, Fail> {
         5 => Action::GetNow(0),
         6 => Action::Size(0),
         7 => Action::Prepare(1, binds(alloc)?),
-        8 => Action::Start(1, Text::from_str(alloc, "pass")?),
+        8 => Action::Start(1, boxed(alloc, "pass")?),
         9 => Action::Await(1),
         10 => Action::IsRunning(1),
         11 => Action::Close(1),
@@ -158,7 +162,7 @@ pub(crate) fn answer(alloc: Global, at: u32) -> Result<Answer, Fail> {
         15 => Answer::Truth(true),
         16 => Answer::Ids(Ids::new(vec![in alloc; 0, 2]?)),
         17 => Answer::Given(Job::Bind(binds(alloc)?)),
-        18 => Answer::Given(Job::Run(1, Text::from_str(alloc, "pass")?)),
+        18 => Answer::Given(Job::Run(1, boxed(alloc, "pass")?)),
         _ => Answer::Given(Job::Closing),
     })
 }

@@ -6,8 +6,8 @@ use Rattle.si_semantics.specs.Value.{Text}
 use Rattle.si_semantics.specs.Tree as tree
 use Rattle.si_semantics.specs.Tree.{Expr, Stmt, Target, Stmts}
 use Rattle.si_semantics.specs.Tokens as token
-use Rattle.si_semantics.specs.Grammar.{Terminal, NAME, Sign, Word, NEWLINE, INDENT, DEDENT, Many, Behind, Spells, max_depth, IsExpression, Simple, stmts_of, Lines, Block, Suite, Branch, Tested, Otherwise, elifs_of, Compound, Nests, IsTarget}
-use Rattle.si_parse.specs.inner.Reading.{then_read, rest_of, name_at, parameters_by, defined_by, define_by, expression_at, LineParser, is_dedent, many_by, indented_by, suite_from, suite_by, branch_by, with_branch, elif_by, is_none, no_elif, elifs_by, otherwise_from, otherwise_by, joined_if, if_by, joined_while, while_by, target_from, target_by, joined_for, for_by, Header, if_header, while_header, for_header, try_header, def_header, header_at, compound_by, with_compound, block_from, block_at, after}
+use Rattle.si_semantics.specs.Grammar.{Terminal, NAME, Sign, Word, NEWLINE, INDENT, DEDENT, Many, Behind, Spells, max_depth, IsExpression, Simple, stmts_of, Lines, Block, Suite, Branch, Tested, Over, Otherwise, elifs_of, Compound, Nests, IsTarget}
+use Rattle.si_parse.specs.inner.Reading.{then_read, rest_of, name_at, parameters_by, defined_by, define_by, expression_at, LineParser, is_dedent, many_by, indented_by, suite_from, suite_by, branch_by, over_by, expressions_by, with_branch, elif_by, is_none, no_elif, elifs_by, otherwise_from, otherwise_by, joined_if, if_by, joined_while, while_by, target_from, target_by, joined_for, for_by, Header, if_header, while_header, for_header, try_header, def_header, header_at, compound_by, with_compound, block_from, block_at, after}
 use Rattle.si_parse.proofs.Laws.{then_read_some, some_inj, spells_looser, spells_deeper, name_tighter, after_newline_some, after_colon_some, after_indent_some, after_elif_some, after_in_some, header_word, header_at_some, after_open_some, name_at_some, after_else_some}
 use Rattle.si_parse.proofs.Levels.{high, at_condition}
 use Rattle.si_parse.proofs.Lists.{chosen, added, many_sound, many_complete}
@@ -15,6 +15,7 @@ use Rattle.si_parse.proofs.Starts.{newline_not, dedent_not, header_not, elif_not
 use Rattle.si_parse.proofs.Sound.{expression_sound}
 use Rattle.si_parse.proofs.Names.{parameters_reads, parameters_complete}
 use Rattle.si_parse.proofs.Complete.{expression_complete}
+use Rattle.si_parse.proofs.Unbracketed.{expressions_reads, expressions_complete}
 use Rattle.si_parse.proofs.Handlers.{try_reads, try_complete, finally_complete}
 use Rattle.si_parse.proofs.Statements.{with_line, line_reads, line_complete, line_starts, line_terminals}
 
@@ -54,6 +55,7 @@ target_is f ts (tree.Unary op e) spelled x h = cc
 target_is f ts (tree.Binary op e g) spelled x h = cc
 target_is f ts (tree.Call e args names) spelled x h = cc
 target_is f ts (tree.Subscript e i) spelled x h = cc
+target_is f ts (tree.Tuple items) spelled x h = cc
 target_is f ts (tree.Boolean op e others) spelled x h = cc
 target_is f ts (tree.Compare e cs) spelled x h = cc
 target_is f ts (tree.Conditional e g i) spelled x h = cc
@@ -138,6 +140,18 @@ module _ (L : Lines) (line : LineParser) (sound : LineSound L line) where
         (a.0.front, s.0, refl, spells_deeper t.0.1 max_depth a.1 1 t.0.0 a.0.front a.0.spelled, s.2),
       )
 
+  abbrev OverRead : List Terminal → Branch × List Terminal → Type 0
+  OverRead ts r = (f : List Terminal) × (ts ≡ f ++ r.1) × Over L r.0 f
+
+  over_reads : (ts : List Terminal) (r : Branch × List Terminal) → over_by line ts ≡ Some r → OverRead ts r
+  over_reads ts r h =
+      let t = then_read_some (expressions_by (expression_at max_depth) ts) (λ t. then_read (suite_by line t.2) (λ b. Some ((t.0, stmts_of b.0), b.1))) r h in
+      let a = expressions_reads ts t.0 t.1 in
+      let b = then_read_some (suite_by line t.0.2) (λ b. Some ((t.0.0, stmts_of b.0), b.1)) r t.2 in
+      let s = suite_reads t.0.2 b.0 b.1 in
+      let P : Branch × List Terminal → Type 0 = OverRead ts in
+      subst P (some_inj ((t.0.0, stmts_of b.0.0), b.0.1) r b.2) (a.0 ++ s.0, a.1 ∙ ap (λ t. a.0 ++ t) s.1 ∙ sym (append_assoc a.0 s.0 b.0.1), (a.0, s.0, refl, a.2, s.2))
+
   abbrev Elif : Branch → List Terminal → Type 0
   Elif = Behind (Word token.ElifWord) (Tested L)
 
@@ -195,11 +209,11 @@ module _ (L : Lines) (line : LineParser) (sound : LineSound L line) where
 
   for_reads : (ts : List Terminal) (r : Stmt × List Terminal) → for_by line ts ≡ Some r → CompoundRead (Word token.ForWord ∷ ts) r
   for_reads ts r h =
-      let x = then_read_some (target_by ts) (λ x. then_read (branch_by line x.1) (λ b. then_read (otherwise_by line b.1) (joined_for x.0 b.0))) r h in
-      let b = then_read_some (branch_by line x.0.1) (λ b. then_read (otherwise_by line b.1) (joined_for x.0.0 b.0)) r x.2 in
+      let x = then_read_some (target_by ts) (λ x. then_read (over_by line x.1) (λ b. then_read (otherwise_by line b.1) (joined_for x.0 b.0))) r h in
+      let b = then_read_some (over_by line x.0.1) (λ b. then_read (otherwise_by line b.1) (joined_for x.0.0 b.0)) r x.2 in
       let o = then_read_some (otherwise_by line b.0.1) (joined_for x.0.0 b.0.0) r b.2 in
       let e = target_reads ts x.0 x.1 in
-      let f = branch_reads x.0.1 b.0 b.1 in
+      let f = over_reads x.0.1 b.0 b.1 in
       let g = otherwise_reads b.0.1 (after (Word token.ElseWord) b.0.1) refl o.0 o.1 in
       let behind : x.0.1 ≡ (f.0 ++ g.0) ++ o.0.1 = f.1 ∙ ap (λ t. f.0 ++ t) g.1 ∙ sym (append_assoc f.0 g.0 o.0.1) in
       let P : Stmt × List Terminal → Type 0 = CompoundRead (Word token.ForWord ∷ ts) in
@@ -363,6 +377,17 @@ module _ (L : Lines) (line : LineParser) (complete : LineComplete L line) (begin
       let P : List Terminal → Type 0 = λ g. expression_at max_depth 1 (f ++ (g ++ more)) ≡ Some (e, c.0, g ++ more) in
       (c.0, subst P (sym k.1) c.3)
 
+  over_complete : (b : Branch) (f more : List Terminal) → Over L b f → over_by line (f ++ more) ≡ Some (b, more)
+  over_complete b f more h =
+      let k = suite_colon b.1 h.1 h.4 in
+      let c = expressions_complete b.0 h.0 (Sign token.Colon ∷ (k.0 ++ more)) h.3 (omega arith, refl) refl refl in
+      let P : List Terminal → Type 0 = λ g. expressions_by (expression_at max_depth) (h.0 ++ (g ++ more)) ≡ Some (b.0, c.0, g ++ more) in
+      let s = suite_complete b.1 h.1 more h.4 in
+      ap (over_by line) (ap (λ t. t ++ more) h.2 ∙ append_assoc h.0 h.1 more)
+      ∙ ap (λ o. then_read o (λ t. then_read (suite_by line t.2) (λ b. Some ((t.0, stmts_of b.0), b.1)))) (subst P (sym k.1) c.1)
+      ∙ ap (λ o. then_read o (λ s. Some ((b.0, stmts_of s.0), s.1))) s.2
+      ∙ ap (λ ss. Some ((b.0, ss), more)) (sym s.1)
+
   branch_complete : (b : Branch) (f more : List Terminal) → Tested L b f → branch_by line (f ++ more) ≡ Some (b, more)
   branch_complete b f more h =
       let t = test_complete b.0 h.0 h.1 more h.3 (suite_colon b.1 h.1 h.4) in
@@ -434,8 +459,8 @@ module _ (L : Lines) (line : LineParser) (complete : LineComplete L line) (begin
         h.0 ++ Word token.InWord ∷ (h.1 ++ h.2),
         h.3,
         ap (for_by line) split
-            ∙ ap (λ o. then_read o (λ x. then_read (branch_by line x.1) (λ b. then_read (otherwise_by line b.1) (joined_for x.0 b.0)))) (target_complete x h.0 (h.1 ++ (h.2 ++ more)) h.4)
-            ∙ ap (λ o. then_read o (λ b. then_read (otherwise_by line b.1) (joined_for (tree.Named x) b.0))) (branch_complete (over, body) h.1 (h.2 ++ more) h.5)
+            ∙ ap (λ o. then_read o (λ x. then_read (over_by line x.1) (λ b. then_read (otherwise_by line b.1) (joined_for x.0 b.0)))) (target_complete x h.0 (h.1 ++ (h.2 ++ more)) h.4)
+            ∙ ap (λ o. then_read o (λ b. then_read (otherwise_by line b.1) (joined_for (tree.Named x) b.0))) (over_complete (over, body) h.1 (h.2 ++ more) h.5)
             ∙ ap (λ o. then_read o (joined_for (tree.Named x) (over, body))) o.2
             ∙ ap (λ last. Some (tree.For (tree.Named x) over body last, more)) (sym o.1),
       )

@@ -3,7 +3,7 @@ use Rattle.std.proofs.Common.{◌≡◌, ℕ, zero, suc, ◌*◌, ◌<◌, ◌�
 use Rattle.std.proofs.lemmas.List.{append-nil}
 use Rattle.si_semantics.specs.Tree.{Expr}
 use Rattle.si_semantics.specs.Grammar.{Terminal, Many}
-use Rattle.si_parse.specs.inner.Reading.{strength_at, begins_str, then_read, Found, Parsed, chain_from, chain_by}
+use Rattle.si_parse.specs.inner.Reading.{strength_at, begins_literal, then_read, Found, Parsed, chain_from, chain_by}
 use Rattle.si_parse.proofs.Laws.{then_read_some, some_inj, Items}
 
 -- an operator stands first, so an item is read
@@ -52,11 +52,11 @@ module _ {O X : Type 0} (make : O → Expr → X) (next : List Terminal → Opti
     chain_sound (suc k) b ts r low weak h = link_sound (chain_by make next item k) (chain_sound k) b ts low weak (next ts) refl r h
 
   module _ (I : Items X) (m level : ℕ)
-      (item_complete : (x : X) (f more : List Terminal) → I x f → strength_at more < level → begins_str more ≡ false
+      (item_complete : (x : X) (f more : List Terminal) → I x f → strength_at more < level → begins_literal more ≡ false
       → (o : O) × (rest : List Terminal) × (e : Expr) × (d : ℕ) × (next (f ++ more) ≡ Some (o, rest)) × (item o rest ≡ Some (e, d, more)) × (make o e ≡ x) × (d ≤ m))
-      (item_begins : (x : X) (f more : List Terminal) → I x f → (strength_at (f ++ more) < level) × (begins_str (f ++ more) ≡ false)) where
+      (item_begins : (x : X) (f more : List Terminal) → I x f → (strength_at (f ++ more) < level) × (begins_literal (f ++ more) ≡ false)) where
     abbrev Follows : List Terminal → Type 0
-    Follows more = (strength_at more < level) × (begins_str more ≡ false)
+    Follows more = (strength_at more < level) × (begins_literal more ≡ false)
 
     chain_begins : (xs : List X) (f more : List Terminal) → Many I xs f → Follows more → Follows (f ++ more)
     chain_begins [] f more h ends = let P : List Terminal → Type 0 = λ f. Follows (f ++ more) in subst P (sym h) ends

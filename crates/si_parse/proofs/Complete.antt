@@ -3,17 +3,18 @@ use Rattle.std.proofs.Common.{◌≡◌, ℕ, zero, suc, ◌+◌, ◌-◌, ◌<�
 use Rattle.std.specs.Prelude.{nat_lt, not, ◌&&◌, if◌then◌else◌}
 use Rattle.std.proofs.lemmas.Bool.Decides.{nat_tests}
 use Rattle.std.proofs.lemmas.List.{append-nil}
-use Rattle.si_semantics.specs.Value.{Nothing, Truth, Int, Str, Bytes, Provided, Function, Range, Class, Address}
-use Rattle.si_semantics.specs.Tree.{BinaryOperator, UnaryOperator, ComparisonOperator, BooleanOperator, Expr}
+use Rattle.si_semantics.specs.Value.{Nothing, Truth, Int, Str, Bytes, Provided, Function, Range, Tuple, Class, Address}
+use Rattle.si_semantics.specs.Tree.{BinaryOperator, UnaryOperator, ComparisonOperator, BooleanOperator, Expr, Exprs}
 use Rattle.si_semantics.specs.Tree as tree
 use Rattle.si_semantics.specs.Tokens.{Symbol, Keyword}
 use Rattle.si_semantics.specs.Tokens as token
 use Rattle.si_semantics.specs.Text.{max_length}
-use Rattle.si_semantics.specs.Grammar.{Terminal, NAME, NUMBER, STRING, Sign, Word, level_of, left_level, right_level, symbol_of, prefix_level, prefix_of, boolean_level, item_level, word_of, comparison_of, is_identity, Many, Behind, Separated, Argument, Positional, ByName, Passes, IsPassed, exprs_of, items_of, Link, links_of, chain_of, Compares, Strings, Spells}
-use Rattle.si_parse.specs.inner.Reading.{short, Argued, named_at, argument_from, argument_by, called, comparison, boolean, continuation_at, strength_of, strength_at, begins_str, then_read, after_boolean, with_word, comparison_at, identity_from, Found, Parsed, Parser, with_argument, arguments_from, arguments_by, within, call_by, indexed, subscript_by, is_singleton, compared_to, compared_by, other_by, conditional_by, extended_by, continued_by, closed, strings_by, bracketed_by, operand_from, operand_by, expression_at, after}
+use Rattle.si_semantics.specs.Grammar.{Terminal, NAME, NUMBER, STRING, Sign, Word, level_of, left_level, right_level, symbol_of, prefix_level, prefix_of, boolean_level, item_level, word_of, comparison_of, is_identity, Many, Behind, Separated, Ended, Argument, Positional, ByName, Passes, IsPassed, exprs_of, items_of, Link, links_of, chain_of, Compares, Strings, Spells, BYTES, Octets}
+use Rattle.si_parse.specs.inner.Reading.{short, named_at, argument_from, argument_by, called, comparison, boolean, continuation_at, strength_of, strength_at, then_read, after_boolean, with_word, comparison_at, identity_from, Found, Parsed, Parser, arguments_from, arguments_by, within, call_by, indexed, subscript_by, is_singleton, compared_to, compared_by, other_by, conditional_by, extended_by, continued_by, items_from, tupled, grouped, bracketed_from, strings_by, bracketed_by, operand_from, operand_by, expression_at, after, begins_literal, octets_by}
 use Rattle.si_parse.proofs.Laws.{some_inj, named_at_some, exprs_of_items, chain_of_links}
 use Rattle.si_parse.proofs.Levels.{right_weaker, right_bound, level_under, role_of_symbol, prefix_gap, prefix_bound, prefix_begins, conditional_gap, boolean_strength, item_bound, role_of_word, after_word, role_of_comparison, boolean_none, comparison_none}
-use Rattle.si_parse.proofs.Lists.{le_to, added, Pairwise, separated_complete}
+use Rattle.si_parse.proofs.Lists.{le_to}
+use Rattle.si_parse.proofs.Enclosed.{enclosed_complete}
 use Rattle.si_parse.proofs.Passed.{passed_complete}
 use Rattle.si_parse.proofs.Chains.{many_long, chain_complete}
 use Rattle.si_parse.proofs.Starts.{expression_begins, some_terminals, close_not, singleton}
@@ -25,7 +26,7 @@ lt_to a b h = grind (arith, nat_tests)
 ge_to : (a b : ℕ) → b ≤ a → nat_lt a b ≡ false
 ge_to a b h = grind (arith, nat_tests)
 
-within_ok : (n : ℕ) (e : Expr) (d : ℕ) (ts : List Terminal) → d ≤ n → within n e d ts ≡ Some (e, d, ts)
+pub within_ok : (n : ℕ) (e : Expr) (d : ℕ) (ts : List Terminal) → d ≤ n → within n e d ts ≡ Some (e, d, ts)
 within_ok n e d ts h = ap (λ b. if b then Some (e, d, ts) else None) (le_to d n h)
 
 not_closed : (m l : ℕ) (e : Expr) (f : List Terminal) → Spells m l e f → (x : List Terminal) → after (Sign token.RightParenthesis) (f ++ x) ≡ None
@@ -38,12 +39,12 @@ spelled_name (suc m) l e f h x = inl refl
 
 -- ---- str literals
 
-strings_end : (text : List ℕ) (ts : List Terminal) → begins_str ts ≡ false → strings_by text ts ≡ Some (text, ts)
+strings_end : (text : List ℕ) (ts : List Terminal) → begins_literal ts ≡ false → strings_by text ts ≡ Some (text, ts)
 strings_end text [] h = refl
 strings_end text (STRING literal ∷ ts) h = cc
 strings_end text (_ ∷ ts) h = refl
 
-strings_complete : (text s : List ℕ) (f rest : List Terminal) → Strings s f → begins_str rest ≡ false → strings_by text (f ++ rest) ≡ Some (text ++ s, rest)
+strings_complete : (text s : List ℕ) (f rest : List Terminal) → Strings s f → begins_literal rest ≡ false → strings_by text (f ++ rest) ≡ Some (text ++ s, rest)
 strings_complete text s [] rest h b = strings_end text rest b ∙ ap (λ t. Some (t, rest)) (sym (append-nil text) ∙ ap (λ s. text ++ s) (sym h))
 strings_complete text s (STRING literal ∷ ts) rest h b =
     ap (λ o. then_read o (λ s. strings_by (text ++ s) (ts ++ rest))) h.3
@@ -54,16 +55,41 @@ strings_complete text s (_ ∷ ts) rest h b = absurd h
 abbrev with_text : List ℕ × List Terminal → Parsed
 with_text r = Some (tree.Constant (Str r.0), 1, r.1)
 
-string_operand : (sub : Parser) (l : ℕ) (s : List ℕ) (f rest : List Terminal) → 0 < length f → length s ≤ max_length → Strings s f → begins_str rest ≡ false → operand_by sub l (f ++ rest) ≡ Some (tree.Constant (Str s), 1, rest)
+string_operand : (sub : Parser) (l : ℕ) (s : List ℕ) (f rest : List Terminal) → 0 < length f → length s ≤ max_length → Strings s f → begins_literal rest ≡ false → operand_by sub l (f ++ rest) ≡ Some (tree.Constant (Str s), 1, rest)
 string_operand sub l s [] rest some few h b = absurd (omega arith)
 string_operand sub l s (STRING literal ∷ ts) rest some few h b =
     ap (λ (o : Option (List ℕ × List Terminal)). then_read (then_read o short) with_text) (strings_complete [] s (STRING literal ∷ ts) rest h b)
     ∙ ap (λ b. then_read (if b then Some (s, rest) else None) with_text) (le_to (length s) max_length few)
 string_operand sub l s (_ ∷ ts) rest some few h b = absurd h
 
+-- ---- bytes literals
+
+octets_end : (text : List ℕ) (ts : List Terminal) → begins_literal ts ≡ false → octets_by text ts ≡ Some (text, ts)
+octets_end text [] h = refl
+octets_end text (BYTES literal ∷ ts) h = cc
+octets_end text (_ ∷ ts) h = refl
+
+octets_complete : (text s : List ℕ) (f rest : List Terminal) → Octets s f → begins_literal rest ≡ false → octets_by text (f ++ rest) ≡ Some (text ++ s, rest)
+octets_complete text s [] rest h b = octets_end text rest b ∙ ap (λ t. Some (t, rest)) (sym (append-nil text) ∙ ap (λ s. text ++ s) (sym h))
+octets_complete text s (BYTES literal ∷ ts) rest h b =
+    ap (λ o. then_read o (λ s. octets_by (text ++ s) (ts ++ rest))) h.3
+    ∙ octets_complete (text ++ h.0) h.1 ts rest h.4 b
+    ∙ ap (λ t. Some (t, rest)) (append_assoc text h.0 h.1 ∙ ap (λ s. text ++ s) (sym h.2))
+octets_complete text s (_ ∷ ts) rest h b = absurd h
+
+abbrev with_bytes : List ℕ × List Terminal → Parsed
+with_bytes r = Some (tree.Constant (Bytes r.0), 1, r.1)
+
+bytes_operand : (sub : Parser) (l : ℕ) (s : List ℕ) (f rest : List Terminal) → 0 < length f → length s ≤ max_length → Octets s f → begins_literal rest ≡ false → operand_by sub l (f ++ rest) ≡ Some (tree.Constant (Bytes s), 1, rest)
+bytes_operand sub l s [] rest some few h b = absurd (omega arith)
+bytes_operand sub l s (BYTES literal ∷ ts) rest some few h b =
+    ap (λ (o : Option (List ℕ × List Terminal)). then_read (then_read o short) with_bytes) (octets_complete [] s (BYTES literal ∷ ts) rest h b)
+    ∙ ap (λ b. then_read (if b then Some (s, rest) else None) with_bytes) (le_to (length s) max_length few)
+bytes_operand sub l s (_ ∷ ts) rest some few h b = absurd h
+
 -- ---- comparisons
 
-no_str : (op : ComparisonOperator) (ts : List Terminal) → begins_str (comparison_of op ++ ts) ≡ false
+no_str : (op : ComparisonOperator) (ts : List Terminal) → begins_literal (comparison_of op ++ ts) ≡ false
 no_str tree.Less ts = refl
 no_str tree.Greater ts = refl
 no_str tree.LessEqual ts = refl
@@ -98,16 +124,13 @@ compared_singleton op r h = compared_if (is_identity op) (is_singleton r.0 r.1) 
 -- ---- expressions
 
 abbrev pub IsComplete : ℕ → Parser → Type 0
-IsComplete n sub = (m l : ℕ) (e : Expr) (front rest : List Terminal) → m ≤ n → l ≤ 16 → Spells m l e front → strength_at rest < l → begins_str rest ≡ false
+IsComplete n sub = (m l : ℕ) (e : Expr) (front rest : List Terminal) → m ≤ n → l ≤ 16 → Spells m l e front → strength_at rest < l → begins_literal rest ≡ false
     → (d : ℕ) × (d ≤ m) × (0 < d) × (sub l (front ++ rest) ≡ Some (e, d, rest))
 
 module _ (n : ℕ) (sub : Parser) (complete : IsComplete n sub) where
   module _ (m : ℕ) (le : m ≤ n) where
-    abbrev Read : Argument → Argued → Type 0
-    Read a r = (a ≡ r.0) × (r.1 ≤ m)
-
     abbrev Follows : List Terminal → Type 0
-    Follows more = (strength_at more < 1) × (begins_str more ≡ false) × (after (Sign token.Equal) more ≡ None)
+    Follows more = (strength_at more < 1) × (begins_literal more ≡ false) × (after (Sign token.Equal) more ≡ None)
 
     -- no `=` stands after the name with which an expression begins, as this would be read up to it
     not_named : (e : Expr) (f more : List Terminal) → Spells m 1 e f → Follows more → named_at (f ++ more) ≡ None
@@ -121,33 +144,17 @@ module _ (n : ℕ) (sub : Parser) (complete : IsComplete n sub) where
             let same = some_inj (e, c.0, more) (tree.Name name.0, d.0, Sign token.Equal ∷ name.1) (sym c.3 ∙ ap (sub 1) (named_at_some (f ++ more) name is) ∙ d.3) in
             let bad : None ≡ Some name.1 = sym ends.2 ∙ ap (λ r. after (Sign token.Equal) r.2) same in cc
 
-    argument_read : (a : Argument) (f more : List Terminal) → Passes (Spells m) a f → Follows more → (r : Argued) × (argument_by sub (f ++ more) ≡ Some r) × (r.2 ≡ more) × Read a r
+    argument_read : (a : Argument) (f more : List Terminal) → Passes (Spells m) a f → Follows more → (d : ℕ) × (d ≤ m) × (argument_by sub (f ++ more) ≡ Some (a, d, more))
     argument_read (Positional e) f more h ends =
-        let c = complete m 1 e f more le (omega arith) h ends.0 ends.1 in (
-          (Positional e, c.0, more),
-          ap (argument_from sub (f ++ more)) (not_named e f more h ends) ∙ ap (λ o. then_read o (λ r. Some (Positional r.0, r.1, r.2))) c.3,
-          refl,
-          (refl, c.1),
-        )
+        let c = complete m 1 e f more le (omega arith) h ends.0 ends.1 in
+        (c.0, c.1, ap (argument_from sub (f ++ more)) (not_named e f more h ends) ∙ ap (λ o. then_read o (λ r. Some (Positional r.0, r.1, r.2))) c.3)
     argument_read (ByName x e) f more h ends =
-        let c = complete m 1 e h.0 more le (omega arith) h.2 ends.0 ends.1 in (
-          (ByName x e, c.0, more),
-          ap (λ t. argument_by sub (t ++ more)) h.1 ∙ ap (λ o. then_read o (λ r. Some (ByName x r.0, r.1, r.2))) c.3,
-          refl,
-          (refl, c.1),
-        )
+        let c = complete m 1 e h.0 more le (omega arith) h.2 ends.0 ends.1 in
+        (c.0, c.1, ap (λ t. argument_by sub (t ++ more)) h.1 ∙ ap (λ o. then_read o (λ r. Some (ByName x r.0, r.1, r.2))) c.3)
 
     argument_open : (a : Argument) (f more : List Terminal) → Passes (Spells m) a f → after (Sign token.RightParenthesis) (f ++ more) ≡ None
     argument_open (Positional e) f more h = not_closed m 1 e f h more
     argument_open (ByName x e) f more h = ap (λ t. after (Sign token.RightParenthesis) (t ++ more)) h.1
-
-    collected : (before xs : List Argument) (d : ℕ) (rs : List Argued) → d ≤ m → Pairwise Read xs rs → (top : ℕ) × (top ≤ m) × (added with_argument (before, d) rs ≡ (before ++ xs, top))
-    collected before [] d [] low h = (d, low, ap (λ l. (l, d)) (sym (append-nil before)))
-    collected before [] d (r ∷ rs) low h = absurd h
-    collected before (x ∷ xs) d [] low h = absurd h
-    collected before (x ∷ xs) d (r ∷ rs) low h =
-        let c = collected (before ++ r.0 ∷ []) xs (max d r.1) rs (omega (arith, h.0.1)) h.1 in
-        (c.0, c.1, c.2 ∙ ap (λ l. (l, c.0)) (append_assoc before (r.0 ∷ []) xs ∙ ap (λ y. before ++ y ∷ xs) (sym h.0.0)))
 
     arguments_complete : (xs : List Argument) (g rest : List Terminal) → Separated (Passes (Spells m)) token.Comma xs g
         → (d : ℕ) × (d ≤ m) × (arguments_by sub (g ++ Sign token.RightParenthesis ∷ rest) ≡ Some ((xs, d), rest))
@@ -157,52 +164,85 @@ module _ (n : ℕ) (sub : Parser) (complete : IsComplete n sub) where
         let long : length ts ≡ length g + length (Sign token.RightParenthesis ∷ rest) = length-append g (Sign token.RightParenthesis ∷ rest) in
         let split : ts ≡ h.0 ++ (h.1 ++ Sign token.RightParenthesis ∷ rest) = ap (λ t. t ++ Sign token.RightParenthesis ∷ rest) h.2 ∙ append_assoc h.0 h.1 (Sign token.RightParenthesis ∷ rest) in
         let open_yet : (after (Sign token.RightParenthesis)) ts ≡ None = ap (after (Sign token.RightParenthesis)) split ∙ argument_open x h.0 (h.1 ++ Sign token.RightParenthesis ∷ rest) h.3 in
-        let s = separated_complete with_argument (λ r. r.2) (argument_by sub) (after (Sign token.Comma)) (after (Sign token.RightParenthesis)) token.Comma (Sign token.RightParenthesis) (Passes (Spells m)) Read Follows argument_read
-        argument_open (λ ts. refl) (λ ts. refl) (λ ts. refl) (λ ts. (omega arith, refl, refl)) (λ ts. (omega arith, refl, refl))
-        (length ts) ([], 0) (x ∷ xs) g rest (omega arith) (omega arith) h in
-        let c = collected [] (x ∷ xs) 0 s.0 (omega arith) s.1 in
-        (c.0, c.1, ap (arguments_from sub ts) open_yet ∙ s.2 ∙ ap (λ b. Some (b, rest)) c.2)
+        let c = enclosed_complete (argument_by sub) (Passes (Spells m)) m Follows argument_read argument_open (λ ts. (omega arith, refl, refl)) (λ ts. (omega arith, refl, refl))
+        (length ts) [] 0 (x ∷ xs) g rest (omega arith) (omega arith) (omega arith) h in
+        (c.0, c.1, ap (arguments_from sub ts) open_yet ∙ c.2)
+
+    -- ---- tuples
+
+    abbrev Stops : List Terminal → Type 0
+    Stops more = (strength_at more < 1) × (begins_literal more ≡ false)
+
+    item_read : (e : Expr) (f more : List Terminal) → Spells m 1 e f → Stops more → (d : ℕ) × (d ≤ m) × (sub 1 (f ++ more) ≡ Some (e, d, more))
+    item_read e f more h ends = let c = complete m 1 e f more le (omega arith) h ends.0 ends.1 in (c.0, c.1, c.3)
+
+    -- a first item, and what stands behind it
+    first_read : (e : Expr) (f more : List Terminal) → Spells m 1 e f → Stops more → (d : ℕ) × (d ≤ m) × (bracketed_by sub (f ++ more) ≡ grouped sub (e, d, more))
+    first_read e f more h ends =
+        let c = item_read e f more h ends in
+        (c.0, c.1, ap (bracketed_from sub (f ++ more)) (not_closed m 1 e f h more) ∙ ap (λ o. then_read o (grouped sub)) c.2)
+
+    tuple_complete : (xs : List Expr) (f rest : List Terminal) → Ended (Spells m 1) token.Comma xs f
+        → (d : ℕ) × (d ≤ m) × (bracketed_by sub (f ++ Sign token.RightParenthesis ∷ rest) ≡ Some (tree.Tuple (exprs_of xs), d + 1, rest))
+    tuple_complete [] f rest h = (0, omega arith, ap (λ t. bracketed_by sub (t ++ Sign token.RightParenthesis ∷ rest)) h)
+    tuple_complete (x ∷ []) f rest h =
+        let split : f ++ Sign token.RightParenthesis ∷ rest ≡ h.0 ++ Sign token.Comma ∷ (Sign token.RightParenthesis ∷ rest)
+        = ap (λ t. t ++ Sign token.RightParenthesis ∷ rest) h.1 ∙ append_assoc h.0 (Sign token.Comma ∷ []) (Sign token.RightParenthesis ∷ rest) in
+        let c = first_read x h.0 (Sign token.Comma ∷ (Sign token.RightParenthesis ∷ rest)) h.2 (omega arith, refl) in
+        (c.0, c.1, ap (bracketed_by sub) split ∙ c.2)
+    tuple_complete (x ∷ y ∷ xs) f rest h =
+        let g = h.4.0 ++ h.4.1 in
+        let ts = g ++ Sign token.RightParenthesis ∷ rest in
+        let split : f ++ Sign token.RightParenthesis ∷ rest ≡ h.0 ++ Sign token.Comma ∷ ts
+        = ap (λ t. t ++ Sign token.RightParenthesis ∷ rest) (h.2 ∙ ap (λ t. h.0 ++ t) h.4.2) ∙ append_assoc h.0 (Sign token.Comma ∷ g) (Sign token.RightParenthesis ∷ rest) in
+        let long : length ts ≡ length g + length (Sign token.RightParenthesis ∷ rest) = length-append g (Sign token.RightParenthesis ∷ rest) in
+        let open_yet : after (Sign token.RightParenthesis) ts ≡ None
+        = ap (after (Sign token.RightParenthesis)) (append_assoc h.4.0 h.4.1 (Sign token.RightParenthesis ∷ rest)) ∙ not_closed m 1 y h.4.0 h.4.3 (h.4.1 ++ Sign token.RightParenthesis ∷ rest) in
+        let c = first_read x h.0 (Sign token.Comma ∷ ts) h.3 (omega arith, refl) in
+        let s = enclosed_complete (sub 1) (Spells m 1) m Stops item_read (λ e f more h. not_closed m 1 e f h more) (λ ts. (omega arith, refl)) (λ ts. (omega arith, refl))
+        (length ts) (x ∷ []) c.0 (y ∷ xs) g rest (omega arith) (omega arith) c.1 (h.4.0, h.4.1, refl, h.4.3, h.4.4) in
+        (s.0, s.1, ap (bracketed_by sub) split ∙ c.2 ∙ ap (λ o. then_read (items_from sub (x ∷ [], c.0) ts o) tupled) open_yet ∙ ap (λ o. then_read o tupled) s.2)
 
   -- ---- operands of chains
 
   abbrev Item : ℕ → BooleanOperator → Expr → List Terminal → Type 0
   Item m op = Behind (Word (word_of op)) (Spells m (item_level op))
 
-  item_begin : (m : ℕ) (op : BooleanOperator) (x : Expr) (f more : List Terminal) → Item m op x f → (continuation_at (f ++ more) ≡ boolean op) × (begins_str (f ++ more) ≡ false)
-  item_begin m op x f more h = (ap (λ t. continuation_at (t ++ more)) h.1 ∙ role_of_word op (h.0 ++ more), ap (λ t. begins_str (t ++ more)) h.1)
+  item_begin : (m : ℕ) (op : BooleanOperator) (x : Expr) (f more : List Terminal) → Item m op x f → (continuation_at (f ++ more) ≡ boolean op) × (begins_literal (f ++ more) ≡ false)
+  item_begin m op x f more h = (ap (λ t. continuation_at (t ++ more)) h.1 ∙ role_of_word op (h.0 ++ more), ap (λ t. begins_literal (t ++ more)) h.1)
 
-  item_begins : (m : ℕ) (op : BooleanOperator) (x : Expr) (f more : List Terminal) → Item m op x f → (strength_at (f ++ more) < item_level op) × (begins_str (f ++ more) ≡ false)
+  item_begins : (m : ℕ) (op : BooleanOperator) (x : Expr) (f more : List Terminal) → Item m op x f → (strength_at (f ++ more) < item_level op) × (begins_literal (f ++ more) ≡ false)
   item_begins m op x f more h =
       let b = item_begin m op x f more h in let same = ap strength_of b.0 in let strong = boolean_strength op in (omega (arith, strong.0), b.1)
 
-  items_begin : (m : ℕ) (op : BooleanOperator) (xs : List Expr) (g rest : List Terminal) → 0 < length xs → Many (Item m op) xs g → (continuation_at (g ++ rest) ≡ boolean op) × (begins_str (g ++ rest) ≡ false)
+  items_begin : (m : ℕ) (op : BooleanOperator) (xs : List Expr) (g rest : List Terminal) → 0 < length xs → Many (Item m op) xs g → (continuation_at (g ++ rest) ≡ boolean op) × (begins_literal (g ++ rest) ≡ false)
   items_begin m op [] g rest some h = absurd (omega arith)
   items_begin m op (x ∷ xs) g rest some h =
       let split : g ++ rest ≡ h.0 ++ (h.1 ++ rest) = ap (λ t. t ++ rest) h.2 ∙ append_assoc h.0 h.1 rest in
-      subst (λ t. (continuation_at t ≡ boolean op) × (begins_str t ≡ false)) (sym split) (item_begin m op x h.0 (h.1 ++ rest) h.3)
+      subst (λ t. (continuation_at t ≡ boolean op) × (begins_literal t ≡ false)) (sym split) (item_begin m op x h.0 (h.1 ++ rest) h.3)
 
   item_long : (m : ℕ) (op : BooleanOperator) (x : Expr) (f : List Terminal) → Item m op x f → 2 ≤ length f
   item_long m op x f h = omega (arith, ap length h.1, some_terminals m (item_level op) x h.0 h.2)
 
-  item_complete : (m : ℕ) → m ≤ n → (op : BooleanOperator) (x : Expr) (f more : List Terminal) → Item m op x f → strength_at more < item_level op → begins_str more ≡ false
+  item_complete : (m : ℕ) → m ≤ n → (op : BooleanOperator) (x : Expr) (f more : List Terminal) → Item m op x f → strength_at more < item_level op → begins_literal more ≡ false
       → (o : BooleanOperator) × (rest : List Terminal) × (e : Expr) × (d : ℕ) × (with_word op (after_boolean op (f ++ more)) ≡ Some (o, rest)) × (sub (item_level o) rest ≡ Some (e, d, more)) × (e ≡ x) × (d ≤ m)
   item_complete m le op x f more h weak plain =
       let c = complete m (item_level op) x h.0 more le (item_bound op) h.2 weak plain in
       (op, h.0 ++ more, x, c.0, ap (λ t. with_word op (after_boolean op (t ++ more))) h.1 ∙ ap (with_word op) (after_word op (h.0 ++ more)), c.3, refl, c.1)
 
-  link_begin : (m : ℕ) (x : Link) (f more : List Terminal) → Compares (Spells m) x f → (continuation_at (f ++ more) ≡ comparison) × (begins_str (f ++ more) ≡ false)
+  link_begin : (m : ℕ) (x : Link) (f more : List Terminal) → Compares (Spells m) x f → (continuation_at (f ++ more) ≡ comparison) × (begins_literal (f ++ more) ≡ false)
   link_begin m x f more h =
       let split : f ++ more ≡ comparison_of x.0 ++ (h.0 ++ more) = ap (λ t. t ++ more) h.1 ∙ append_assoc (comparison_of x.0) h.0 more in
-      subst (λ t. (continuation_at t ≡ comparison) × (begins_str t ≡ false)) (sym split) (role_of_comparison x.0 (h.0 ++ more), no_str x.0 (h.0 ++ more))
+      subst (λ t. (continuation_at t ≡ comparison) × (begins_literal t ≡ false)) (sym split) (role_of_comparison x.0 (h.0 ++ more), no_str x.0 (h.0 ++ more))
 
-  link_begins : (m : ℕ) (x : Link) (f more : List Terminal) → Compares (Spells m) x f → (strength_at (f ++ more) < 10) × (begins_str (f ++ more) ≡ false)
+  link_begins : (m : ℕ) (x : Link) (f more : List Terminal) → Compares (Spells m) x f → (strength_at (f ++ more) < 10) × (begins_literal (f ++ more) ≡ false)
   link_begins m x f more h = let b = link_begin m x f more h in let same : strength_at (f ++ more) ≡ 9 = ap strength_of b.0 in (omega arith, b.1)
 
-  links_begin : (m : ℕ) (xs : List Link) (g rest : List Terminal) → 0 < length xs → Many (Compares (Spells m)) xs g → (continuation_at (g ++ rest) ≡ comparison) × (begins_str (g ++ rest) ≡ false)
+  links_begin : (m : ℕ) (xs : List Link) (g rest : List Terminal) → 0 < length xs → Many (Compares (Spells m)) xs g → (continuation_at (g ++ rest) ≡ comparison) × (begins_literal (g ++ rest) ≡ false)
   links_begin m [] g rest some h = absurd (omega arith)
   links_begin m (x ∷ xs) g rest some h =
       let split : g ++ rest ≡ h.0 ++ (h.1 ++ rest) = ap (λ t. t ++ rest) h.2 ∙ append_assoc h.0 h.1 rest in
-      subst (λ t. (continuation_at t ≡ comparison) × (begins_str t ≡ false)) (sym split) (link_begin m x h.0 (h.1 ++ rest) h.3)
+      subst (λ t. (continuation_at t ≡ comparison) × (begins_literal t ≡ false)) (sym split) (link_begin m x h.0 (h.1 ++ rest) h.3)
 
   link_long : (m : ℕ) (x : Link) (f : List Terminal) → Compares (Spells m) x f → 2 ≤ length f
   link_long m x f h = omega (arith, ap length h.1, length-append (comparison_of x.0) h.0, comparison_long x.0, some_terminals m 10 x.1 h.0 h.2)
@@ -211,7 +251,7 @@ module _ (n : ℕ) (sub : Parser) (complete : IsComplete n sub) where
   abbrev Operand : ℕ → ComparisonOperator → Expr → List Terminal → List Terminal → Type 0
   Operand m op e g more = (d : ℕ) × (d ≤ m) × (comparison_at (comparison_of op ++ (g ++ more)) ≡ Some (op, g ++ more)) × (compared_by sub op (g ++ more) ≡ Some (e, d, more))
 
-  ordered : (m : ℕ) → m ≤ n → (op : ComparisonOperator) (e : Expr) (g more : List Terminal) → is_identity op ≡ false → comparison_at (comparison_of op ++ (g ++ more)) ≡ Some (op, g ++ more) → Spells m 10 e g → strength_at more < 10 → begins_str more ≡ false
+  ordered : (m : ℕ) → m ≤ n → (op : ComparisonOperator) (e : Expr) (g more : List Terminal) → is_identity op ≡ false → comparison_at (comparison_of op ++ (g ++ more)) ≡ Some (op, g ++ more) → Spells m 10 e g → strength_at more < 10 → begins_literal more ≡ false
       → Operand m op e g more
   ordered m le op e g more free is h weak plain =
       let c = complete m 10 e g more le (omega arith) h weak plain in
@@ -222,7 +262,7 @@ module _ (n : ℕ) (sub : Parser) (complete : IsComplete n sub) where
   positive (suc m) l e g h = omega arith
 
   identical : (m : ℕ) → m ≤ n → (op : ComparisonOperator) (e : Expr) (g more : List Terminal) (w : Keyword) → g ≡ Word w ∷ [] → (after (Word token.NotWord) (g ++ more) ≡ None → comparison_at (comparison_of op ++ (g ++ more)) ≡ Some (op, g ++ more))
-      → Spells m 10 e g → strength_at more < 10 → begins_str more ≡ false → Operand m op e g more
+      → Spells m 10 e g → strength_at more < 10 → begins_literal more ≡ false → Operand m op e g more
   identical m le op e g more w one is h weak plain =
       let s = singleton m e w (subst (Spells m 10 e) one h) in
       let spelled : Spells 1 10 e g = subst (Spells 1 10 e) (sym one) s.spelled in
@@ -232,7 +272,7 @@ module _ (n : ℕ) (sub : Parser) (complete : IsComplete n sub) where
       let known : is_singleton e c.0 ≡ true = ap (is_singleton e) (sym exact) ∙ s.is in
       (c.0, omega (arith, c.1), is (ap (λ t. after (Word token.NotWord) (t ++ more)) one ∙ s.affirms more), ap (λ r. then_read r (compared_to op)) c.3 ∙ compared_singleton op (e, c.0, more) known)
 
-  operand_complete : (m : ℕ) → m ≤ n → (op : ComparisonOperator) (e : Expr) (g more : List Terminal) → Spells m 10 e g → (is_identity op ≡ true → (w : Keyword) × (g ≡ Word w ∷ [])) → strength_at more < 10 → begins_str more ≡ false → Operand m op e g more
+  operand_complete : (m : ℕ) → m ≤ n → (op : ComparisonOperator) (e : Expr) (g more : List Terminal) → Spells m 10 e g → (is_identity op ≡ true → (w : Keyword) × (g ≡ Word w ∷ [])) → strength_at more < 10 → begins_literal more ≡ false → Operand m op e g more
   operand_complete m le tree.Less e g more h one weak plain = ordered m le tree.Less e g more refl refl h weak plain
   operand_complete m le tree.Greater e g more h one weak plain = ordered m le tree.Greater e g more refl refl h weak plain
   operand_complete m le tree.LessEqual e g more h one weak plain = ordered m le tree.LessEqual e g more refl refl h weak plain
@@ -244,7 +284,7 @@ module _ (n : ℕ) (sub : Parser) (complete : IsComplete n sub) where
   operand_complete m le tree.In e g more h one weak plain = ordered m le tree.In e g more refl refl h weak plain
   operand_complete m le tree.NotIn e g more h one weak plain = ordered m le tree.NotIn e g more refl refl h weak plain
 
-  link_complete : (m : ℕ) → m ≤ n → (x : Link) (f more : List Terminal) → Compares (Spells m) x f → strength_at more < 10 → begins_str more ≡ false
+  link_complete : (m : ℕ) → m ≤ n → (x : Link) (f more : List Terminal) → Compares (Spells m) x f → strength_at more < 10 → begins_literal more ≡ false
       → (o : ComparisonOperator) × (rest : List Terminal) × (e : Expr) × (d : ℕ) × (comparison_at (f ++ more) ≡ Some (o, rest)) × (compared_by sub o rest ≡ Some (e, d, more)) × ((o, e) ≡ x) × (d ≤ m)
   link_complete m le x f more h weak plain =
       let c = operand_complete m le x.0 x.1 h.0 more h.2 h.3 weak plain in
@@ -260,7 +300,7 @@ module _ (n : ℕ) (sub : Parser) (complete : IsComplete n sub) where
     Reaches m e front rest = (d : ℕ) × (j : ℕ) × (d ≤ m) × (j < d) × ((k : ℕ) → Run (j + k) (front ++ rest) ≡ continued_by sub (n + 1) l k e d rest)
 
     abbrev Hypothesis : ℕ → Type 0
-    Hypothesis m = (level : ℕ) (e : Expr) (front rest : List Terminal) → Spells m level e front → strength_at rest ≤ level → begins_str rest ≡ false → l ≤ level → Reaches m e front rest
+    Hypothesis m = (level : ℕ) (e : Expr) (front rest : List Terminal) → Spells m level e front → strength_at rest ≤ level → begins_literal rest ≡ false → l ≤ level → Reaches m e front rest
 
     once : (k : ℕ) (e : Expr) (d : ℕ) (ts : List Terminal) → l ≤ strength_at ts → (e' : Expr) (d' : ℕ) (ts' : List Terminal) → extended_by sub (n + 1) e d ts (continuation_at ts) ≡ Some (e', d', ts')
         → continued_by sub (n + 1) l (k + 1) e d ts ≡ continued_by sub (n + 1) l k e' d' ts'
@@ -297,7 +337,7 @@ module _ (n : ℕ) (sub : Parser) (complete : IsComplete n sub) where
           ap (λ r. then_read r (λ r. continued_by sub (n + 1) l (0 + k) r.0 r.1 r.2)) h ∙ ap (λ i. continued_by sub (n + 1) l i e d rest) same,
     )
 
-    binary_reached : (m : ℕ) → m ≤ n → Hypothesis m → (level : ℕ) (op : BinaryOperator) (a b : Expr) (f g rest : List Terminal) → level ≤ level_of op → Spells m (left_level op) a f → Spells m (right_level op) b g → strength_at rest ≤ level → begins_str rest ≡ false → l ≤ level
+    binary_reached : (m : ℕ) → m ≤ n → Hypothesis m → (level : ℕ) (op : BinaryOperator) (a b : Expr) (f g rest : List Terminal) → level ≤ level_of op → Spells m (left_level op) a f → Spells m (right_level op) b g → strength_at rest ≤ level → begins_literal rest ≡ false → l ≤ level
         → Reaches (suc m) (tree.Binary op a b) (f ++ Sign (symbol_of op) ∷ g) rest
     binary_reached m le ih level op a b f g rest under ha hb weak plain at =
         let tail = Sign (symbol_of op) ∷ g in
@@ -349,7 +389,7 @@ module _ (n : ℕ) (sub : Parser) (complete : IsComplete n sub) where
         ∙ within_ok (n + 1) (tree.Subscript a b) d rest shallow
         )
 
-    unary_reached : (m : ℕ) → m ≤ n → (level : ℕ) (op : UnaryOperator) (a : Expr) (f rest : List Terminal) → level ≤ prefix_level op → Spells m (prefix_level op) a f → strength_at rest ≤ level → begins_str rest ≡ false → l ≤ level
+    unary_reached : (m : ℕ) → m ≤ n → (level : ℕ) (op : UnaryOperator) (a : Expr) (f rest : List Terminal) → level ≤ prefix_level op → Spells m (prefix_level op) a f → strength_at rest ≤ level → begins_literal rest ≡ false → l ≤ level
         → Reaches (suc m) (tree.Unary op a) (prefix_of op ∷ f) rest
     unary_reached m le level op a f rest under ha weak plain at =
         let inner = complete m (prefix_level op) a f rest le (prefix_bound op) ha (prefix_gap op rest (omega arith)) plain in
@@ -362,16 +402,19 @@ module _ (n : ℕ) (sub : Parser) (complete : IsComplete n sub) where
 
     bracket_reached : (m : ℕ) → m ≤ n → (e : Expr) (f rest : List Terminal) → Spells m 1 e f → Reaches (suc m) e (Sign token.LeftParenthesis ∷ (f ++ Sign token.RightParenthesis ∷ [])) rest
     bracket_reached m le e f rest he =
-        let inner = complete m 1 e f (Sign token.RightParenthesis ∷ rest) le (omega arith) he (omega arith) refl in
+        let inner = first_read m le e f (Sign token.RightParenthesis ∷ rest) he (omega arith, refl) in
         let same : (f ++ Sign token.RightParenthesis ∷ []) ++ rest ≡ f ++ Sign token.RightParenthesis ∷ rest = append_assoc f (Sign token.RightParenthesis ∷ []) rest in
-        starts (suc m) e (Sign token.LeftParenthesis ∷ (f ++ Sign token.RightParenthesis ∷ [])) rest (inner.0 + 1) (omega arith) (omega (arith, inner.1))
-        (
-        ap (bracketed_by sub) same
-        ∙ ap (λ r. then_read r (λ r. closed r.0 r.1 (after (Sign token.RightParenthesis) r.2))) inner.3
-        )
+        starts (suc m) e (Sign token.LeftParenthesis ∷ (f ++ Sign token.RightParenthesis ∷ [])) rest (inner.0 + 1) (omega arith) (omega (arith, inner.1)) (ap (bracketed_by sub) same ∙ inner.2)
+
+    tuple_reached : (m : ℕ) → m ≤ n → (items : Exprs) (f rest : List Terminal) → Ended (Spells m 1) token.Comma (items_of items) f → Reaches (suc m) (tree.Tuple items) (Sign token.LeftParenthesis ∷ (f ++ Sign token.RightParenthesis ∷ [])) rest
+    tuple_reached m le items f rest h =
+        let inner = tuple_complete m le (items_of items) f rest h in
+        let same : (f ++ Sign token.RightParenthesis ∷ []) ++ rest ≡ f ++ Sign token.RightParenthesis ∷ rest = append_assoc f (Sign token.RightParenthesis ∷ []) rest in
+        starts (suc m) (tree.Tuple items) (Sign token.LeftParenthesis ∷ (f ++ Sign token.RightParenthesis ∷ [])) rest (inner.0 + 1) (omega arith) (omega (arith, inner.1))
+        (ap (bracketed_by sub) same ∙ inner.2 ∙ ap (λ t. Some (tree.Tuple t, inner.0 + 1, rest)) (exprs_of_items items))
 
     compare_reached : (m : ℕ) → m ≤ n → Hypothesis m → (level : ℕ) (a : Expr) (cs : tree.Comparisons) (f g rest : List Terminal) → level ≤ 8 → Spells m 10 a f → 0 < length (links_of cs) → Many (Compares (Spells m)) (links_of cs) g
-        → strength_at rest ≤ level → begins_str rest ≡ false → l ≤ level → Reaches (suc m) (tree.Compare a cs) (f ++ g) rest
+        → strength_at rest ≤ level → begins_literal rest ≡ false → l ≤ level → Reaches (suc m) (tree.Compare a cs) (f ++ g) rest
     compare_reached m le ih level a cs f g rest under ha some hs weak plain at =
         let first = links_begin m (links_of cs) g rest some hs in
         let strength : strength_at (g ++ rest) ≡ 9 = ap strength_of first.0 in
@@ -390,7 +433,7 @@ module _ (n : ℕ) (sub : Parser) (complete : IsComplete n sub) where
         )
 
     boolean_reached : (m : ℕ) → m ≤ n → Hypothesis m → (level : ℕ) (op : BooleanOperator) (a : Expr) (others : tree.Exprs) (f g rest : List Terminal) → level ≤ boolean_level op → Spells m (item_level op) a f
-        → 0 < length (items_of others) → Many (Item m op) (items_of others) g → strength_at rest ≤ level → begins_str rest ≡ false → l ≤ level → Reaches (suc m) (tree.Boolean op a others) (f ++ g) rest
+        → 0 < length (items_of others) → Many (Item m op) (items_of others) g → strength_at rest ≤ level → begins_literal rest ≡ false → l ≤ level → Reaches (suc m) (tree.Boolean op a others) (f ++ g) rest
     boolean_reached m le ih level op a others f g rest under ha some hs weak plain at =
         let first = items_begin m op (items_of others) g rest some hs in
         let bounds = boolean_strength op in
@@ -411,7 +454,7 @@ module _ (n : ℕ) (sub : Parser) (complete : IsComplete n sub) where
         )
 
     conditional_reached : (m : ℕ) → m ≤ n → Hypothesis m → (level : ℕ) (test value other : Expr) (f g h rest : List Terminal) → level ≤ 1 → Spells m 3 value f → Spells m 3 test g → Spells m 1 other h
-        → strength_at rest ≤ level → begins_str rest ≡ false → l ≤ level → Reaches (suc m) (tree.Conditional test value other) (f ++ Word token.IfWord ∷ (g ++ Word token.ElseWord ∷ h)) rest
+        → strength_at rest ≤ level → begins_literal rest ≡ false → l ≤ level → Reaches (suc m) (tree.Conditional test value other) (f ++ Word token.IfWord ∷ (g ++ Word token.ElseWord ∷ h)) rest
     conditional_reached m le ih level test value other f g h rest under hv ht ho weak plain at =
         let tail = Word token.IfWord ∷ (g ++ Word token.ElseWord ∷ h) in
         let left = ih 3 value f (tail ++ rest) hv (omega arith) refl (omega arith) in
@@ -447,13 +490,15 @@ module _ (n : ℕ) (sub : Parser) (complete : IsComplete n sub) where
     reached (suc m) le level (tree.Constant (Truth false)) front rest (inl h) weak plain at =
         moved (suc m) (tree.Constant (Truth false)) (Word token.FalseWord ∷ []) front rest h (starts (suc m) (tree.Constant (Truth false)) (Word token.FalseWord ∷ []) rest 1 (omega arith) (omega arith) refl)
     reached (suc m) le level (tree.Constant (Provided b)) front rest (inl h) weak plain at = absurd h
-    reached (suc m) le level (tree.Constant (Bytes bs)) front rest (inl h) weak plain at = absurd h
+    reached (suc m) le level (tree.Constant (Bytes bs)) front rest (inl h) weak plain at =
+        starts (suc m) (tree.Constant (Bytes bs)) front rest 1 (omega arith) (omega arith) (bytes_operand sub l bs front rest h.0 h.1 h.2 plain)
     reached (suc m) le level (tree.Unary op a) front rest (inl h) weak plain at =
         moved (suc m) (tree.Unary op a) (prefix_of op ∷ h.0) front rest h.1 (unary_reached m (omega arith) level op a h.0 rest h.2 h.3 weak plain at)
     reached (suc m) le level (tree.Binary op a b) front rest (inl h) weak plain at =
         moved (suc m) (tree.Binary op a b) (h.0 ++ Sign (symbol_of op) ∷ h.1) front rest h.2 (binary_reached m (omega arith) (reached m (omega arith)) level op a b h.0 h.1 rest h.3 h.4 h.5 weak plain at)
     reached (suc m) le level (tree.Constant (Function x i)) front rest (inl h) weak plain at = absurd h
     reached (suc m) le level (tree.Constant (Range a b c)) front rest (inl h) weak plain at = absurd h
+    reached (suc m) le level (tree.Constant (Tuple us)) front rest (inl h) weak plain at = absurd h
     reached (suc m) le level (tree.Constant (Class i)) front rest (inl h) weak plain at = absurd h
     reached (suc m) le level (tree.Constant (Address x)) front rest (inl h) weak plain at = absurd h
     reached (suc m) le level (tree.Call a args names) front rest (inl h) weak plain at =
@@ -462,6 +507,8 @@ module _ (n : ℕ) (sub : Parser) (complete : IsComplete n sub) where
     reached (suc m) le level (tree.Subscript a b) front rest (inl h) weak plain at =
         moved (suc m) (tree.Subscript a b) (h.0 ++ Sign token.LeftBracket ∷ (h.1 ++ Sign token.RightBracket ∷ [])) front rest h.2
         (subscript_reached m (omega arith) (reached m (omega arith)) a b h.0 h.1 rest h.4 h.5)
+    reached (suc m) le level (tree.Tuple items) front rest (inl h) weak plain at =
+        moved (suc m) (tree.Tuple items) (Sign token.LeftParenthesis ∷ (h.0 ++ Sign token.RightParenthesis ∷ [])) front rest h.1 (tuple_reached m (omega arith) items h.0 rest h.2)
     reached (suc m) le level (tree.Compare a cs) front rest (inl h) weak plain at =
         moved (suc m) (tree.Compare a cs) (h.0 ++ h.1) front rest h.2 (compare_reached m (omega arith) (reached m (omega arith)) level a cs h.0 h.1 rest h.3 h.4 h.5 h.6 weak plain at)
     reached (suc m) le level (tree.Boolean op a others) front rest (inl h) weak plain at =

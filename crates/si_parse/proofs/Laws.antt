@@ -1,12 +1,12 @@
 -- Laws of the grammar: a limit may be raised, and a looser level asked.
 use Rattle.std.proofs.Common.{◌≡◌, ℕ, zero, suc, ◌+◌, ◌≤◌, List, [], ◌∷◌, ◌++◌, inl, inr, Option, Some, None, refl, sym, ap, ◌∙◌, subst, arith, add-one}
 use Rattle.std.specs.Prelude.{option_map}
-use Rattle.si_semantics.specs.Value.{Nothing, Truth, Int, Str, Bytes, Provided, Function, Range, Class, Address}
+use Rattle.si_semantics.specs.Value.{Nothing, Truth, Int, Str, Bytes, Provided, Function, Range, Tuple, Class, Address}
 use Rattle.si_semantics.specs.Tree.{UnaryOperator, ComparisonOperator, BooleanOperator, Expr, Exprs, Comparisons}
 use Rattle.si_semantics.specs.Tree as tree
 use Rattle.si_semantics.specs.Tokens.{Symbol, Keyword}
 use Rattle.si_semantics.specs.Tokens as token
-use Rattle.si_semantics.specs.Grammar.{Terminal, NAME, Sign, Word, NEWLINE, INDENT, Language, prefix_level, prefix_of, item_level, word_of, comparison_of, Many, Behind, Following, Separated, Argument, Positional, ByName, Passes, items_of, exprs_of, Link, links_of, chain_of, Compares, Produces, Spells}
+use Rattle.si_semantics.specs.Grammar.{Terminal, NAME, Sign, Word, NEWLINE, INDENT, Language, prefix_level, prefix_of, item_level, word_of, comparison_of, Many, Behind, Following, Separated, Ended, Argument, Positional, ByName, Passes, items_of, exprs_of, Link, links_of, chain_of, Compares, Produces, Spells}
 use Rattle.si_parse.specs.inner.Reading.{then_read, rest_of, named_at, name_at, Header, if_header, while_header, for_header, try_header, def_header, header_at, after_boolean, with_word, prefix_at, comparison_symbol, identity_from, comparison_at, after}
 
 -- ---- lists of items
@@ -22,6 +22,11 @@ module _ {A : Type 0} (I J : Items A) (s : Symbol) (w : (x : A) (ts : List Termi
   pub separated_mono : (xs : List A) (ts : List Terminal) → Separated I s xs ts → Separated J s xs ts
   separated_mono [] ts h = h
   separated_mono (x ∷ xs) ts h = (h.0, h.1, h.2, w x h.0 h.3, following_mono xs h.1 h.4)
+
+  pub ended_mono : (xs : List A) (ts : List Terminal) → Ended I s xs ts → Ended J s xs ts
+  ended_mono [] ts h = h
+  ended_mono (x ∷ []) ts h = (h.0, h.1, w x h.0 h.2)
+  ended_mono (x ∷ y ∷ xs) ts h = separated_mono (x ∷ y ∷ xs) ts h
 
 module _ {A : Type 0} (I J : Items A) (w : (x : A) (ts : List Terminal) → I x ts → J x ts) where
   pub many_mono : (xs : List A) (ts : List Terminal) → Many I xs ts → Many J xs ts
@@ -55,10 +60,12 @@ produces_mono E F w l (tree.Unary op a) ts h = (h.0, h.1, h.2, w (prefix_level o
 produces_mono E F w l (tree.Binary op a b) ts h = (h.0, h.1, h.2, h.3, w _ a h.0 h.4, w _ b h.1 h.5)
 produces_mono E F w l (tree.Constant (Function x k)) ts h = h
 produces_mono E F w l (tree.Constant (Range a b c)) ts h = h
+produces_mono E F w l (tree.Constant (Tuple us)) ts h = h
 produces_mono E F w l (tree.Constant (Class k)) ts h = h
 produces_mono E F w l (tree.Constant (Address x)) ts h = h
 produces_mono E F w l (tree.Call a args names) ts h = (h.0, h.1, h.2, h.3, h.4, w _ a h.0 h.5, h.6, separated_mono (Passes E) (Passes F) token.Comma (passes_mono E F w) h.2 h.1 h.7)
 produces_mono E F w l (tree.Subscript a b) ts h = (h.0, h.1, h.2, h.3, w _ a h.0 h.4, w _ b h.1 h.5)
+produces_mono E F w l (tree.Tuple items) ts h = (h.0, h.1, ended_mono (E 1) (F 1) token.Comma (w 1) (items_of items) h.0 h.2)
 produces_mono E F w l (tree.Compare a cs) ts h = (h.0, h.1, h.2, h.3, w 10 a h.0 h.4, h.5, many_mono (Compares E) (Compares F) (compares_mono E F w) (links_of cs) h.1 h.6)
 produces_mono E F w l (tree.Boolean op a others) ts h = (
   h.0,
@@ -83,10 +90,12 @@ produces_looser E k l (tree.Unary op a) ts le h = (h.0, h.1, omega (arith, h.2),
 produces_looser E k l (tree.Binary op a b) ts le h = (h.0, h.1, h.2, omega (arith, h.3), h.4, h.5)
 produces_looser E k l (tree.Constant (Function x i)) ts le h = h
 produces_looser E k l (tree.Constant (Range a b c)) ts le h = h
+produces_looser E k l (tree.Constant (Tuple us)) ts le h = h
 produces_looser E k l (tree.Constant (Class i)) ts le h = h
 produces_looser E k l (tree.Constant (Address x)) ts le h = h
 produces_looser E k l (tree.Call a args names) ts le h = (h.0, h.1, h.2, h.3, omega (arith, h.4), h.5, h.6, h.7)
 produces_looser E k l (tree.Subscript a b) ts le h = (h.0, h.1, h.2, omega (arith, h.3), h.4, h.5)
+produces_looser E k l (tree.Tuple items) ts le h = h
 produces_looser E k l (tree.Compare a cs) ts le h = (h.0, h.1, h.2, omega (arith, h.3), h.4, h.5, h.6)
 produces_looser E k l (tree.Boolean op a others) ts le h = (h.0, h.1, h.2, omega (arith, h.3), h.4, h.5, h.6)
 produces_looser E k l (tree.Conditional test value other) ts le h = (h.0, h.1, h.2, h.3, omega (arith, h.4), h.5, h.6, h.7)

@@ -1,14 +1,14 @@
 -- A tree that is derived is within the limits.
 use Rattle.std.proofs.Common.{◌≡◌, ℕ, zero, suc, ◌+◌, ◌≤◌, List, [], ◌∷◌, ◌++◌, Bool, true, false, inl, inr, map, Option, Some, None, refl, sym, ap, ◌∙◌, subst, arith}
 use Rattle.std.specs.Prelude.{flat_map, if◌then◌else◌}
-use Rattle.si_semantics.specs.Value.{Text, Nothing, Truth, Int, Str, Bytes, Provided, Function, Range, Class, Address}
+use Rattle.si_semantics.specs.Value.{Text, Nothing, Truth, Int, Str, Bytes, Provided, Function, Range, Tuple, Class, Address}
 use Rattle.si_semantics.specs.Tree as tree
 use Rattle.si_semantics.specs.Tree.{BooleanOperator, Expr, Exprs, Comparisons, Stmt, Stmts, Clauses}
 use Rattle.si_semantics.specs.Tokens as token
 use Rattle.si_semantics.specs.Text.{max_length}
-use Rattle.si_semantics.specs.Grammar.{Terminal, Word, left_level, right_level, prefix_level, item_level, word_of, Many, Behind, Following, Separated, Argument, Positional, ByName, Passes, IsPassed, items_of, exprs_of, links_of, Compares, Spells, max_depth, max_parameters, Small, Simple, stmts_of, Lines, Suite, Branch, Tested, Otherwise, elifs_of, clause_list, Excepts, Handlers, Compound, Nests, max_nesting, Derives}
+use Rattle.si_semantics.specs.Grammar.{Terminal, Word, left_level, right_level, prefix_level, item_level, word_of, Many, Behind, Following, Separated, Ended, Argument, Positional, ByName, Passes, IsPassed, items_of, exprs_of, links_of, Compares, Spells, max_depth, max_item_depth, IsExpressions, max_parameters, Small, Simple, stmts_of, Lines, Suite, Branch, Tested, Otherwise, elifs_of, clause_list, Excepts, Handlers, Compound, Nests, max_nesting, Derives}
 use Rattle.si_semantics.specs.Limits.{depth_of, depth_of_all, depth_of_chain, longest_literal, longest_literal_of_all, longest_literal_of_chain, greatest_of, greatest_in, greatest_in_clauses, most_parameters_of, most_parameters_in, most_parameters_in_clauses, is_elif, nesting_of, nesting_in, nesting_in_clauses, IsWithinLimits}
-use Rattle.si_parse.proofs.Laws.{exprs_of_items}
+use Rattle.si_parse.proofs.Laws.{exprs_of_items, items_of_exprs}
 
 -- ---- expressions
 
@@ -65,6 +65,16 @@ arguments_bounded n b arguments args names g p h =
     let values : map value_of arguments ≡ items_of args = ap (map value_of) p.in_order ∙ ordered_values p.positional p.named ∙ sym p.values_are in
     subst (AreLow n) (ap exprs_of values ∙ exprs_of_items args) (separated_bounded n b arguments g h)
 
+-- the items of a tuple after its first
+others_bounded : (n : ℕ) → Bounded n → (es : Exprs) (g : List Terminal) → Following (Spells n 1) token.Comma (items_of es) g → AreLow n es
+others_bounded n b tree.NoExprs g h = none_low n
+others_bounded n b (tree.MoreExprs e es) g h = more_low n e es (b 1 e h.0 h.3) (others_bounded n b es h.1 h.4)
+
+items_bounded : (n : ℕ) → Bounded n → (es : Exprs) (g : List Terminal) → Ended (Spells n 1) token.Comma (items_of es) g → AreLow n es
+items_bounded n b tree.NoExprs g h = none_low n
+items_bounded n b (tree.MoreExprs e tree.NoExprs) g h = more_low n e tree.NoExprs (b 1 e h.0 h.2) (none_low n)
+items_bounded n b (tree.MoreExprs e (tree.MoreExprs x es)) g h = more_low n e (tree.MoreExprs x es) (b 1 e h.0 h.3) (others_bounded n b (tree.MoreExprs x es) h.1 h.4)
+
 chain_bounded : (n : ℕ) → Bounded n → (cs : Comparisons) (g : List Terminal) → Many (Compares (Spells n)) (links_of cs) g → ChainIsLow n cs
 chain_bounded n b tree.NoComparisons g h = record { depth = omega arith; literals = omega arith }
 chain_bounded n b (tree.MoreComparisons op e cs) g h =
@@ -87,9 +97,10 @@ bounded (suc n) l (tree.Constant (Int i)) f (inl h) = leaf_low n (tree.Constant 
 bounded (suc n) l (tree.Constant Nothing) f (inl h) = leaf_low n (tree.Constant Nothing) refl refl
 bounded (suc n) l (tree.Constant (Truth b)) f (inl h) = leaf_low n (tree.Constant (Truth b)) refl refl
 bounded (suc n) l (tree.Constant (Provided b)) f (inl h) = absurd h
-bounded (suc n) l (tree.Constant (Bytes bs)) f (inl h) = absurd h
+bounded (suc n) l (tree.Constant (Bytes bs)) f (inl h) = record { depth = omega arith; literals = h.1 }
 bounded (suc n) l (tree.Constant (Function x k)) f (inl h) = absurd h
 bounded (suc n) l (tree.Constant (Range a b c)) f (inl h) = absurd h
+bounded (suc n) l (tree.Constant (Tuple us)) f (inl h) = absurd h
 bounded (suc n) l (tree.Constant (Class k)) f (inl h) = absurd h
 bounded (suc n) l (tree.Constant (Address x)) f (inl h) = absurd h
 bounded (suc n) l (tree.Unary op a) f (inl h) = let x = bounded n (prefix_level op) a h.0 h.3 in record { depth = omega (arith, x.depth); literals = x.literals }
@@ -102,6 +113,7 @@ bounded (suc n) l (tree.Call a args names) f (inl h) =
 bounded (suc n) l (tree.Subscript a b) f (inl h) =
     let x = bounded n 18 a h.0 h.4 in
     let y = bounded n 1 b h.1 h.5 in record { depth = omega (arith, x.depth, y.depth); literals = omega (arith, x.literals, y.literals) }
+bounded (suc n) l (tree.Tuple items) f (inl h) = let x = items_bounded n (bounded n) items h.0 h.2 in record { depth = omega (arith, x.depth); literals = x.literals }
 bounded (suc n) l (tree.Compare a cs) f (inl h) =
     let x = bounded n 10 a h.0 h.4 in
     let y = chain_bounded n (bounded n) cs h.1 h.6 in record { depth = omega (arith, x.depth, y.depth); literals = omega (arith, x.literals, y.literals) }
@@ -113,6 +125,15 @@ bounded (suc n) l (tree.Conditional test value other) f (inl h) =
     let y = bounded n 3 value h.0 h.5 in
     let z = bounded n 1 other h.2 h.7 in
     record { depth = omega (arith, x.depth, y.depth, z.depth); literals = omega (arith, x.literals, y.literals, z.literals) }
+
+-- a tuple round which no brackets stand is as low as one with brackets
+expressions_bounded : (e : Expr) (f : List Terminal) → IsExpressions e f → IsLow max_depth e
+expressions_bounded e f (inl h) = bounded max_depth 1 e f h
+expressions_bounded e f (inr h) =
+    let P : List Expr → Type 0 = λ items. Ended (Spells max_item_depth 1) token.Comma items f in
+    let x = items_bounded max_item_depth (bounded max_item_depth) (exprs_of h.0) f (subst P (sym (items_of_exprs h.0)) h.3) in
+    let low : IsLow max_depth (tree.Tuple (exprs_of h.0)) = record { depth = omega (arith, x.depth); literals = x.literals } in
+    subst (IsLow max_depth) (sym h.1) low
 
 -- ---- statements
 
@@ -191,14 +212,14 @@ of_none : (n : ℕ) (s : Stmt) → greatest_of depth_of s ≡ 0 → greatest_of 
 of_none n s d t p k = record { depth = omega (arith, d); literals = omega (arith, t); parameters = omega (arith, p); nesting = omega (arith, k) }
 
 small_keeps : (n : ℕ) (s : Stmt) (f : List Terminal) → Small s f → Keeps n s
-small_keeps n (tree.Evaluate e) f h = of_expression n (tree.Evaluate e) e refl refl refl refl (bounded max_depth 1 e f h)
-small_keeps n (tree.Assign t e) f h = of_expression n (tree.Assign t e) e refl refl refl refl (bounded max_depth 1 e h.1 h.4)
-small_keeps n (tree.Augment t op e) f h = of_expression n (tree.Augment t op e) e refl refl refl refl (bounded max_depth 1 e h.1 h.4)
+small_keeps n (tree.Evaluate e) f h = of_expression n (tree.Evaluate e) e refl refl refl refl (expressions_bounded e f h)
+small_keeps n (tree.Assign t e) f h = of_expression n (tree.Assign t e) e refl refl refl refl (expressions_bounded e h.1 h.4)
+small_keeps n (tree.Augment t op e) f h = of_expression n (tree.Augment t op e) e refl refl refl refl (expressions_bounded e h.1 h.4)
 small_keeps n tree.Pass f h = of_none n tree.Pass refl refl refl refl
 small_keeps n tree.Break f h = of_none n tree.Break refl refl refl refl
 small_keeps n tree.Continue f h = of_none n tree.Continue refl refl refl refl
 small_keeps n (tree.Return None) f h = of_none n (tree.Return None) refl refl refl refl
-small_keeps n (tree.Return (Some e)) f h = of_expression n (tree.Return (Some e)) e refl refl refl refl (bounded max_depth 1 e h.0 h.2)
+small_keeps n (tree.Return (Some e)) f h = of_expression n (tree.Return (Some e)) e refl refl refl refl (expressions_bounded e h.0 h.2)
 small_keeps n (tree.Global xs) f h = of_none n (tree.Global xs) refl refl refl refl
 small_keeps n (tree.Define x ps body) f h = absurd h
 small_keeps n (tree.If test body other) f h = absurd h
@@ -340,7 +361,7 @@ module _ (n : ℕ) (L : Lines) (kept : Kept n L) where
       (bounded max_depth 1 test h.3.0 h.3.3) (suite_keeps body h.3.1 h.3.4) (last_keeps other h.1 h.4)
   compound_keeps (tree.For t over body other) f h =
       looped_keeps n (tree.For t over body other) over body other (λ m. refl) refl (omega arith)
-      (bounded max_depth 1 over h.5.0 h.5.3) (suite_keeps body h.5.1 h.5.4) (last_keeps other h.2 h.6)
+      (expressions_bounded over h.5.0 h.5.3) (suite_keeps body h.5.1 h.5.4) (last_keeps other h.2 h.6)
   compound_keeps (tree.Try body cs other) f h =
       let t = handlers_keep cs other h.1 h.5 in try_keeps n body cs other (suite_keeps body h.0 h.3) t.0 t.1
   compound_keeps (tree.Finally body cs other last) f h =

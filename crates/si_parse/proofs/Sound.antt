@@ -1,20 +1,21 @@
 -- What is read is in the grammar.
-use Rattle.std.proofs.Common.{◌≡◌, ℕ, zero, suc, ◌+◌, ◌<◌, ◌≤◌, List, [], ◌∷◌, ◌++◌, length, Option, Some, None, Bool, true, false, refl, sym, ap, ◌∙◌, subst, ⊎_elim, max, map, arith, add-one, append_assoc}
+use Rattle.std.proofs.Common.{◌≡◌, ℕ, zero, suc, ◌+◌, ◌<◌, ◌≤◌, List, [], ◌∷◌, ◌++◌, length, Option, Some, None, Bool, true, false, refl, sym, ap, ◌∙◌, subst, ⊎_elim, max, arith, add-one, append_assoc}
 use Rattle.std.specs.Prelude.{nat_lt, nat_le, nat_eq, ◌&&◌, not}
 use Rattle.std.proofs.lemmas.Bool.Decides.{nat_tests}
 use Rattle.std.proofs.lemmas.Option.{cond_some}
 use Rattle.std.proofs.lemmas.List.{append-nil}
-use Rattle.si_semantics.specs.Value.{Nothing, Truth, Int, Str}
+use Rattle.si_semantics.specs.Value.{Nothing, Truth, Int, Str, Bytes}
 use Rattle.si_semantics.specs.Tree.{BinaryOperator, UnaryOperator, ComparisonOperator, BooleanOperator, Expr}
 use Rattle.si_semantics.specs.Tree as tree
 use Rattle.si_semantics.specs.Tokens.{Symbol, Keyword}
 use Rattle.si_semantics.specs.Tokens as token
 use Rattle.si_semantics.specs.Text.{max_length}
-use Rattle.si_semantics.specs.Grammar.{Terminal, NAME, NUMBER, STRING, Sign, Word, value_of_int, value_of_str, level_of, left_level, right_level, symbol_of, prefix_level, prefix_of, boolean_level, item_level, word_of, comparison_of, is_identity, Many, Behind, Following, Separated, Argument, Positional, ByName, Passes, IsPassed, exprs_of, items_of, links_of, chain_of, Compares, Strings, Spells}
-use Rattle.si_parse.specs.inner.Reading.{short, str_by, Argued, named_at, argument_from, argument_by, passed_from, called, boolean, continuation_at, strength_of, strength_at, then_read, rest_of, after_boolean, with_word, comparison_at, Found, Parser, with_argument, arguments_from, arguments_by, within, binary_by, call_by, indexed, subscript_by, operands_by, boolean_by, is_singleton, compared_to, compared_by, links_by, compare_by, other_by, conditional_by, extended_by, identity_from, continued_by, closed, strings_by, prefix_at, unary_by, bracketed_by, atom_by, operand_from, operand_by, expression_at, after}
-use Rattle.si_parse.proofs.Laws.{named_at_some, passes_mono, spells_looser, spells_deeper, node, bracketed, then_read_some, some_inj, after_close_some, after_bracket_some, after_comma_some, after_else_some, with_word_some, with_word_none, prefix_at_some, comparison_at_some, links_of_chain, items_of_exprs, separated_mono, many_mono, compares_mono, behind_mono}
+use Rattle.si_semantics.specs.Grammar.{Terminal, NAME, NUMBER, STRING, Sign, Word, value_of_int, value_of_str, level_of, left_level, right_level, symbol_of, prefix_level, prefix_of, boolean_level, item_level, word_of, comparison_of, is_identity, Many, Behind, Separated, Ended, Argument, Positional, ByName, Passes, IsPassed, exprs_of, items_of, links_of, chain_of, Compares, Strings, Spells, BYTES, value_of_bytes, Octets}
+use Rattle.si_parse.specs.inner.Reading.{short, str_by, Argued, named_at, argument_from, argument_by, passed_from, called, boolean, continuation_at, strength_of, strength_at, then_read, rest_of, after_boolean, with_word, comparison_at, Found, Parser, arguments_from, arguments_by, within, binary_by, call_by, indexed, subscript_by, operands_by, boolean_by, is_singleton, compared_to, compared_by, links_by, compare_by, other_by, conditional_by, extended_by, identity_from, continued_by, items_from, items_by, tupled, closed, grouped, bracketed_from, strings_by, prefix_at, unary_by, bracketed_by, atom_by, operand_from, operand_by, expression_at, after, octets_by, bytes_by}
+use Rattle.si_parse.proofs.Laws.{Items, named_at_some, passes_mono, spells_looser, spells_deeper, node, bracketed, then_read_some, some_inj, after_close_some, after_bracket_some, after_comma_some, after_else_some, with_word_some, with_word_none, prefix_at_some, comparison_at_some, links_of_chain, items_of_exprs, separated_mono, many_mono, compares_mono, behind_mono}
 use Rattle.si_parse.proofs.Levels.{strength_at_most, right_stops, right_bound, level_reached, Apart, high, at_condition, at_disjunction, at_comparison, right_apart, level_apart, prefix_apart, prefix_bound, boolean_apart, item_apart, item_bound, condition_up, condition_down, comparison_up, comparison_down, boolean_up, boolean_down, boolean_strength, after_word, boolean_ends, comparison_ends}
-use Rattle.si_parse.proofs.Lists.{le_from, chosen, added, separated_sound}
+use Rattle.si_parse.proofs.Lists.{le_from, chosen}
+use Rattle.si_parse.proofs.Enclosed.{enclosed_sound}
 use Rattle.si_parse.proofs.Passed.{passed_sound}
 use Rattle.si_parse.proofs.Chains.{some_items, chain_sound}
 
@@ -44,7 +45,7 @@ lt_from a b h = grind (arith, nat_tests)
 ge_from : (a b : ℕ) → nat_lt a b ≡ false → b ≤ a
 ge_from a b h = grind (arith, nat_tests)
 
-within_some : (n : ℕ) (e : Expr) (d : ℕ) (ts : List Terminal) (r : Found) → within n e d ts ≡ Some r → (d ≤ n) × ((e, d, ts) ≡ r)
+pub within_some : (n : ℕ) (e : Expr) (d : ℕ) (ts : List Terminal) (r : Found) → within n e d ts ≡ Some r → (d ≤ n) × ((e, d, ts) ≡ r)
 within_some n e d ts r h = let p = cond_some (nat_le d n) (e, d, ts) r h in (le_from d n p.0, p.1)
 
 -- ---- str literals
@@ -69,22 +70,29 @@ short_read ts r h =
     let P : List ℕ × List Terminal → Type 0 = λ r. (strings_by [] ts ≡ Some r) × (length r.0 ≤ max_length) in
     subst P c.1 (s.1, le_from (length s.0.0) max_length c.0)
 
+-- ---- bytes literals
+
+octets_read : (text : List ℕ) (ts : List Terminal) (r : List ℕ × List Terminal) → octets_by text ts ≡ Some r → (f : List Terminal) × (s : List ℕ) × (r.0 ≡ text ++ s) × (ts ≡ f ++ r.1) × Octets s f
+octets_read text [] r h =
+    let P : List ℕ × List Terminal → Type 0 = λ r. (f : List Terminal) × (s : List ℕ) × (r.0 ≡ text ++ s) × ([] ≡ f ++ r.1) × Octets s f in
+    subst P (some_inj (text, []) r h) ([], [], sym (append-nil text), refl, refl)
+octets_read text (BYTES literal ∷ ts) r h =
+    let s = then_read_some (value_of_bytes literal) (λ s. octets_by (text ++ s) ts) r h in
+    let y = octets_read (text ++ s.0) ts r s.2 in
+    (BYTES literal ∷ y.0, s.0 ++ y.1, y.2 ∙ append_assoc text s.0 y.1, ap (λ l. BYTES literal ∷ l) y.3, (s.0, y.1, refl, s.1, y.4))
+octets_read text (t ∷ ts) r h =
+    let P : List ℕ × List Terminal → Type 0 = λ r. (f : List Terminal) × (s : List ℕ) × (r.0 ≡ text ++ s) × (t ∷ ts ≡ f ++ r.1) × Octets s f in
+    subst P (some_inj (text, t ∷ ts) r h) ([], [], sym (append-nil text), refl, refl)
+
+-- what is short was read, and is no longer than the limit
+few_read : (ts : List Terminal) (r : List ℕ × List Terminal) → bytes_by ts ≡ Some r → (octets_by [] ts ≡ Some r) × (length r.0 ≤ max_length)
+few_read ts r h =
+    let s = then_read_some (octets_by [] ts) short r h in
+    let c = cond_some (nat_le (length s.0.0) max_length) s.0 r s.2 in
+    let P : List ℕ × List Terminal → Type 0 = λ r. (octets_by [] ts ≡ Some r) × (length r.0 ≤ max_length) in
+    subst P c.1 (s.1, le_from (length s.0.0) max_length c.0)
+
 -- ---- arguments
-
-abbrev first : Argued → Argument
-first r = r.0
-
-abbrev deepest : ℕ → List Argued → ℕ
-deepest d [] = d
-deepest d (x ∷ xs) = deepest (max d x.1) xs
-
-deepest_least : (d : ℕ) (xs : List Argued) → d ≤ deepest d xs
-deepest_least d [] = omega arith
-deepest_least d (x ∷ xs) = omega (arith, deepest_least (max d x.1) xs)
-
-added_is : (arguments : List Argument) (d : ℕ) (xs : List Argued) → added with_argument (arguments, d) xs ≡ (arguments ++ map first xs, deepest d xs)
-added_is arguments d [] = ap (λ l. (l, d)) (sym (append-nil arguments))
-added_is arguments d (x ∷ xs) = added_is (arguments ++ x.0 ∷ []) (max d x.1) xs ∙ ap (λ l. (l, deepest (max d x.1) xs)) (append_assoc arguments (x.0 ∷ []) (map first xs))
 
 module _ (n : ℕ) (sub : Parser) (sound : IsSound n sub) where
   abbrev ArgumentRead : Argued → List Terminal → Type 0
@@ -115,24 +123,6 @@ module _ (n : ℕ) (sub : Parser) (sound : IsSound n sub) where
   deeper : (c d : ℕ) → c ≤ d → (a : Argument) (f : List Terminal) → Passes (Spells c) a f → Passes (Spells d) a f
   deeper c d le a f h = passes_mono (Spells c) (Spells d) (spells_deeper c d le) a f h
 
-  following_trees : (d top : ℕ) (xs : List Argued) (g : List Terminal) → deepest d xs ≤ top → Following ArgumentRead token.Comma xs g → Following (Passes (Spells top)) token.Comma (map first xs) g
-  following_trees d top [] g le h = h
-  following_trees d top (x ∷ xs) g le h =
-      (h.0, h.1, h.2, deeper x.1 top (omega (arith, deepest_least (max d x.1) xs)) x.0 h.0 h.3.0, following_trees (max d x.1) top xs h.1 le h.4)
-
-  separated_trees : (d top : ℕ) (xs : List Argued) (g : List Terminal) → deepest d xs ≤ top → Separated ArgumentRead token.Comma xs g → Separated (Passes (Spells top)) token.Comma (map first xs) g
-  separated_trees d top [] g le h = h
-  separated_trees d top (x ∷ xs) g le h =
-      (h.0, h.1, h.2, deeper x.1 top (omega (arith, deepest_least (max d x.1) xs)) x.0 h.0 h.3.0, following_trees (max d x.1) top xs h.1 le h.4)
-
-  following_low : (d : ℕ) (xs : List Argued) (g : List Terminal) → d ≤ n → Following ArgumentRead token.Comma xs g → deepest d xs ≤ n
-  following_low d [] g le h = le
-  following_low d (x ∷ xs) g le h = following_low (max d x.1) xs h.1 (omega (arith, h.3.1)) h.4
-
-  separated_low : (d : ℕ) (xs : List Argued) (g : List Terminal) → d ≤ n → Separated ArgumentRead token.Comma xs g → deepest d xs ≤ n
-  separated_low d [] g le h = le
-  separated_low d (x ∷ xs) g le h = following_low (max d x.1) xs h.1 (omega (arith, h.3.1)) h.4
-
   abbrev ArgumentsRead : List Terminal → (List Argument × ℕ) × List Terminal → Type 0
   ArgumentsRead ts r = (g : List Terminal) × (ts ≡ g ++ Sign token.RightParenthesis ∷ r.1) × (r.0.1 ≤ n) × Separated (Passes (Spells r.0.1)) token.Comma r.0.0 g
 
@@ -141,11 +131,19 @@ module _ (n : ℕ) (sub : Parser) (sound : IsSound n sub) where
       let P : (List Argument × ℕ) × List Terminal → Type 0 = ArgumentsRead ts in
       subst P (some_inj (([], 0), rest) r h) ([], after_close_some ts rest is, omega arith, refl)
   arguments_read ts None is r h =
-      let s = separated_sound with_argument (λ r. r.2) (argument_by sub) (after (Sign token.Comma)) (after (Sign token.RightParenthesis)) token.Comma (Sign token.RightParenthesis) ArgumentRead argument_sound after_comma_some after_close_some (length ts) ([], 0) ts r h in
-      let all : r.0 ≡ (map first s.0, deepest 0 s.0) = s.2 ∙ added_is [] 0 s.0 in
-      let P : List Argument × ℕ → Type 0 = λ c. (c.1 ≤ n) × Separated (Passes (Spells c.1)) token.Comma c.0 s.1 in
-      let p = subst P (sym all) (separated_low 0 s.0 s.1 (omega arith) s.5, separated_trees 0 (deepest 0 s.0) s.0 s.1 (omega arith) s.5) in
-      (s.1, s.4, p.0, p.1)
+      let s = enclosed_sound (argument_by sub) (λ d. Passes (Spells d)) n deeper argument_sound (length ts) [] 0 ts r (omega arith) h in
+      let P : List Argument → Type 0 = λ xs. Separated (Passes (Spells r.0.1)) token.Comma xs s.1 in
+      (s.1, s.6, s.5, subst P (sym s.2) s.7)
+
+  -- ---- items of tuples
+
+  item_sound : (ts : List Terminal) (r : Found) → sub 1 ts ≡ Some r → (f : List Terminal) × (ts ≡ f ++ r.2) × (Spells r.1 1 r.0 f × (r.1 ≤ n))
+  item_sound ts r h = let a = sound 1 (omega arith) at_condition ts r h in (a.0.front, a.0.split, (a.0.spelled, a.1))
+
+  -- one item with others behind it
+  ended_by : {A : Type 0} (I : Items A) (x : A) (xs : List A) (f g : List Terminal) → I x f → 0 < length xs → Separated I token.Comma xs g → Ended I token.Comma (x ∷ xs) (f ++ Sign token.Comma ∷ g)
+  ended_by I x [] f g h some s = absurd (omega arith)
+  ended_by I x (y ∷ ys) f g h some s = (f, Sign token.Comma ∷ g, refl, h, (s.0, s.1, ap (λ l. Sign token.Comma ∷ l) s.2, s.3, s.4))
 
   -- ---- an operand
 
@@ -156,30 +154,77 @@ module _ (n : ℕ) (sub : Parser) (sound : IsSound n sub) where
     atom : (f ts : List Terminal) (e : Expr) → Spells (0 + 1) 18 e f → Begins (f ++ ts) (e, 1, ts)
     atom f ts e h = (record { front = f; split = refl; level = 18; spelled = h; continues = strength_at_most ts; enough = omega arith; apart = high 18 (omega arith) }, omega arith)
 
-    closed_reads : (e : Expr) (d : ℕ) (inner ts : List Terminal) (o : Option (List Terminal)) → after (Sign token.RightParenthesis) ts ≡ o → (r : Found) → Spells d 1 e inner → d ≤ n → closed e d o ≡ Some r → Begins (Sign token.LeftParenthesis ∷ (inner ++ ts)) r
-    closed_reads e d inner ts None is r spelled le h = cc
-    closed_reads e d inner ts (Some rest) is r spelled le h =
-        let same = some_inj (e, d + 1, rest) r h in
-        let P : Found → Type 0 = Begins (Sign token.LeftParenthesis ∷ (inner ++ ts)) in
-        subst P same (
-          record {
-            front = Sign token.LeftParenthesis ∷ (inner ++ Sign token.RightParenthesis ∷ []);
-            split = ap (λ l. Sign token.LeftParenthesis ∷ (inner ++ l)) (after_close_some ts rest is) ∙ ap (λ l. Sign token.LeftParenthesis ∷ l) (sym (append_assoc inner (Sign token.RightParenthesis ∷ []) rest));
-            level = 18;
-            spelled = bracketed d 18 e inner spelled;
-            continues = strength_at_most rest;
-            enough = omega arith;
-            apart = high 18 (omega arith);
-          },
-          omega arith,
+    -- the tree of the terminals in round brackets
+    enclosed : (f rest ts : List Terminal) (e : Expr) (d : ℕ) → ts ≡ f ++ Sign token.RightParenthesis ∷ rest → Spells (d + 1) 18 e (Sign token.LeftParenthesis ∷ (f ++ Sign token.RightParenthesis ∷ [])) → d ≤ n
+        → Begins (Sign token.LeftParenthesis ∷ ts) (e, d + 1, rest)
+    enclosed f rest ts e d split spelled le = (
+      record {
+        front = Sign token.LeftParenthesis ∷ (f ++ Sign token.RightParenthesis ∷ []);
+        split = ap (λ l. Sign token.LeftParenthesis ∷ l) (split ∙ sym (append_assoc f (Sign token.RightParenthesis ∷ []) rest));
+        level = 18;
+        spelled = spelled;
+        continues = strength_at_most rest;
+        enough = omega arith;
+        apart = high 18 (omega arith);
+      },
+      omega arith,
+    )
+
+    tuple_spelled : (d : ℕ) (es : List Expr) (f : List Terminal) → Ended (Spells d 1) token.Comma es f → Spells (d + 1) 18 (tree.Tuple (exprs_of es)) (Sign token.LeftParenthesis ∷ (f ++ Sign token.RightParenthesis ∷ []))
+    tuple_spelled d es f h =
+        let P : List Expr → Type 0 = λ xs. Ended (Spells d 1) token.Comma xs f in
+        node d 18 (tree.Tuple (exprs_of es)) (Sign token.LeftParenthesis ∷ (f ++ Sign token.RightParenthesis ∷ [])) (f, refl, subst P (sym (items_of_exprs es)) h)
+
+    -- the items of a tuple behind a first one and its comma
+    abbrev ItemsRead : Expr → ℕ → List Terminal → List Terminal → (List Expr × ℕ) × List Terminal → Type 0
+    ItemsRead e d front ts r =
+        (f : List Terminal) × (front ++ Sign token.Comma ∷ ts ≡ f ++ Sign token.RightParenthesis ∷ r.1) × Ended (Spells r.0.1 1) token.Comma r.0.0 f × (r.0.1 ≤ n)
+
+    items_read : (e : Expr) (d : ℕ) (front ts : List Terminal) (o : Option (List Terminal)) → after (Sign token.RightParenthesis) ts ≡ o → Spells d 1 e front → d ≤ n → (r : (List Expr × ℕ) × List Terminal)
+        → items_from sub (e ∷ [], d) ts o ≡ Some r → ItemsRead e d front ts r
+    items_read e d front ts (Some rest) is spelled le r h =
+        let P : (List Expr × ℕ) × List Terminal → Type 0 = ItemsRead e d front ts in
+        subst P (some_inj ((e ∷ [], d), rest) r h) (
+          front ++ Sign token.Comma ∷ [],
+          ap (λ l. front ++ Sign token.Comma ∷ l) (after_close_some ts rest is) ∙ sym (append_assoc front (Sign token.Comma ∷ []) (Sign token.RightParenthesis ∷ rest)),
+          (front, refl, spelled),
+          le,
+        )
+    items_read e d front ts None is spelled le r h =
+        let s = enclosed_sound (sub 1) (λ d. Spells d 1) n (λ c d le x f h. spells_deeper c d le 1 x f h) item_sound (length ts) (e ∷ []) d ts r le h in
+        let P : List Expr → Type 0 = λ xs. Ended (Spells r.0.1 1) token.Comma xs (front ++ Sign token.Comma ∷ s.1) in
+        let all = ended_by (Spells r.0.1 1) e s.0 front s.1 (spells_deeper d r.0.1 s.4 1 e front spelled) s.3 s.7 in (
+          front ++ Sign token.Comma ∷ s.1,
+          ap (λ l. front ++ Sign token.Comma ∷ l) s.6 ∙ sym (append_assoc front (Sign token.Comma ∷ s.1) (Sign token.RightParenthesis ∷ r.1)),
+          subst P (sym s.2) all,
+          s.5,
         )
 
-    bracketed_reads : (ts : List Terminal) (r : Found) → bracketed_by sub ts ≡ Some r → Begins (Sign token.LeftParenthesis ∷ ts) r
-    bracketed_reads ts r h =
-        let s = then_read_some (sub 1 ts) (λ r. closed r.0 r.1 (after (Sign token.RightParenthesis) r.2)) r h in
+    closed_reads : (e : Expr) (d : ℕ) (front ts : List Terminal) (o p : Option (List Terminal)) → after (Sign token.RightParenthesis) ts ≡ o → after (Sign token.Comma) ts ≡ p → (r : Found) → Spells d 1 e front → d ≤ n
+        → closed sub e d o p ≡ Some r → Begins (Sign token.LeftParenthesis ∷ (front ++ ts)) r
+    closed_reads e d front ts (Some rest) p is with r spelled le h =
+        let P : Found → Type 0 = Begins (Sign token.LeftParenthesis ∷ (front ++ ts)) in
+        subst P (some_inj (e, d + 1, rest) r h) (enclosed front rest (front ++ ts) e d (ap (λ l. front ++ l) (after_close_some ts rest is)) (bracketed d 18 e front spelled) le)
+    closed_reads e d front ts None (Some more) is with r spelled le h =
+        let s = then_read_some (items_by sub e d more) tupled r h in
+        let x = items_read e d front more (after (Sign token.RightParenthesis) more) refl spelled le s.0 s.1 in
+        let P : Found → Type 0 = Begins (Sign token.LeftParenthesis ∷ (front ++ ts)) in
+        subst P (some_inj (tree.Tuple (exprs_of s.0.0.0), s.0.0.1 + 1, s.0.1) r s.2)
+        (enclosed x.0 s.0.1 (front ++ ts) (tree.Tuple (exprs_of s.0.0.0)) s.0.0.1 (ap (λ l. front ++ l) (after_comma_some ts more with) ∙ x.1) (tuple_spelled s.0.0.1 s.0.0.0 x.0 x.2) x.3)
+    closed_reads e d front ts None None is with r spelled le h = cc
+
+    bracketed_from_reads : (ts : List Terminal) (o : Option (List Terminal)) → after (Sign token.RightParenthesis) ts ≡ o → (r : Found) → bracketed_from sub ts o ≡ Some r → Begins (Sign token.LeftParenthesis ∷ ts) r
+    bracketed_from_reads ts (Some rest) is r h =
+        let P : Found → Type 0 = Begins (Sign token.LeftParenthesis ∷ ts) in
+        subst P (some_inj (tree.Tuple tree.NoExprs, 1, rest) r h) (enclosed [] rest ts (tree.Tuple tree.NoExprs) 0 (after_close_some ts rest is) (tuple_spelled 0 [] [] refl) (omega arith))
+    bracketed_from_reads ts None is r h =
+        let s = then_read_some (sub 1 ts) (grouped sub) r h in
         let a = sound 1 (omega arith) at_condition ts s.0 s.1 in
         let P : List Terminal → Type 0 = λ l. Begins (Sign token.LeftParenthesis ∷ l) r in
-        subst P (sym a.0.split) (closed_reads s.0.0 s.0.1 a.0.front s.0.2 (after (Sign token.RightParenthesis) s.0.2) refl r a.0.spelled a.1 s.2)
+        subst P (sym a.0.split) (closed_reads s.0.0 s.0.1 a.0.front s.0.2 (after (Sign token.RightParenthesis) s.0.2) (after (Sign token.Comma) s.0.2) refl refl r a.0.spelled a.1 s.2)
+
+    bracketed_reads : (ts : List Terminal) (r : Found) → bracketed_by sub ts ≡ Some r → Begins (Sign token.LeftParenthesis ∷ ts) r
+    bracketed_reads ts r h = bracketed_from_reads ts (after (Sign token.RightParenthesis) ts) refl r h
 
     unary_read : (op : UnaryOperator) (ts : List Terminal) (r : Found) → l ≤ prefix_level op → then_read (sub (prefix_level op) ts) (λ r. Some (tree.Unary op r.0, r.1 + 1, r.2)) ≡ Some r → Begins (prefix_of op ∷ ts) r
     unary_read op ts r under h =
@@ -229,11 +274,26 @@ module _ (n : ℕ) (sub : Parser) (sound : IsSound n sub) where
         subst B (sym y.3) (
         atom (STRING literal ∷ y.0) w.0.1 (tree.Constant (Str w.0.0)) (node 0 18 (tree.Constant (Str w.0.0)) (STRING literal ∷ y.0) (omega arith, s.1, whole))))
 
+    bytes_reads : (literal : List ℕ) (ts : List Terminal) (r : Found) → atom_by sub (BYTES literal ∷ ts) ≡ Some r → Begins (BYTES literal ∷ ts) r
+    bytes_reads literal ts r h =
+        let w = then_read_some (bytes_by (BYTES literal ∷ ts)) (λ r. Some (tree.Constant (Bytes r.0), 1, r.1)) r h in
+        let s = few_read (BYTES literal ∷ ts) w.0 w.1 in
+        let v = then_read_some (value_of_bytes literal) (λ s. octets_by s ts) w.0 s.0 in
+        let y = octets_read v.0 ts w.0 v.2 in
+        let P : Found → Type 0 = Begins (BYTES literal ∷ ts) in
+        let Q : List ℕ → Type 0 = λ t. Octets t (BYTES literal ∷ y.0) in
+        let whole : Octets w.0.0 (BYTES literal ∷ y.0) = subst Q (sym y.2) (v.0, y.1, refl, v.1, y.4) in
+        let B : List Terminal → Type 0 = λ l. Begins (BYTES literal ∷ l) (tree.Constant (Bytes w.0.0), 1, w.0.1) in
+        subst P (some_inj (tree.Constant (Bytes w.0.0), 1, w.0.1) r w.2) (
+        subst B (sym y.3) (
+        atom (BYTES literal ∷ y.0) w.0.1 (tree.Constant (Bytes w.0.0)) (node 0 18 (tree.Constant (Bytes w.0.0)) (BYTES literal ∷ y.0) (omega arith, s.1, whole))))
+
     atom_reads : (ts : List Terminal) (r : Found) → atom_by sub ts ≡ Some r → Begins ts r
     atom_reads [] r h = cc
     atom_reads (NAME x ∷ ts) r h = name_reads x ts r h
     atom_reads (NUMBER digits ∷ ts) r h = number_reads digits ts r h
     atom_reads (STRING literal ∷ ts) r h = string_reads literal ts r h
+    atom_reads (BYTES literal ∷ ts) r h = bytes_reads literal ts r h
     atom_reads (Word token.NoneWord ∷ ts) r h =
         let P : Found → Type 0 = Begins (Word token.NoneWord ∷ ts) in
         subst P (some_inj (tree.Constant Nothing, 1, ts) r h) (atom (Word token.NoneWord ∷ []) ts (tree.Constant Nothing) (node 0 18 (tree.Constant Nothing) (Word token.NoneWord ∷ []) refl))

@@ -1,18 +1,19 @@
 -- How an expression begins: with a terminal of its own kind, and at least one.
 use Rattle.std.proofs.Common.{◌≡◌, ℕ, zero, suc, ◌<◌, ◌≤◌, List, [], ◌∷◌, ◌++◌, inl, inr, length, Bool, None, true, false, refl, sym, ap, ◌∙◌, subst, arith, append_assoc, length-append}
-use Rattle.si_semantics.specs.Value.{Nothing, Truth, Int, Str, Bytes, Provided, Function, Range, Class, Address}
+use Rattle.si_semantics.specs.Value.{Nothing, Truth, Int, Str, Bytes, Provided, Function, Range, Tuple, Class, Address}
 use Rattle.si_semantics.specs.Tree.{UnaryOperator, Expr}
 use Rattle.si_semantics.specs.Tree as tree
 use Rattle.si_semantics.specs.Tokens.{Keyword}
 use Rattle.si_semantics.specs.Tokens as token
-use Rattle.si_semantics.specs.Grammar.{Terminal, NAME, NUMBER, STRING, Sign, Word, NEWLINE, DEDENT, symbol_of, left_level, prefix_of, prefix_level, item_level, truth_word, Strings, Spells}
-use Rattle.si_parse.specs.inner.Reading.{header_at, ends_small, is_dedent, word_statement, is_singleton, after}
+use Rattle.si_semantics.specs.Grammar.{Terminal, NAME, NUMBER, STRING, BYTES, Sign, Word, NEWLINE, DEDENT, symbol_of, left_level, prefix_of, prefix_level, item_level, truth_word, Strings, Octets, Spells}
+use Rattle.si_parse.specs.inner.Reading.{header_at, ends_small, ends_items, is_dedent, word_statement, is_singleton, after}
 
 -- whether an operand may begin so
 abbrev pub is_operand : Terminal → Bool
 is_operand (NAME x) = true
 is_operand (NUMBER x) = true
 is_operand (STRING x) = true
+is_operand (BYTES x) = true
 is_operand (Sign token.Plus) = true
 is_operand (Sign token.Minus) = true
 is_operand (Sign token.Tilde) = true
@@ -31,6 +32,11 @@ begins_strings : (s : List ℕ) (f : List Terminal) → 0 < length f → Strings
 begins_strings s [] some h x = absurd (omega arith)
 begins_strings s (STRING literal ∷ ts) some h x = refl
 begins_strings s (_ ∷ ts) some h x = absurd h
+
+begins_octets : (s : List ℕ) (f : List Terminal) → 0 < length f → Octets s f → (x : List Terminal) → begins (f ++ x) ≡ true
+begins_octets s [] some h x = absurd (omega arith)
+begins_octets s (BYTES literal ∷ ts) some h x = refl
+begins_octets s (_ ∷ ts) some h x = absurd h
 
 begins_prefix : (op : UnaryOperator) → is_operand (prefix_of op) ≡ true
 begins_prefix tree.Plus = refl
@@ -51,12 +57,13 @@ expression_begins (suc m) l (tree.Constant (Str s)) f (inl h) x = begins_strings
 expression_begins (suc m) l (tree.Constant Nothing) f (inl h) x = ap (λ t. begins (t ++ x)) h
 expression_begins (suc m) l (tree.Constant (Truth b)) f (inl h) x = ap (λ t. begins (t ++ x)) h ∙ begins_truth b
 expression_begins (suc m) l (tree.Constant (Provided b)) f (inl h) x = absurd h
-expression_begins (suc m) l (tree.Constant (Bytes bs)) f (inl h) x = absurd h
+expression_begins (suc m) l (tree.Constant (Bytes bs)) f (inl h) x = begins_octets bs f h.0 h.2 x
 expression_begins (suc m) l (tree.Unary op a) f (inl h) x = ap (λ t. begins (t ++ x)) h.1 ∙ begins_prefix op
 expression_begins (suc m) l (tree.Binary op a b) f (inl h) x =
     ap (λ t. begins (t ++ x)) h.2 ∙ ap begins (append_assoc h.0 (Sign (symbol_of op) ∷ h.1) x) ∙ expression_begins m (left_level op) a h.0 h.4 (Sign (symbol_of op) ∷ (h.1 ++ x))
 expression_begins (suc m) l (tree.Constant (Function i k)) f (inl h) x = absurd h
 expression_begins (suc m) l (tree.Constant (Range a b c)) f (inl h) x = absurd h
+expression_begins (suc m) l (tree.Constant (Tuple us)) f (inl h) x = absurd h
 expression_begins (suc m) l (tree.Constant (Class k)) f (inl h) x = absurd h
 expression_begins (suc m) l (tree.Constant (Address i)) f (inl h) x = absurd h
 expression_begins (suc m) l (tree.Call a args names) f (inl h) x =
@@ -67,6 +74,7 @@ expression_begins (suc m) l (tree.Subscript a b) f (inl h) x =
     ap (λ t. begins (t ++ x)) h.2
     ∙ ap begins (append_assoc h.0 (Sign token.LeftBracket ∷ (h.1 ++ Sign token.RightBracket ∷ [])) x)
     ∙ expression_begins m 18 a h.0 h.4 (Sign token.LeftBracket ∷ ((h.1 ++ Sign token.RightBracket ∷ []) ++ x))
+expression_begins (suc m) l (tree.Tuple items) f (inl h) x = ap (λ t. begins (t ++ x)) h.1
 expression_begins (suc m) l (tree.Compare a cs) f (inl h) x = ap (λ t. begins (t ++ x)) h.2 ∙ ap begins (append_assoc h.0 h.1 x) ∙ expression_begins m 10 a h.0 h.4 (h.1 ++ x)
 expression_begins (suc m) l (tree.Boolean op a others) f (inl h) x = ap (λ t. begins (t ++ x)) h.2 ∙ ap begins (append_assoc h.0 h.1 x) ∙ expression_begins m (item_level op) a h.0 h.4 (h.1 ++ x)
 expression_begins (suc m) l (tree.Conditional test value other) f (inl h) x =
@@ -84,6 +92,13 @@ pub close_not : (ts : List Terminal) → begins ts ≡ true → after (Sign toke
 close_not [] h = cc
 close_not (Sign token.RightParenthesis ∷ ts) h = cc
 close_not (_ ∷ ts) h = refl
+
+pub items_not : (ts : List Terminal) → begins ts ≡ true → ends_items ts ≡ false
+items_not [] h = cc
+items_not (NEWLINE ∷ ts) h = cc
+items_not (Sign token.Semicolon ∷ ts) h = cc
+items_not (Sign token.Colon ∷ ts) h = cc
+items_not (_ ∷ ts) h = refl
 
 pub colon_not : (ts : List Terminal) → begins ts ≡ true → after (Sign token.Colon) ts ≡ None
 colon_not [] h = cc
@@ -218,18 +233,20 @@ singleton (suc m) (tree.Constant (Str s)) w (inl h) = absurd h.2
 singleton (suc m) (tree.Constant Nothing) w (inl h) = spelled_none w h
 singleton (suc m) (tree.Constant (Truth b)) w (inl h) = spelled_truth b w h
 singleton (suc m) (tree.Constant (Provided b)) w (inl h) = absurd h
-singleton (suc m) (tree.Constant (Bytes bs)) w (inl h) = absurd h
+singleton (suc m) (tree.Constant (Bytes bs)) w (inl h) = absurd h.2
 singleton (suc m) (tree.Unary op a) w (inl h) = absurd (no_prefix op w h.0 h.2 h.1)
 singleton (suc m) (tree.Binary op a b) w (inl h) =
     absurd (omega (arith, ap length h.2, length-append h.0 (Sign (symbol_of op) ∷ h.1), some_terminals m (left_level op) a h.0 h.4))
 singleton (suc m) (tree.Constant (Function x k)) w (inl h) = absurd h
 singleton (suc m) (tree.Constant (Range a b c)) w (inl h) = absurd h
+singleton (suc m) (tree.Constant (Tuple us)) w (inl h) = absurd h
 singleton (suc m) (tree.Constant (Class k)) w (inl h) = absurd h
 singleton (suc m) (tree.Constant (Address x)) w (inl h) = absurd h
 singleton (suc m) (tree.Call a args names) w (inl h) =
     absurd (omega (arith, ap length h.3, length-append h.0 (Sign token.LeftParenthesis ∷ (h.1 ++ Sign token.RightParenthesis ∷ [])), some_terminals m 18 a h.0 h.5))
 singleton (suc m) (tree.Subscript a b) w (inl h) =
     absurd (omega (arith, ap length h.2, length-append h.0 (Sign token.LeftBracket ∷ (h.1 ++ Sign token.RightBracket ∷ [])), some_terminals m 18 a h.0 h.4))
+singleton (suc m) (tree.Tuple items) w (inl h) = cc (h.1)
 singleton (suc m) (tree.Compare a cs) w (inl h) = absurd (omega (arith, h.3))
 singleton (suc m) (tree.Boolean tree.And a others) w (inl h) = absurd (omega (arith, h.3))
 singleton (suc m) (tree.Boolean tree.Or a others) w (inl h) = absurd (omega (arith, h.3))

@@ -7,15 +7,16 @@ use Rattle.si_semantics.specs.Tree as tree
 use Rattle.si_semantics.specs.Tree.{BinaryOperator, Expr, Stmt}
 use Rattle.si_semantics.specs.Tokens.{Symbol}
 use Rattle.si_semantics.specs.Tokens as token
-use Rattle.si_semantics.specs.Grammar.{Terminal, Sign, Word, NEWLINE, Following, Separated, max_depth, IsExpression, augmented_of, Small, Simple}
-use Rattle.si_parse.specs.inner.Reading.{then_read, rest_of, strength_at, begins_str, no_comma, names_by, ends_small, value_by, returned_by, raised_by, global_by, expression_at, assignment_symbol, assignment_at, assigned, statement_from, spelled_by, word_statement, small_from, statement_by, with_statement, line_by, after}
+use Rattle.si_semantics.specs.Grammar.{Terminal, Sign, Word, NEWLINE, Following, Separated, max_depth, IsExpression, IsExpressions, exprs_of, augmented_of, Small, Simple}
+use Rattle.si_parse.specs.inner.Reading.{Found, Parsed, ends_items, expressions_by, then_read, rest_of, strength_at, begins_literal, no_comma, names_by, ends_small, value_by, returned_by, raised_by, global_by, expression_at, assignment_symbol, assignment_at, assigned, statement_from, spelled_by, word_statement, small_from, statement_by, with_statement, line_by, after}
 use Rattle.si_parse.proofs.Laws.{then_read_some, some_inj, spells_deeper, after_semicolon_some, after_newline_some, after_return_some, after_global_some, after_raise_some}
 use Rattle.si_parse.proofs.Levels.{at_condition}
 use Rattle.si_parse.proofs.Lists.{chosen, added, Pairwise, separated_sound, separated_complete}
-use Rattle.si_parse.proofs.Starts.{expression_begins, word_not, return_not, global_not, raise_not, ends_not, starts, starts_operand, newline_not}
+use Rattle.si_parse.proofs.Starts.{begins, expression_begins, word_not, return_not, global_not, raise_not, ends_not, starts, starts_operand, newline_not}
 use Rattle.si_parse.proofs.Sound.{expression_sound}
 use Rattle.si_parse.proofs.Names.{names_reads, names_complete}
 use Rattle.si_parse.proofs.Complete.{expression_complete}
+use Rattle.si_parse.proofs.Unbracketed.{expressions_reads, expression_alone, expressions_complete, expressions_begin}
 
 -- ---- signs of assignments
 
@@ -62,7 +63,7 @@ assignment_is (Some tree.FloorDivide) ts = refl
 assignment_is (Some tree.Modulo) ts = refl
 assignment_is (Some tree.Power) ts = refl
 
-sign_weak : (a : Option BinaryOperator) (ts : List Terminal) → (strength_at (Sign (sign_of a) ∷ ts) < 1) × (begins_str (Sign (sign_of a) ∷ ts) ≡ false)
+sign_weak : (a : Option BinaryOperator) (ts : List Terminal) → (strength_at (Sign (sign_of a) ∷ ts) < 1) × (begins_literal (Sign (sign_of a) ∷ ts) ≡ false)
 sign_weak None ts = (omega arith, refl)
 sign_weak (Some tree.BitOr) ts = (omega arith, refl)
 sign_weak (Some tree.BitXor) ts = (omega arith, refl)
@@ -81,37 +82,45 @@ sign_weak (Some tree.Power) ts = (omega arith, refl)
 abbrev SmallRead : List Terminal → Stmt × List Terminal → Type 0
 SmallRead ts r = (f : List Terminal) × (ts ≡ f ++ r.1) × Small r.0 f
 
-assigned_small : (x : Text) (a : Option BinaryOperator) (e : Expr) (f g : List Terminal) → IsExpression (tree.Name x) f → IsExpression e g → Small (assigned (tree.Named x) a e) (f ++ Sign (sign_of a) ∷ g)
+assigned_small : (x : Text) (a : Option BinaryOperator) (e : Expr) (f g : List Terminal) → IsExpression (tree.Name x) f → IsExpressions e g → Small (assigned (tree.Named x) a e) (f ++ Sign (sign_of a) ∷ g)
 assigned_small x None e f g h i = (f, g, refl, h, i)
 assigned_small x (Some op) e f g h i = (f, g, refl, h, i)
 
-from_reads : (f ts : List Terminal) (e : Expr) (o : Option (Option BinaryOperator × List Terminal)) → assignment_at ts ≡ o → IsExpression e f → (r : Stmt × List Terminal) → statement_from (expression_at max_depth) ts e o ≡ Some r → SmallRead (f ++ ts) r
+-- a name is no tuple
+no_tuple : (x : Text) (items : List Expr) → tree.Name x ≡ tree.Tuple (exprs_of items) → ⊥
+no_tuple x items h = cc
+
+name_alone : (x : Text) (f : List Terminal) → IsExpressions (tree.Name x) f → IsExpression (tree.Name x) f
+name_alone x f h = ⊎_elim (λ e. e) (λ t. absurd (no_tuple x t.0 t.1)) h
+
+from_reads : (f ts : List Terminal) (e : Expr) (o : Option (Option BinaryOperator × List Terminal)) → assignment_at ts ≡ o → IsExpressions e f → (r : Stmt × List Terminal) → statement_from (expression_at max_depth) ts e o ≡ Some r → SmallRead (f ++ ts) r
 from_reads f ts e None is spelled r h =
     let P : Stmt × List Terminal → Type 0 = SmallRead (f ++ ts) in subst P (some_inj (tree.Evaluate e, ts) r h) (f, refl, spelled)
 from_reads f ts (tree.Name x) (Some a) is spelled r h =
-    let s = then_read_some (expression_at max_depth 1 a.1) (λ r. Some (assigned (tree.Named x) a.0 r.0, r.2)) r h in
-    let b = expression_sound max_depth 1 (omega arith) at_condition a.1 s.0 s.1 in
+    let s = then_read_some (expressions_by (expression_at max_depth) a.1) (λ r. Some (assigned (tree.Named x) a.0 r.0, r.2)) r h in
+    let b = expressions_reads a.1 s.0 s.1 in
     let P : Stmt × List Terminal → Type 0 = SmallRead (f ++ ts) in
     subst P (some_inj (assigned (tree.Named x) a.0 s.0.0, s.0.2) r s.2) (
-      f ++ Sign (sign_of a.0) ∷ b.0.front,
-      ap (λ t. f ++ t) (assignment_some ts a.0 a.1 is ∙ ap (λ t. Sign (sign_of a.0) ∷ t) b.0.split) ∙ sym (append_assoc f (Sign (sign_of a.0) ∷ b.0.front) s.0.2),
-      assigned_small x a.0 s.0.0 f b.0.front spelled (spells_deeper s.0.1 max_depth b.1 1 s.0.0 b.0.front b.0.spelled),
+      f ++ Sign (sign_of a.0) ∷ b.0,
+      ap (λ t. f ++ t) (assignment_some ts a.0 a.1 is ∙ ap (λ t. Sign (sign_of a.0) ∷ t) b.1) ∙ sym (append_assoc f (Sign (sign_of a.0) ∷ b.0) s.0.2),
+      assigned_small x a.0 s.0.0 f b.0 (name_alone x f spelled) b.2,
     )
 from_reads f ts (tree.Constant v) (Some a) is spelled r h = cc
 from_reads f ts (tree.Unary op e) (Some a) is spelled r h = cc
 from_reads f ts (tree.Binary op e g) (Some a) is spelled r h = cc
 from_reads f ts (tree.Call e args names) (Some a) is spelled r h = cc
 from_reads f ts (tree.Subscript e i) (Some a) is spelled r h = cc
+from_reads f ts (tree.Tuple items) (Some a) is spelled r h = cc
 from_reads f ts (tree.Boolean op e others) (Some a) is spelled r h = cc
 from_reads f ts (tree.Compare e cs) (Some a) is spelled r h = cc
 from_reads f ts (tree.Conditional e g i) (Some a) is spelled r h = cc
 
 spelled_reads : (ts : List Terminal) (r : Stmt × List Terminal) → spelled_by (expression_at max_depth) ts ≡ Some r → SmallRead ts r
 spelled_reads ts r h =
-    let s = then_read_some (expression_at max_depth 1 ts) (λ r. statement_from (expression_at max_depth) r.2 r.0 (assignment_at r.2)) r h in
-    let a = expression_sound max_depth 1 (omega arith) at_condition ts s.0 s.1 in
+    let s = then_read_some (expressions_by (expression_at max_depth) ts) (λ r. statement_from (expression_at max_depth) r.2 r.0 (assignment_at r.2)) r h in
+    let a = expressions_reads ts s.0 s.1 in
     let P : List Terminal → Type 0 = λ t. SmallRead t r in
-    subst P (sym a.0.split) (from_reads a.0.front s.0.2 s.0.0 (assignment_at s.0.2) refl (spells_deeper s.0.1 max_depth a.1 1 s.0.0 a.0.front a.0.spelled) r s.2)
+    subst P (sym a.1) (from_reads a.0 s.0.2 s.0.0 (assignment_at s.0.2) refl a.2 r s.2)
 
 word_reads : (ts : List Terminal) (s : Stmt) → word_statement ts ≡ Some s → SmallRead ts (s, rest_of ts)
 word_reads [] s h = cc
@@ -120,44 +129,50 @@ word_reads (Word token.BreakWord ∷ ts) s h = let P : Stmt → Type 0 = λ s. S
 word_reads (Word token.ContinueWord ∷ ts) s h = let P : Stmt → Type 0 = λ s. SmallRead (Word token.ContinueWord ∷ ts) (s, ts) in subst P (some_inj tree.Continue s h) (Word token.ContinueWord ∷ [], refl, refl)
 word_reads (_ ∷ ts) s h = cc
 
--- the tokens of an expression that may be left out
-abbrev Value : Option Expr → List Terminal → Type 0
-Value None ts = ts ≡ []
-Value (Some e) ts = IsExpression e ts
+-- what may be left out
+module _ (read : List Terminal → Parsed) (Is : Expr → List Terminal → Type 0)
+    (sound : (ts : List Terminal) (r : Found) → read ts ≡ Some r → (f : List Terminal) × (ts ≡ f ++ r.2) × Is r.0 f) where
+  abbrev Value : Option Expr → List Terminal → Type 0
+  Value None ts = ts ≡ []
+  Value (Some e) ts = Is e ts
 
-abbrev ValueRead : List Terminal → Option Expr × List Terminal → Type 0
-ValueRead ts r = (f : List Terminal) × (ts ≡ f ++ r.1) × Value r.0 f
+  abbrev ValueRead : List Terminal → Option Expr × List Terminal → Type 0
+  ValueRead ts r = (f : List Terminal) × (ts ≡ f ++ r.1) × Value r.0 f
 
-value_reads : (ts : List Terminal) (r : Option Expr × List Terminal) → value_by (expression_at max_depth) ts ≡ Some r → ValueRead ts r
-value_reads ts r h =
-    let P : Option Expr × List Terminal → Type 0 = ValueRead ts in
-    ⊎_elim
-    (λ y. subst P (some_inj (None, ts) r y.1) ([], refl, refl))
-    (λ n.
-    let s = then_read_some (expression_at max_depth 1 ts) (λ r. Some (Some r.0, r.2)) r n.1 in
-    let a = expression_sound max_depth 1 (omega arith) at_condition ts s.0 s.1 in
-    subst P (some_inj (Some s.0.0, s.0.2) r s.2) (a.0.front, a.0.split, spells_deeper s.0.1 max_depth a.1 1 s.0.0 a.0.front a.0.spelled))
-    (chosen (ends_small ts) (Some (None, ts)) (then_read (expression_at max_depth 1 ts) (λ r. Some (Some r.0, r.2))) (Some r) h)
+  value_reads : (ts : List Terminal) (r : Option Expr × List Terminal) → value_by read ts ≡ Some r → ValueRead ts r
+  value_reads ts r h =
+      let P : Option Expr × List Terminal → Type 0 = ValueRead ts in
+      ⊎_elim
+      (λ y. subst P (some_inj (None, ts) r y.1) ([], refl, refl))
+      (λ n.
+      let s = then_read_some (read ts) (λ r. Some (Some r.0, r.2)) r n.1 in
+      let a = sound ts s.0 s.1 in
+      subst P (some_inj (Some s.0.0, s.0.2) r s.2) (a.0, a.1, a.2))
+      (chosen (ends_small ts) (Some (None, ts)) (then_read (read ts) (λ r. Some (Some r.0, r.2))) (Some r) h)
 
-returned_small : (a : Option Expr) (f : List Terminal) → Value a f → Small (tree.Return a) (Word token.ReturnWord ∷ f)
+expression_reads : (ts : List Terminal) (r : Found) → expression_at max_depth 1 ts ≡ Some r → (f : List Terminal) × (ts ≡ f ++ r.2) × IsExpression r.0 f
+expression_reads ts r h =
+    let a = expression_sound max_depth 1 (omega arith) at_condition ts r h in (a.0.front, a.0.split, spells_deeper r.1 max_depth a.1 1 r.0 a.0.front a.0.spelled)
+
+returned_small : (a : Option Expr) (f : List Terminal) → Value (expressions_by (expression_at max_depth)) IsExpressions expressions_reads a f → Small (tree.Return a) (Word token.ReturnWord ∷ f)
 returned_small None f h = ap (λ t. Word token.ReturnWord ∷ t) h
 returned_small (Some e) f h = (f, refl, h)
 
-raised_small : (a : Option Expr) (f : List Terminal) → Value a f → Small (tree.Raise a) (Word token.RaiseWord ∷ f)
+raised_small : (a : Option Expr) (f : List Terminal) → Value (expression_at max_depth 1) IsExpression expression_reads a f → Small (tree.Raise a) (Word token.RaiseWord ∷ f)
 raised_small None f h = ap (λ t. Word token.RaiseWord ∷ t) h
 raised_small (Some e) f h = (f, refl, h)
 
 returned_reads : (ts : List Terminal) (r : Stmt × List Terminal) → returned_by (expression_at max_depth) ts ≡ Some r → SmallRead (Word token.ReturnWord ∷ ts) r
 returned_reads ts r h =
-    let s = then_read_some (value_by (expression_at max_depth) ts) (λ r. Some (tree.Return r.0, r.1)) r h in
-    let v = value_reads ts s.0 s.1 in
+    let s = then_read_some (value_by (expressions_by (expression_at max_depth)) ts) (λ r. Some (tree.Return r.0, r.1)) r h in
+    let v = value_reads (expressions_by (expression_at max_depth)) IsExpressions expressions_reads ts s.0 s.1 in
     let P : Stmt × List Terminal → Type 0 = SmallRead (Word token.ReturnWord ∷ ts) in
     subst P (some_inj (tree.Return s.0.0, s.0.1) r s.2) (Word token.ReturnWord ∷ v.0, ap (λ t. Word token.ReturnWord ∷ t) v.1, returned_small s.0.0 v.0 v.2)
 
 raised_reads : (ts : List Terminal) (r : Stmt × List Terminal) → raised_by (expression_at max_depth) ts ≡ Some r → SmallRead (Word token.RaiseWord ∷ ts) r
 raised_reads ts r h =
-    let s = then_read_some (value_by (expression_at max_depth) ts) (λ r. Some (tree.Raise r.0, r.1)) r h in
-    let v = value_reads ts s.0 s.1 in
+    let s = then_read_some (value_by (expression_at max_depth 1) ts) (λ r. Some (tree.Raise r.0, r.1)) r h in
+    let v = value_reads (expression_at max_depth 1) IsExpression expression_reads ts s.0 s.1 in
     let P : Stmt × List Terminal → Type 0 = SmallRead (Word token.RaiseWord ∷ ts) in
     subst P (some_inj (tree.Raise s.0.0, s.0.1) r s.2) (Word token.RaiseWord ∷ v.0, ap (λ t. Word token.RaiseWord ∷ t) v.1, raised_small s.0.0 v.0 v.2)
 
@@ -184,29 +199,52 @@ statement_reads ts r h = small_reads ts (word_statement ts) (after (Word token.R
 
 -- what may stand after a statement
 abbrev Follows : List Terminal → Type 0
-Follows more = (strength_at more < 1) × (begins_str more ≡ false) × (assignment_at more ≡ None) × (ends_small more ≡ true)
+Follows more = (strength_at more < 1) × (begins_literal more ≡ false) × (assignment_at more ≡ None) × (ends_small more ≡ true)
 
-by_expression : (m : ℕ) (e : Expr) (f more : List Terminal) → IsExpression e f → statement_by (expression_at max_depth) (f ++ more) ≡ spelled_by (expression_at max_depth) (f ++ more)
-by_expression m e f more h =
-    let ts = f ++ more in
-    let start = expression_begins max_depth 1 e f h more in
+-- no item stands there
+no_item : (ts : List Terminal) → ends_small ts ≡ true → (after (Sign token.Comma) ts ≡ None) × (ends_items ts ≡ true)
+no_item [] h = cc
+no_item (NEWLINE ∷ ts) h = (refl, refl)
+no_item (Sign token.Semicolon ∷ ts) h = (refl, refl)
+no_item (_ ∷ ts) h = cc
+
+sign_behind : (a : Option BinaryOperator) (ts : List Terminal) → after (Sign token.Comma) (Sign (sign_of a) ∷ ts) ≡ None
+sign_behind None ts = refl
+sign_behind (Some tree.BitOr) ts = refl
+sign_behind (Some tree.BitXor) ts = refl
+sign_behind (Some tree.BitAnd) ts = refl
+sign_behind (Some tree.ShiftLeft) ts = refl
+sign_behind (Some tree.ShiftRight) ts = refl
+sign_behind (Some tree.Add) ts = refl
+sign_behind (Some tree.Subtract) ts = refl
+sign_behind (Some tree.Multiply) ts = refl
+sign_behind (Some tree.FloorDivide) ts = refl
+sign_behind (Some tree.Modulo) ts = refl
+sign_behind (Some tree.Power) ts = refl
+
+-- all that a statement reads in front of its end
+whole_read : (e : Expr) (f more : List Terminal) → IsExpressions e f → Follows more → (d : ℕ) × (expressions_by (expression_at max_depth) (f ++ more) ≡ Some (e, d, more))
+whole_read e f more h ends = let over = no_item more ends.3 in expressions_complete e f more h (ends.0, ends.1) over.0 over.1
+
+by_expression : (ts : List Terminal) → begins ts ≡ true → statement_by (expression_at max_depth) ts ≡ spelled_by (expression_at max_depth) ts
+by_expression ts start =
     ap (λ o. small_from (expression_at max_depth) ts o (after (Word token.ReturnWord) ts) (after (Word token.GlobalWord) ts) (after (Word token.RaiseWord) ts)) (word_not ts start)
     ∙ ap (λ o. small_from (expression_at max_depth) ts None o (after (Word token.GlobalWord) ts) (after (Word token.RaiseWord) ts)) (return_not ts start)
     ∙ ap (λ o. small_from (expression_at max_depth) ts None None o (after (Word token.RaiseWord) ts)) (global_not ts start)
     ∙ ap (λ o. small_from (expression_at max_depth) ts None None None o) (raise_not ts start)
 
-assigned_complete : (x : Text) (a : Option BinaryOperator) (e : Expr) (f g whole more : List Terminal) → whole ≡ f ++ Sign (sign_of a) ∷ g → IsExpression (tree.Name x) f → IsExpression e g → Follows more → statement_by (expression_at max_depth) (whole ++ more) ≡ Some (assigned (tree.Named x) a e, more)
+assigned_complete : (x : Text) (a : Option BinaryOperator) (e : Expr) (f g whole more : List Terminal) → whole ≡ f ++ Sign (sign_of a) ∷ g → IsExpression (tree.Name x) f → IsExpressions e g → Follows more → statement_by (expression_at max_depth) (whole ++ more) ≡ Some (assigned (tree.Named x) a e, more)
 assigned_complete x a e f g whole more is hx he ends =
     let behind = g ++ more in
     let weak = sign_weak a behind in
-    let c = expression_complete max_depth max_depth 1 (tree.Name x) f (Sign (sign_of a) ∷ behind) (omega arith) (omega arith) hx weak.0 weak.1 in
-    let d = expression_complete max_depth max_depth 1 e g more (omega arith) (omega arith) he ends.0 ends.1 in
+    let c = expression_alone (tree.Name x) f (Sign (sign_of a) ∷ behind) hx weak (sign_behind a behind) in
+    let d = whole_read e g more he ends in
     let split : whole ++ more ≡ f ++ Sign (sign_of a) ∷ behind = ap (λ t. t ++ more) is ∙ append_assoc f (Sign (sign_of a) ∷ g) more in
     ap (statement_by (expression_at max_depth)) split
-    ∙ by_expression max_depth (tree.Name x) f (Sign (sign_of a) ∷ behind) hx
-    ∙ ap (λ r. then_read r (λ r. statement_from (expression_at max_depth) r.2 r.0 (assignment_at r.2))) c.3
+    ∙ by_expression (f ++ Sign (sign_of a) ∷ behind) (expression_begins max_depth 1 (tree.Name x) f hx (Sign (sign_of a) ∷ behind))
+    ∙ ap (λ r. then_read r (λ r. statement_from (expression_at max_depth) r.2 r.0 (assignment_at r.2))) c.1
     ∙ ap (statement_from (expression_at max_depth) (Sign (sign_of a) ∷ behind) (tree.Name x)) (assignment_is a behind)
-    ∙ ap (λ r. then_read r (λ r. Some (assigned (tree.Named x) a r.0, r.2))) d.3
+    ∙ ap (λ r. then_read r (λ r. Some (assigned (tree.Named x) a r.0, r.2))) d.1
 
 small_over : (ts : List Terminal) → ends_small ts ≡ true → (0 < length ts) × (no_comma ts ≡ true)
 small_over [] h = cc
@@ -214,36 +252,38 @@ small_over (NEWLINE ∷ ts) h = (omega arith, refl)
 small_over (Sign token.Semicolon ∷ ts) h = (omega arith, refl)
 small_over (_ ∷ ts) h = cc
 
-value_if : (b c : Bool) (ts : List Terminal) → b ≡ c → value_by (expression_at max_depth) ts ≡ (if b then Some (None, ts) else then_read (expression_at max_depth 1 ts) (λ r. Some (Some r.0, r.2)))
-    → value_by (expression_at max_depth) ts ≡ (if c then Some (None, ts) else then_read (expression_at max_depth 1 ts) (λ r. Some (Some r.0, r.2)))
-value_if b c ts h same = same ∙ ap (λ b. if b then Some (None, ts) else then_read (expression_at max_depth 1 ts) (λ r. Some (Some r.0, r.2))) h
+module _ (read : List Terminal → Parsed) where
+  value_if : (b c : Bool) (ts : List Terminal) → b ≡ c → value_by read ts ≡ (if b then Some (None, ts) else then_read (read ts) (λ r. Some (Some r.0, r.2)))
+      → value_by read ts ≡ (if c then Some (None, ts) else then_read (read ts) (λ r. Some (Some r.0, r.2)))
+  value_if b c ts h same = same ∙ ap (λ b. if b then Some (None, ts) else then_read (read ts) (λ r. Some (Some r.0, r.2))) h
 
-value_none : (more : List Terminal) → Follows more → value_by (expression_at max_depth) more ≡ Some (None, more)
-value_none more ends = value_if (ends_small more) true more ends.3 refl
+  value_none : (more : List Terminal) → Follows more → value_by read more ≡ Some (None, more)
+  value_none more ends = value_if (ends_small more) true more ends.3 refl
 
-value_some : (e : Expr) (f more : List Terminal) → IsExpression e f → Follows more → value_by (expression_at max_depth) (f ++ more) ≡ Some (Some e, more)
-value_some e f more h ends =
-    let c = expression_complete max_depth max_depth 1 e f more (omega arith) (omega arith) h ends.0 ends.1 in
-    let on = ends_not (f ++ more) (expression_begins max_depth 1 e f h more) in
-    value_if (ends_small (f ++ more)) false (f ++ more) on refl ∙ ap (λ o. then_read o (λ r. Some (Some r.0, r.2))) c.3
+  value_some : (e : Expr) (d : ℕ) (ts more : List Terminal) → begins ts ≡ true → read ts ≡ Some (e, d, more) → value_by read ts ≡ Some (Some e, more)
+  value_some e d ts more start h = value_if (ends_small ts) false ts (ends_not ts start) refl ∙ ap (λ o. then_read o (λ r. Some (Some r.0, r.2))) h
 
 statement_complete : (s : Stmt) (f more : List Terminal) → Small s f → Follows more → statement_by (expression_at max_depth) (f ++ more) ≡ Some (s, more)
 statement_complete (tree.Evaluate e) f more h ends =
-    let c = expression_complete max_depth max_depth 1 e f more (omega arith) (omega arith) h ends.0 ends.1 in
-    by_expression max_depth e f more h ∙ ap (λ r. then_read r (λ r. statement_from (expression_at max_depth) r.2 r.0 (assignment_at r.2))) c.3 ∙ ap (statement_from (expression_at max_depth) more e) ends.2
+    let c = whole_read e f more h ends in
+    by_expression (f ++ more) (expressions_begin e f more h) ∙ ap (λ r. then_read r (λ r. statement_from (expression_at max_depth) r.2 r.0 (assignment_at r.2))) c.1 ∙ ap (statement_from (expression_at max_depth) more e) ends.2
 statement_complete (tree.Assign (tree.Named x) e) f more h ends = assigned_complete x None e h.0 h.1 f more h.2 h.3 h.4 ends
 statement_complete (tree.Augment (tree.Named x) op e) f more h ends = assigned_complete x (Some op) e h.0 h.1 f more h.2 h.3 h.4 ends
 statement_complete tree.Pass f more h ends = ap (λ t. statement_by (expression_at max_depth) (t ++ more)) h
 statement_complete tree.Break f more h ends = ap (λ t. statement_by (expression_at max_depth) (t ++ more)) h
 statement_complete tree.Continue f more h ends = ap (λ t. statement_by (expression_at max_depth) (t ++ more)) h
 statement_complete (tree.Return None) f more h ends =
-    ap (λ t. statement_by (expression_at max_depth) (t ++ more)) h ∙ ap (λ o. then_read o (λ r. Some (tree.Return r.0, r.1))) (value_none more ends)
+    ap (λ t. statement_by (expression_at max_depth) (t ++ more)) h ∙ ap (λ o. then_read o (λ r. Some (tree.Return r.0, r.1))) (value_none (expressions_by (expression_at max_depth)) more ends)
 statement_complete (tree.Return (Some e)) f more h ends =
-    ap (λ t. statement_by (expression_at max_depth) (t ++ more)) h.1 ∙ ap (λ o. then_read o (λ r. Some (tree.Return r.0, r.1))) (value_some e h.0 more h.2 ends)
+    let c = whole_read e h.0 more h.2 ends in
+    ap (λ t. statement_by (expression_at max_depth) (t ++ more)) h.1
+    ∙ ap (λ o. then_read o (λ r. Some (tree.Return r.0, r.1))) (value_some (expressions_by (expression_at max_depth)) e c.0 (h.0 ++ more) more (expressions_begin e h.0 more h.2) c.1)
 statement_complete (tree.Raise None) f more h ends =
-    ap (λ t. statement_by (expression_at max_depth) (t ++ more)) h ∙ ap (λ o. then_read o (λ r. Some (tree.Raise r.0, r.1))) (value_none more ends)
+    ap (λ t. statement_by (expression_at max_depth) (t ++ more)) h ∙ ap (λ o. then_read o (λ r. Some (tree.Raise r.0, r.1))) (value_none (expression_at max_depth 1) more ends)
 statement_complete (tree.Raise (Some e)) f more h ends =
-    ap (λ t. statement_by (expression_at max_depth) (t ++ more)) h.1 ∙ ap (λ o. then_read o (λ r. Some (tree.Raise r.0, r.1))) (value_some e h.0 more h.2 ends)
+    let c = expression_complete max_depth max_depth 1 e h.0 more (omega arith) (omega arith) h.2 ends.0 ends.1 in
+    ap (λ t. statement_by (expression_at max_depth) (t ++ more)) h.1
+    ∙ ap (λ o. then_read o (λ r. Some (tree.Raise r.0, r.1))) (value_some (expression_at max_depth 1) e c.0 (h.0 ++ more) more (expression_begins max_depth 1 e h.0 h.2 more) c.3)
 statement_complete (tree.Global xs) f more h ends =
     let over = small_over more ends.3 in
     ap (λ t. statement_by (expression_at max_depth) (t ++ more)) h.1
@@ -262,7 +302,7 @@ target_starts : (x : Text) (s : Symbol) (f g whole more : List Terminal) → who
 target_starts x s f g whole more is h = ap starts (ap (λ t. t ++ more) is ∙ append_assoc f (Sign s ∷ g) more) ∙ expression_starts (tree.Name x) f (Sign s ∷ (g ++ more)) h
 
 pub small_starts : (s : Stmt) (f more : List Terminal) → Small s f → starts (f ++ more) ≡ true
-small_starts (tree.Evaluate e) f more h = expression_starts e f more h
+small_starts (tree.Evaluate e) f more h = starts_operand (f ++ more) (expressions_begin e f more h)
 small_starts (tree.Assign (tree.Named x) e) f more h = target_starts x token.Equal h.0 h.1 f more h.2 h.3
 small_starts (tree.Augment (tree.Named x) op e) f more h = target_starts x (augmented_of op) h.0 h.1 f more h.2 h.3
 small_starts tree.Pass f more h = ap (λ t. starts (t ++ more)) h

@@ -9,7 +9,7 @@ use Rattle.si_semantics.specs.Tokens as token
 use Rattle.si_semantics.specs.Grammar.{Terminal, DEDENT, Branch, stmts_of, Clause, clauses_of, Sign, Word}
 use Rattle.si_parse.specs.declared.fault.ParseFault.{ParseFault}
 use Rattle.si_parse.specs.declared.fault.ParseFault.TheVariants.{Syntax, NoMemory}
-use Rattle.si_parse.specs.inner.Reading.{Parser, Step, Continuation, strength_of, then_read, strength_at, continuation_at, closing, behind_item, separated_by, chain_from, chain_by, Parsed, many_by, extended_by, continued_by, rest_of, name_at, and_name, next_name_by, Header, header_at, LineParser, with_branch, branch_by, elif_by, otherwise_by, joined_while, while_by, target_by, joined_for, for_by, parameters_by, defined_by, define_by, suite_by, handlers_by, finally_from, try_by, after_catch, with_clause, clause_by, catch_by, handled_from, tried, compound_by, with_compound, block_from, block_at, after}
+use Rattle.si_parse.specs.inner.Reading.{Parser, Step, Continuation, strength_of, then_read, strength_at, continuation_at, closing, behind_item, separated_by, chain_from, chain_by, Parsed, many_by, extended_by, continued_by, rest_of, name_at, and_name, next_name_by, Header, header_at, LineParser, with_branch, branch_by, over_by, elif_by, otherwise_by, joined_while, while_by, target_by, joined_for, for_by, parameters_by, defined_by, define_by, suite_by, handlers_by, finally_from, try_by, after_catch, with_clause, clause_by, catch_by, handled_from, tried, compound_by, with_compound, block_from, block_at, after}
 use Rattle.si_parse.specs.inner.Gives.{Fails}
 use Rattle.si_parse.proofs.Steps.{continued_by_step, separated_by_step, chain_by_step, many_by_step, block_at_step}
 
@@ -120,9 +120,9 @@ pub while_read : (line : LineParser) (ts : List Terminal) (b : Branch) (behind :
 while_read line ts b behind last more h i = ap (λ o. then_read o (λ b. then_read (otherwise_by line b.1) (joined_while b.0))) h ∙ ap (λ o. then_read o (joined_while b)) i
 
 pub for_read : (line : LineParser) (ts : List Terminal) (t : Target) (first : List Terminal) (b : Branch) (behind : List Terminal) (last : List Stmt) (more : List Terminal) → target_by ts ≡ Some (t, first)
-    → branch_by line first ≡ Some (b, behind) → otherwise_by line behind ≡ Some (last, more) → for_by line ts ≡ Some (tree.For t b.0 b.1 (stmts_of last), more)
+    → over_by line first ≡ Some (b, behind) → otherwise_by line behind ≡ Some (last, more) → for_by line ts ≡ Some (tree.For t b.0 b.1 (stmts_of last), more)
 for_read line ts t first b behind last more h i j =
-    ap (λ o. then_read o (λ t. then_read (branch_by line t.1) (λ b. then_read (otherwise_by line b.1) (joined_for t.0 b.0)))) h
+    ap (λ o. then_read o (λ t. then_read (over_by line t.1) (λ b. then_read (otherwise_by line b.1) (joined_for t.0 b.0)))) h
     ∙ ap (λ o. then_read o (λ b. then_read (otherwise_by line b.1) (joined_for t b.0))) i
     ∙ ap (λ o. then_read o (joined_for t b)) j
 

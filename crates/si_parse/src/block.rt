@@ -2,10 +2,11 @@
 
 ghost use Rattle.std.specs.Prelude.{◌≡◌, ℕ, ◌+◌, ◌-◌, ◌*◌, ◌<◌, [], length, map, option_map, string_bytes};
 ghost use Rattle.si_syntax.specs.Trees.{expr_of, stmt_of, branch_of};
-ghost use Rattle.si_parse.specs.inner.Reading.{indented_by, suite_by, branch_by, elifs_by, otherwise_by, if_by, while_by, for_by, define_by, compound_by, block_at};
+ghost use Rattle.si_parse.specs.inner.Reading.{indented_by, suite_by, branch_by, over_by, elifs_by, otherwise_by, if_by, while_by, for_by, define_by, compound_by, block_at};
 ghost use Rattle.si_parse.specs.inner.Gives.{Gives, from, header_view};
 
 use crate::expression::expression;
+use crate::expressions::expressions;
 use crate::fault::ParseFault;
 use crate::handler::try_statement;
 use crate::lookahead::{
@@ -118,7 +119,7 @@ fn for_statement(
     ensures { Gives (λ x. (stmt_of x.0, from tokens.now x.1)) result (for_by (block_at parts) (from tokens.now start)) }
 {
     let (target, behind) = target(alloc, tokens, start)?;
-    let (first, at) = branch(alloc, parts, tokens, behind)?;
+    let (first, at) = over(alloc, parts, tokens, behind)?;
     let Branch { test: items, body } = first;
     let (last, end) = otherwise(alloc, parts, tokens, at)?;
     let statement = For {
@@ -169,6 +170,22 @@ fn branch(
     ensures { Gives (λ x. (branch_of x.0, from tokens.now x.1)) result (branch_by (block_at parts) (from tokens.now start)) }
 {
     let (test, _, at) = expression(alloc, MAX_EXPRESSION_DEPTH, EXPRESSION, tokens, start)?;
+    let (body, end) = suite(alloc, parts, tokens, at)?;
+    Ok((Branch { test, body }, end))
+}
+
+// What a `for` goes over and its suite, and the place after them.
+#[cycle(blocks)]
+fn over(
+    alloc: Global,
+    parts: u32,
+    tokens: &[Token],
+    start: usize,
+) -> Result<(Branch, usize), ParseFault>
+    requires { parts < 999 }
+    ensures { Gives (λ x. (branch_of x.0, from tokens.now x.1)) result (over_by (block_at parts) (from tokens.now start)) }
+{
+    let (test, _, at) = expressions(alloc, tokens, start)?;
     let (body, end) = suite(alloc, parts, tokens, at)?;
     Ok((Branch { test, body }, end))
 }

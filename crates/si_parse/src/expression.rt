@@ -3,19 +3,20 @@
 ghost use Rattle.std.specs.Prelude.{◌≡◌, ℕ, ◌+◌, ◌-◌, ◌*◌, ◌<◌, ◌≤◌, [], map, length, option_map, IfOk};
 ghost use Rattle.si_semantics.specs.Grammar.{is_identity};
 ghost use Rattle.si_syntax.specs.Trees.{expr_of, link_of};
-ghost use Rattle.si_parse.specs.inner.Reading.{rest_of, within, strings_by, str_by, is_singleton, compared_by, operand_by, atom_by, unary_by, bracketed_by, continued_by, binary_by, call_by, subscript_by, compare_by, boolean_by, conditional_by, extended_by, argument_by, arguments_by, operands_by, links_by, expression_at};
+ghost use Rattle.si_parse.specs.inner.Reading.{rest_of, within, strings_by, str_by, is_singleton, compared_by, operand_by, atom_by, unary_by, items_by, bracketed_by, continued_by, binary_by, call_by, subscript_by, compare_by, boolean_by, conditional_by, extended_by, argument_by, arguments_by, operands_by, links_by, expression_at};
 ghost use Rattle.si_parse.specs.inner.Gives.{Gives, from, continuation_view, argument_of};
 
 use crate::argument::{Argument, named_at, passed};
 use crate::fault::ParseFault;
 use crate::literal::str_value;
-use crate::lookahead::{after, after_arguments, after_boolean, after_word, line_at, token_at};
+use crate::lookahead::{after, after_boolean, after_items, after_word, line_at, token_at};
+use crate::octets::bytes_at;
 use crate::precedence::{
     BIT_OR, Continuation, DISJUNCTION, EXPRESSION, comparison_at, item_level, prefix_at,
     prefix_level, right_level, strength, what_follows,
 };
 use si_plain::limits::MAX_STR_LENGTH;
-use si_plain::{BinaryOperator, BooleanOperator, ComparisonOperator, Text, UnaryOperator};
+use si_plain::{BinaryOperator, BooleanOperator, ComparisonOperator, Octets, Text, UnaryOperator};
 use si_syntax::Expr;
 use si_token::{Keyword, Symbol, Token, TokenKind, int_value};
 use std::alloc::Global;
@@ -24,7 +25,7 @@ use std::alloc::Global;
 pub(crate) type Read = Result<(Expr, u32, usize), ParseFault>;
 
 // The tree, where it is no deeper than the limit.
-fn within(limit: u32, tree: Expr, depth: u32, tokens: &[Token], at: usize) -> Read
+pub(crate) fn within(limit: u32, tree: Expr, depth: u32, tokens: &[Token], at: usize) -> Read
     ensures reads { Gives (λ x. (expr_of x.0, x.1, from tokens.now x.2)) result (within limit (expr_of tree) depth (from tokens.now at)) }
     ensures shallow { IfOk result (λ x. x.1 ≤ limit) }
 {
@@ -98,7 +99,7 @@ fn operand(alloc: Global, parts: u32, level: u32, tokens: &[Token], at: usize) -
     }
 }
 
-// A name, a literal, a word that is one, or an expression in round brackets.
+// A name, a literal, a word that is one, or what stands in round brackets.
 #[cycle(expressions)]
 fn atom(alloc: Global, parts: u32, tokens: &[Token], at: usize) -> Read
     requires { parts < 999 }
@@ -117,6 +118,10 @@ fn atom(alloc: Global, parts: u32, tokens: &[Token], at: usize) -> Read
         TokenKind::Str => {
             let (text, at) = str_at(alloc, tokens, at)?;
             Ok((Expr::Str(text), 1, at))
+        }
+        TokenKind::Bytes => {
+            let (bytes, at) = bytes_at(alloc, tokens, at)?;
+            Ok((Expr::Bytes(Octets::new(alloc, bytes)?), 1, at))
         }
         TokenKind::Keyword(Keyword::None) => Ok((Expr::Nothing, 1, at + 1)),
         TokenKind::Keyword(Keyword::True) => Ok((Expr::Truth(true), 1, at + 1)),
@@ -151,18 +156,64 @@ fn unary(
     ))
 }
 
-// The expression after an open bracket, up to the closed one.
+// The expression or the tuple after an open bracket, up to the closed one.
 #[cycle(expressions)]
 fn bracketed(alloc: Global, parts: u32, tokens: &[Token], at: usize) -> Read
     requires { parts < 999 }
     ensures reads { Gives (λ x. (expr_of x.0, x.1, from tokens.now x.2)) result (bracketed_by (expression_at parts) (from tokens.now at)) }
     ensures shallow { IfOk result (λ x. x.1 ≤ parts + 1) }
 {
-    let (inner, depth, at) = expression(alloc, parts, EXPRESSION, tokens, at)?;
-    match after(tokens, at, Symbol::RightParenthesis) {
-        Some(behind) => Ok((inner, depth + 1, behind)),
-        None => Err(ParseFault::Syntax(line_at(tokens, at))),
+    if let Some(behind) = after(tokens, at, Symbol::RightParenthesis) {
+        return Ok((Expr::Tuple(Vec::new(alloc)), 1, behind));
     }
+    let (first, depth, at) = expression(alloc, parts, EXPRESSION, tokens, at)?;
+    if let Some(behind) = after(tokens, at, Symbol::RightParenthesis) {
+        return Ok((first, depth + 1, behind));
+    }
+    let Some(behind) = after(tokens, at, Symbol::Comma) else {
+        return Err(ParseFault::Syntax(line_at(tokens, at)));
+    };
+    let (values, depth, at) = items(alloc, parts, first, depth, tokens, behind)?;
+    Ok((Expr::Tuple(values), depth + 1, at))
+}
+
+// The items of a tuple, of which the first one was read with the comma after it, up to the closed bracket, and the
+// greatest depth among them.
+#[cycle(expressions)]
+#[tactic(auto, using(crate::proofs::Steps::separated_by_zero))]
+fn items(
+    alloc: Global,
+    parts: u32,
+    first: Expr,
+    first_depth: u32,
+    tokens: &[Token],
+    start: usize,
+) -> Result<(Vec<Expr>, u32, usize), ParseFault>
+    requires limit { parts < 999 }
+    requires shallow { first_depth ≤ parts }
+    ensures reads { Gives (λ x. ((map expr_of x.0.items, x.1), from tokens.now x.2)) result (items_by (expression_at parts) (expr_of first) first_depth (from tokens.now start)) }
+    ensures shallow { IfOk result (λ x. x.1 ≤ parts) }
+{
+    let mut values = Vec::new(alloc);
+    values.push(first)?;
+    if let Some(behind) = after(tokens, start, Symbol::RightParenthesis) {
+        return Ok((values, first_depth, behind));
+    }
+    let mut depth = first_depth;
+    let mut at = start;
+    for _turn in start..tokens.len() {
+        let (next, next_depth, behind) = expression(alloc, parts, EXPRESSION, tokens, at)?;
+        values.push(next)?;
+        depth = depth.max(next_depth);
+        if let Some(end) = after_items(tokens, behind) {
+            return Ok((values, depth, end));
+        }
+        let Some(more) = after(tokens, behind, Symbol::Comma) else {
+            return Err(ParseFault::Syntax(line_at(tokens, behind)));
+        };
+        at = more;
+    }
+    Err(ParseFault::Syntax(line_at(tokens, at)))
 }
 
 // The operand with the operators and calls after it, as far as they are of the level.
@@ -402,7 +453,7 @@ fn arguments(
         let (next, next_depth, behind) = argument(alloc, parts, tokens, at)?;
         arguments.push(next)?;
         depth = depth.max(next_depth);
-        if let Some(end) = after_arguments(tokens, behind) {
+        if let Some(end) = after_items(tokens, behind) {
             return Ok((arguments, depth, end));
         }
         let Some(more) = after(tokens, behind, Symbol::Comma) else {

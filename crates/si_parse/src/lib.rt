@@ -5,18 +5,21 @@
 //
 // In reading order: `fault` says why a text is refused, `literal` has the values of literals, `lookahead` the token at
 // a place, `name` names in a row, `precedence` what continues an expression and how tightly, `argument` what a call is
-// passed, `expression` reads an expression by precedence climbing, `target` a target, `statement` small statements and
-// lines, `block` compound statements and their suites, `handler` those of `try`, and `parser` a whole text.
+// passed, `expression` reads an expression by precedence climbing, `expressions` a tuple without brackets, `target` a
+// target, `statement` small statements and lines, `block` compound statements and their suites, `handler` those of
+// `try`, and `parser` a whole text.
 #![tactic(auto)]
 
 mod argument;
 mod block;
 mod expression;
+mod expressions;
 mod fault;
 mod handler;
 mod literal;
 mod lookahead;
 mod name;
+mod octets;
 mod parser;
 mod precedence;
 mod statement;

@@ -4,7 +4,7 @@ ghost use Rattle.std.specs.Prelude.{◌≡◌, ℕ, ◌+◌, ◌<◌, ◌≤◌,
 ghost use Rattle.si_semantics.specs.Grammar.{terminal_of, Sign, Word, NEWLINE, INDENT, DEDENT};
 ghost use Rattle.si_semantics.specs.Tokens as token;
 ghost use Rattle.si_token.specs.Views.{keyword_of, symbol_of, token_of};
-ghost use Rattle.si_parse.specs.inner.Reading.{after, after_boolean, after_catch, closing, ends_small, header_at};
+ghost use Rattle.si_parse.specs.inner.Reading.{after, after_boolean, after_catch, after_comma, closing, ends_items, ends_small, header_at, past_comma};
 ghost use Rattle.si_parse.specs.inner.Gives.{from, header_view};
 
 use si_plain::BooleanOperator;
@@ -108,7 +108,7 @@ pub(crate) fn after_boolean(operator: BooleanOperator, tokens: &[Token], at: usi
 }
 
 // The place after a closed bracket, before which a comma may stand.
-pub(crate) fn after_arguments(tokens: &[Token], at: usize) -> Option<usize>
+pub(crate) fn after_items(tokens: &[Token], at: usize) -> Option<usize>
     ensures { option_map (from tokens.now) result ≡ closing (after (Sign token.Comma)) (after (Sign token.RightParenthesis)) (from tokens.now at) }
 {
     match after(tokens, at, Symbol::Comma) {
@@ -135,6 +135,42 @@ pub(crate) fn after_catch(tokens: &[Token], at: usize) -> Option<usize>
     match after(tokens, behind, Symbol::Colon) {
         Some(_) => None,
         None => Some(behind),
+    }
+}
+
+// The place after a comma behind which an item of a tuple has to stand, where one stands at the place.
+pub(crate) fn after_comma(tokens: &[Token], at: usize) -> Option<usize>
+    ensures { option_map (from tokens.now) result ≡ after_comma (from tokens.now at) }
+{
+    let behind = after(tokens, at, Symbol::Comma)?;
+    if ends_items(tokens, behind) {
+        None
+    } else {
+        Some(behind)
+    }
+}
+
+// The place after the comma, where one stands at the place, or else the place itself.
+pub(crate) fn past_comma(tokens: &[Token], at: usize) -> usize
+    ensures { from tokens.now result ≡ past_comma (from tokens.now at) }
+{
+    match after(tokens, at, Symbol::Comma) {
+        Some(behind) => behind,
+        None => at,
+    }
+}
+
+// Whether no item of a tuple without brackets can stand at the place.
+fn ends_items(tokens: &[Token], at: usize) -> bool
+    ensures { result ≡ ends_items (from tokens.now at) }
+{
+    let Some(token) = token_at(tokens, at) else {
+        return false;
+    };
+    match token.kind {
+        TokenKind::Newline => true,
+        TokenKind::Symbol(Symbol::Semicolon) | TokenKind::Symbol(Symbol::Colon) => true,
+        _ => false,
     }
 }
 

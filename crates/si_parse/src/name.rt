@@ -5,7 +5,7 @@ ghost use Rattle.si_parse.specs.inner.Reading.{name_at, names_by, listed_by, par
 ghost use Rattle.si_parse.specs.inner.Gives.{Gives, from};
 
 use crate::fault::ParseFault;
-use crate::lookahead::{after, after_arguments, line_at, token_at};
+use crate::lookahead::{after, after_items, line_at, token_at};
 use si_plain::limits::MAX_PARAMETERS;
 use si_token::{Symbol, Token, TokenKind};
 use std::alloc::Global;
@@ -63,7 +63,7 @@ fn listed(alloc: Global, tokens: &[Token], start: usize) -> Names
     for _turn in start..tokens.len() {
         let (next, behind) = name(alloc, tokens, at)?;
         names.push(next)?;
-        if let Some(end) = after_arguments(tokens, behind) {
+        if let Some(end) = after_items(tokens, behind) {
             return Ok((names, end));
         }
         let Some(more) = after(tokens, behind, Symbol::Comma) else {

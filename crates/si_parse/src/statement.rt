@@ -4,11 +4,12 @@ ghost use Rattle.std.specs.Prelude.{◌≡◌, ℕ, ◌+◌, ◌-◌, length, ma
 ghost use Rattle.si_token.specs.Views.{symbol_of};
 ghost use Rattle.si_semantics.specs.Grammar.{max_depth};
 ghost use Rattle.si_syntax.specs.Trees.{expr_of, stmt_of};
-ghost use Rattle.si_parse.specs.inner.Reading.{assignment_symbol, assignment_at, word_statement, rest_of, expression_at, spelled_by, value_by, returned_by, raised_by, global_by, statement_by, line_by, is_end, module_by};
+ghost use Rattle.si_parse.specs.inner.Reading.{assignment_symbol, assignment_at, word_statement, rest_of, expression_at, spelled_by, returned_by, raised_by, global_by, statement_by, line_by, is_end, module_by};
 ghost use Rattle.si_parse.specs.inner.Gives.{Gives, from};
 
 use crate::block::block;
 use crate::expression::expression;
+use crate::expressions::expressions;
 use crate::fault::ParseFault;
 use crate::lookahead::{after, after_line, after_word, ends_small, line_at, token_at};
 use crate::name::names;
@@ -16,7 +17,7 @@ use crate::precedence::EXPRESSION;
 use crate::target::as_target;
 use si_plain::BinaryOperator;
 use si_plain::limits::{MAX_EXPRESSION_DEPTH, MAX_NESTING};
-use si_syntax::{Assign, Augment, Expr, Stmt};
+use si_syntax::{Assign, Augment, Stmt};
 use si_token::{Keyword, Symbol, Token, TokenKind};
 use std::alloc::Global;
 
@@ -73,14 +74,14 @@ fn word_statement(tokens: &[Token], at: usize) -> Option<(Stmt, usize)>
 fn spelled(alloc: Global, tokens: &[Token], start: usize) -> Result<(Stmt, usize), ParseFault>
     ensures { Gives (λ x. (stmt_of x.0, from tokens.now x.1)) result (spelled_by (expression_at max_depth) (from tokens.now start)) }
 {
-    let (first, _, at) = expression(alloc, MAX_EXPRESSION_DEPTH, EXPRESSION, tokens, start)?;
+    let (first, _, at) = expressions(alloc, tokens, start)?;
     let Some((operator, behind)) = assignment_at(tokens, at) else {
         return Ok((Stmt::Evaluate(first), at));
     };
     let Some(target) = as_target(first) else {
         return Err(ParseFault::Syntax(line_at(tokens, at)));
     };
-    let (value, _, end) = expression(alloc, MAX_EXPRESSION_DEPTH, EXPRESSION, tokens, behind)?;
+    let (value, _, end) = expressions(alloc, tokens, behind)?;
     match operator {
         None => Ok((Stmt::Assign(Assign { target, value }), end)),
         Some(operator) => {
@@ -94,17 +95,6 @@ fn spelled(alloc: Global, tokens: &[Token], start: usize) -> Result<(Stmt, usize
     }
 }
 
-// The expression in front of the end of a small statement, where there is one, and the place after it.
-fn value(alloc: Global, tokens: &[Token], at: usize) -> Result<(Option<Expr>, usize), ParseFault>
-    ensures { Gives (λ x. (option_map expr_of x.0, from tokens.now x.1)) result (value_by (expression_at max_depth) (from tokens.now at)) }
-{
-    if ends_small(tokens, at) {
-        return Ok((None, at));
-    }
-    let (value, _, end) = expression(alloc, MAX_EXPRESSION_DEPTH, EXPRESSION, tokens, at)?;
-    Ok((Some(value), end))
-}
-
 // The statement from after its `return`, which stands in the line.
 fn returned(
     alloc: Global,
@@ -114,16 +104,22 @@ fn returned(
 ) -> Result<(Stmt, usize), ParseFault>
     ensures { Gives (λ x. (stmt_of x.0, from tokens.now x.1)) result (returned_by (expression_at max_depth) (from tokens.now at)) }
 {
-    let (value, end) = value(alloc, tokens, at)?;
-    Ok((Stmt::Return(line, value), end))
+    if ends_small(tokens, at) {
+        return Ok((Stmt::Return(line, None), at));
+    }
+    let (value, _, end) = expressions(alloc, tokens, at)?;
+    Ok((Stmt::Return(line, Some(value)), end))
 }
 
 // The statement from after its `raise`.
 fn raised(alloc: Global, tokens: &[Token], at: usize) -> Result<(Stmt, usize), ParseFault>
     ensures { Gives (λ x. (stmt_of x.0, from tokens.now x.1)) result (raised_by (expression_at max_depth) (from tokens.now at)) }
 {
-    let (value, end) = value(alloc, tokens, at)?;
-    Ok((Stmt::Raise(value), end))
+    if ends_small(tokens, at) {
+        return Ok((Stmt::Raise(None), at));
+    }
+    let (value, _, end) = expression(alloc, MAX_EXPRESSION_DEPTH, EXPRESSION, tokens, at)?;
+    Ok((Stmt::Raise(Some(value)), end))
 }
 
 // The statement from after its `global`, which stands in the line.

@@ -1,7 +1,7 @@
 -- What contracts see of the registry: the interpreters and the runs of the shared state (si_semantics/specs/Shared.antt).
-use Rattle.std.specs.Prelude.{◌≡◌, ℕ, List, [], ◌∷◌, ◌++◌, length, Option, Some, None, slice_set}
+use Rattle.std.specs.Prelude.{ℕ, [], ◌∷◌, ◌++◌, length, Option, Some, None, slice_set}
 use Rattle.si_semantics.specs.Life as life
-use Rattle.si_semantics.specs.Actions.{Job, Run}
+use Rattle.si_semantics.specs.Actions.{Run}
 use Rattle.si_semantics.specs.Shared as shared
 use Rattle.si_semantics.specs.Shared.{Interpreter, Running}
 use Rattle.si_semantics.specs.Value.{Text}

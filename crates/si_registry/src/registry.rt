@@ -9,8 +9,8 @@ ghost use Rattle.si_registry.specs.Registers.{with_interpreter, with_run};
 
 use crate::interpreter::{Interpreter, Standing};
 use crate::run::Run;
-use si_parcel::{Binds, Ids, Job, Outcome};
-use si_plain::{NoMemory, Text};
+use si_parcel::{Binds, BoxedText, Ids, Job, Outcome};
+use si_plain::NoMemory;
 use std::alloc::Global;
 use std::marker::Model;
 
@@ -117,7 +117,7 @@ impl Registry {
     }
 
     /// Starts a run of a text in an interpreter that was created, puts it into its inbox, and tells its number.
-    pub fn start(&mut self, id: u32, text: Text) -> Result<u64, NoMemory>
+    pub fn start(&mut self, id: u32, text: BoxedText) -> Result<u64, NoMemory>
         requires { id < length self.old.interpreters }
         ensures run { IfOk result (λ run. run ≡ length self.old.runs) }
         ensures ok { OnOk result ((m : Interpreter) → slice_get self.old.interpreters id ≡ Some m → self.new ≡ with_run id m text self.old) }

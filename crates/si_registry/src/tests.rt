@@ -1,8 +1,12 @@
 use crate::{Registry, Standing};
-use si_parcel::{Job, Outcome};
-use si_plain::Text;
+use si_parcel::{BoxedText, Job, Outcome};
+use si_plain::{NoMemory, Text};
 use std::alloc::Global;
 use std::test::Fail;
+
+fn boxed(alloc: Global, text: &str) -> Result<BoxedText, NoMemory> {
+    Ok(BoxedText::new(alloc, Text::from_str(alloc, text)?)?)
+}
 
 // Two interpreters, of which 1 has a run in its inbox.
 fn started(alloc: Global) -> Result<Registry, Fail> {
@@ -10,7 +14,7 @@ fn started(alloc: Global) -> Result<Registry, Fail> {
     registry.create(2)?;
     registry.create(2)?;
     if registry.count() == 2 {
-        registry.start(1, Text::from_str(alloc, "t")?)?;
+        registry.start(1, boxed(alloc, "t")?)?;
     }
     Ok(registry)
 }
@@ -54,7 +58,7 @@ fn a_run_from_start_to_end(rt: HostRuntime) -> Result<(), Fail> {
     assert_eq!(rt; standing(&registry, 1), Some(Standing::Running(0)));
     assert_eq!(rt; taken_run(&registry, 1), None);
     let job = take(&mut registry, 1).ok_or("no job")?;
-    assert!(rt; job == Job::Run(0, Text::from_str(alloc, "t")?));
+    assert!(rt; job == Job::Run(0, boxed(alloc, "t")?));
     assert_eq!(rt; taken_run(&registry, 1), Some(0));
     Ok(())
 }

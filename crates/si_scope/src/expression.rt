@@ -18,7 +18,7 @@ pub(crate) fn use_names(expr: &Expr, used: &mut Names) -> Result<(), NoMemory>
             used.slot_of(name.as_str())?;
             Ok(())
         }
-        Expr::Int(_) | Expr::Nothing | Expr::Truth(_) | Expr::Str(_) => Ok(()),
+        Expr::Int(_) | Expr::Nothing | Expr::Truth(_) | Expr::Str(_) | Expr::Bytes(_) => Ok(()),
         Expr::Unary(_, operand) => use_names(operand, used),
         Expr::Binary(_, left, right) => {
             use_names(left, used)?;
@@ -32,6 +32,7 @@ pub(crate) fn use_names(expr: &Expr, used: &mut Names) -> Result<(), NoMemory>
             use_names(object, used)?;
             use_names(index, used)
         }
+        Expr::Tuple(items) => use_all(items, used),
         Expr::Boolean(_, first, others) => {
             use_names(first, used)?;
             use_all(others, used)

@@ -1,5 +1,5 @@
 -- For the worked cases of reading: the words and the tokens of a text by computation, from its words line by line.
-use Rattle.std.proofs.Common.{◌≡◌, ℕ, ◌+◌, ◌<◌, List, [], ◌∷◌, ◌++◌, ◌⊎◌, inl, inr, length, Bool, true, false, refl, sym, ap, ◌∙◌, subst, arith, Option, Some, None, append_assoc, lit<, slice_index_or}
+use Rattle.std.proofs.Common.{◌≡◌, ℕ, ◌+◌, ◌<◌, List, [], ◌∷◌, ◌++◌, ◌⊎◌, inl, inr, length, drop, Bool, true, false, refl, sym, ap, ◌∙◌, subst, arith, Option, Some, None, append_assoc, lit<, slice_index_or}
 use Rattle.std.specs.Prelude.{◌||◌, ◌&&◌, ◌==◌, not, if◌then◌else◌, nat_lt}
 use Rattle.std.specs.List.{list_all, list_any}
 use Rattle.std.specs.Option.{is_some, option_map}
@@ -7,7 +7,7 @@ use Rattle.std.proofs.lemmas.List.Folds.{list_any-from_Any}
 use Rattle.std.proofs.lemmas.Bool.{eqb-true}
 use Rattle.std.proofs.lemmas.Bool.Decides.{nat_tests}
 use Rattle.si_semantics.specs.Tokens.{Symbol, Token}
-use Rattle.si_semantics.specs.Literals.{is_quote, is_prefix}
+use Rattle.si_semantics.specs.Literals.{is_quote, is_raw, is_of_bytes, is_prefix, is_double_prefix}
 use Rattle.si_semantics.specs.Words.{is_digit, begins_name, continues_name, is_space, is_tab, is_hash, in_comment, same, spelled, symbols, Sort, Name, Int, Text, Operator, Spaces, Tabs, Comment, LineEnd, each, IsRun, is_quoted, is_text, IsIn, line_ends, IsWord, IsLongest, is_allowed, Word, IsCut}
 use Rattle.si_semantics.specs.Layout.{kind_of, brackets_after, open_after, behind, IsJoined, Line, line_end, AreLines, line_tokens, ending, Lays, HasTokens}
 
@@ -104,7 +104,8 @@ is_front (b ∷ bs) (a ∷ of) = is_front bs of && (a == b)
 abbrev begins_text : List ℕ → Bool
 begins_text [] = true
 begins_text (b ∷ []) = is_prefix b || is_quote b
-begins_text (b ∷ (c ∷ bs)) = (is_prefix b && is_quote c) || is_quote b
+begins_text (b ∷ (c ∷ [])) = is_double_prefix b c || ((is_prefix b && is_quote c) || is_quote b)
+begins_text (b ∷ (c ∷ (q ∷ bs))) = (is_double_prefix b c && is_quote q) || ((is_prefix b && is_quote c) || is_quote b)
 
 abbrev begins : Sort → List ℕ → Bool
 begins Name bs = is_run begins_name continues_name bs
@@ -155,18 +156,41 @@ in_begins (o ∷ os) bs more (inr h) = or_right (is_front bs o) (list_any (λ o.
 quoted_begins : (b : ℕ) (bs : List ℕ) → is_quoted (b ∷ bs) ≡ true → is_quote b ≡ true
 quoted_begins b bs h = (and_both (is_quote b) _ h).0
 
+double_begins : (p q r s u : Bool) → ((p && q) || (r && s)) ≡ true → (r || (p || u)) ≡ true
+double_begins p q true s u h = refl
+double_begins true q false s u h = refl
+double_begins false q false s u h = cc
+
+-- a prefix of two letters begins with one of one
+double_is : (b c : ℕ) → is_double_prefix b c ≡ true → is_prefix b ≡ true
+double_is b c h = double_begins (is_of_bytes b) (is_raw c) (is_raw b) (is_of_bytes c) _ h
+
 text_begins : (b : ℕ) (bs more : List ℕ) → is_text ((b ∷ bs) ++ more) ≡ true → begins_text (b ∷ bs) ≡ true
-text_begins b [] more h = by (is_prefix b) h
+text_begins b [] [] h = by (is_prefix b) h
   where
-    by : (t : Bool) → is_quoted (if t then more else b ∷ more) ≡ true → (t || is_quote b) ≡ true
+    by : (t : Bool) → is_quoted (drop (if t then 1 else 0) (b ∷ [])) ≡ true → (t || is_quote b) ≡ true
     by true h = refl
-    by false h = quoted_begins b more h
-text_begins b (c ∷ bs) more h = by (is_prefix b) h
+    by false h = quoted_begins b [] h
+text_begins b [] (c ∷ more) h = by (is_double_prefix b c) (is_prefix b) (double_is b c) h
   where
-    by : (t : Bool) → is_quoted (if t then (c ∷ bs) ++ more else b ∷ ((c ∷ bs) ++ more)) ≡ true
-        → ((t && is_quote c) || is_quote b) ≡ true
-    by true h = or_left (is_quote c) (is_quote b) (quoted_begins c (bs ++ more) h)
-    by false h = quoted_begins b ((c ∷ bs) ++ more) h
+    by : (d t : Bool) → (d ≡ true → t ≡ true) → is_quoted (drop (if d then 2 else (if t then 1 else 0)) (b ∷ (c ∷ more))) ≡ true → (t || is_quote b) ≡ true
+    by true true e h = refl
+    by true false e h = let bad : false ≡ true = e refl in cc
+    by false true e h = refl
+    by false false e h = quoted_begins b (c ∷ more) h
+text_begins b (c ∷ []) more h = by (is_double_prefix b c) (is_prefix b) h
+  where
+    by : (d t : Bool) → is_quoted (drop (if d then 2 else (if t then 1 else 0)) (b ∷ (c ∷ more))) ≡ true → (d || ((t && is_quote c) || is_quote b)) ≡ true
+    by true t h = refl
+    by false true h = or_left (is_quote c) (is_quote b) (quoted_begins c more h)
+    by false false h = quoted_begins b (c ∷ more) h
+text_begins b (c ∷ (q ∷ bs)) more h = by (is_double_prefix b c) (is_prefix b) h
+  where
+    by : (d t : Bool) → is_quoted (drop (if d then 2 else (if t then 1 else 0)) (b ∷ (c ∷ (q ∷ (bs ++ more))))) ≡ true
+        → ((d && is_quote q) || ((t && is_quote c) || is_quote b)) ≡ true
+    by true t h = or_left (is_quote q) ((t && is_quote c) || is_quote b) (quoted_begins q (bs ++ more) h)
+    by false true h = or_left (is_quote c) (is_quote b) (quoted_begins c (q ∷ (bs ++ more)) h)
+    by false false h = quoted_begins b (c ∷ (q ∷ (bs ++ more))) h
 
 word_begins : (k : Sort) (b : ℕ) (bs more : List ℕ) → IsWord k ((b ∷ bs) ++ more) → begins k (b ∷ bs) ≡ true
 word_begins Name b bs more h = run_begins begins_name continues_name b bs more h

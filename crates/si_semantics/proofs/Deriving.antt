@@ -97,10 +97,10 @@ pub record Statement (s : Stmt) : Type 0 where
 
 abbrev pub assigned : {e : Expr} (y : Text) → Expression max_depth 1 e → Statement (tree.Assign (tree.Named y) e)
 assigned y e =
-    record { terminals = NAME y ∷ (Sign tokens.Equal ∷ e.terminals); spelled = (NAME y ∷ [], e.terminals, refl, inl refl, e.spelled) }
+    record { terminals = NAME y ∷ (Sign tokens.Equal ∷ e.terminals); spelled = (NAME y ∷ [], e.terminals, refl, inl refl, inl e.spelled) }
 
 abbrev pub evaluated : {e : Expr} → Expression max_depth 1 e → Statement (tree.Evaluate e)
-evaluated e = record { terminals = e.terminals; spelled = e.spelled }
+evaluated e = record { terminals = e.terminals; spelled = inl e.spelled }
 
 abbrev pub word : (s : Stmt) (w : tokens.Keyword) → Small s (Word w ∷ []) → Statement s
 word s w h = record { terminals = Word w ∷ []; spelled = h }

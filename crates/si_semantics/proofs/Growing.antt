@@ -2,12 +2,12 @@
 use Rattle.std.proofs.Common.{◌≡◌, ℕ, zero, suc, ◌+◌, ◌≤◌, List, [], ◌∷◌, ◌++◌, length, Bool, true, false, Option, Some, None, refl, sym, ap, ◌∙◌, subst, arith, append_assoc, length-append}
 use Rattle.std.specs.Prelude.{nat_eq, slice_get}
 use Rattle.std.proofs.lemmas.List.{append-nil}
-use Rattle.si_semantics.specs.Value.{Text, Value, Nothing, Truth, Int, Str, Bytes, Provided, Function, Range, Class, Address}
+use Rattle.si_semantics.specs.Value.{Text, Value, Nothing, Truth, Int, Str, Bytes, Provided, Function, Range, Tuple, Class, Address}
 use Rattle.si_semantics.specs.Tree.{BooleanOperator, Expr, Exprs, Comparisons, Stmt, Stmts, Clauses, functions_of, functions_in, functions_in_clauses}
 use Rattle.si_semantics.specs.Tree as tree
 use Rattle.si_semantics.specs.Scope.{place_of, locals_of}
 use Rattle.si_semantics.specs.World.{World, Request, Bind, Run, Closing, Answer, Taken, Done, Replied, Got, Failed, Wants, Ran, Gave, Threw, Asked, bind_all}
-use Rattle.si_semantics.specs.Operations.{exception, operate, operate_unary, is_true, compare, load_global, load_local, call_provided, call_by_name, not_callable, wrong_arguments, too_deep, type_error, raised_by, raised_again, catches, Iterator, iterator_of, Next, Item, Exhausted, Refuses, next_item, reply}
+use Rattle.si_semantics.specs.Operations.{exception, tuple_within, operate, operate_unary, is_true, compare, load_global, load_local, call_provided, call_by_name, not_callable, wrong_arguments, too_deep, type_error, raised_by, raised_again, catches, Iterator, iterator_of, Next, Item, Exhausted, Refuses, next_item, reply}
 use Rattle.si_semantics.specs.Subscription.{subscript}
 use Rattle.si_semantics.specs.Meaning.{State, Raises, Returns, Breaks, Continues, Result, Gives, Leaves, Asks, Cut, Meaning, Scope, behind, with_active, visit, then, printed, raised, asked, ran, slot_at, read, assign, unassign, calls, choose, decides, compared, expr, exprs, operands, chain, after_turn, turn_of, loop, for_loop, over, returning, raising, caught, active_in, finally, named, stmt, stmts, clauses, returned, entered, fitting, run_body, call, max_calls}
 use Rattle.si_semantics.specs.Life.{Outcome, Returned, Told, Stops, IsGone, IsCut, Action, outcome_of, not_read, after_end, ends_with, run_ended, module_scope, run_of, takes, life, newborn, life_of, end_of}
@@ -102,6 +102,7 @@ calls_add e h (Str t) vs [] s = ran_adds (call_provided (Str t) vs s.world) s
 calls_add e h (Bytes t) vs [] s = ran_adds (call_provided (Bytes t) vs s.world) s
 calls_add e h (Provided f) vs [] s = ran_adds (call_provided (Provided f) vs s.world) s
 calls_add e h (Range a b c) vs [] s = ran_adds (call_provided (Range a b c) vs s.world) s
+calls_add e h (Tuple us) vs [] s = ran_adds (call_provided (Tuple us) vs s.world) s
 calls_add e h (Class k) vs [] s = ran_adds (call_provided (Class k) vs s.world) s
 calls_add e h (Address x) vs [] s = ran_adds (call_provided (Address x) vs s.world) s
 calls_add e h g vs (x ∷ names) s = ran_adds (call_by_name g s.world) s
@@ -119,6 +120,8 @@ module _ (e : Scope) (calling : Calls_add e) where
         (λ g s1. both_add s1 (exprs e args s1) _ (exprs_add args s1) (λ vs s2. calls_add e calling g vs names s2))
     expr_adds (tree.Subscript a b) s =
         both_add s (expr e a (visit s)) _ (trans (visit_adds s) (expr_adds a (visit s))) (λ u s1. both_add s1 (expr e b s1) _ (expr_adds b s1) (λ v s2. ran_adds (subscript u v s2.world) s2))
+    expr_adds (tree.Tuple items) s =
+        both_add s (exprs e items (visit s)) _ (trans (visit_adds s) (exprs_add items (visit s))) (λ vs s1. ran_adds (tuple_within vs s1.world) s1)
     expr_adds (tree.Boolean o a more) s = both_add s (expr e a (visit s)) _ (trans (visit_adds s) (expr_adds a (visit s))) (λ u s1. operands_add o u more s1)
     expr_adds (tree.Compare a cs) s = both_add s (expr e a (visit s)) _ (trans (visit_adds s) (expr_adds a (visit s))) (λ u s1. chain_adds u cs s1)
     expr_adds (tree.Conditional a b c) s =
@@ -473,6 +476,7 @@ module _ (b : List Answer) (locals : List Text) (n m : ℕ) (fewer : n ≤ m) (c
   calls_further z i (Truth t) vs [] s = ran_further b (call_provided (Truth t) vs s.world) s
   calls_further z i (Int j) vs [] s = ran_further b (call_provided (Int j) vs s.world) s
   calls_further z i (Range a c d) vs [] s = ran_further b (call_provided (Range a c d) vs s.world) s
+  calls_further z i (Tuple us) vs [] s = ran_further b (call_provided (Tuple us) vs s.world) s
   calls_further z i (Class k) vs [] s = ran_further b (call_provided (Class k) vs s.world) s
   calls_further z i (Address x) vs [] s = ran_further b (call_provided (Address x) vs s.world) s
   calls_further z i (Str t) vs [] s = ran_further b (call_provided (Str t) vs s.world) s
@@ -498,6 +502,8 @@ module _ (b : List Answer) (locals : List Text) (n m : ℕ) (fewer : n ≤ m) (c
         then_further b _ _ _ _ (expr_further z i a (visit s))
         (λ u s1. then_further b _ _ _ _ (expr_further z i c s1) (λ v s2. ran_further b (subscript u v s2.world) s2) (λ v s2. ran_adds (subscript u v s2.world) s2))
         (λ u s1. both_add s1 (expr (scope2 z i) c s1) _ (expr_adds (scope2 z i) adds c s1) (λ v s2. ran_adds (subscript u v s2.world) s2))
+    expr_further z i (tree.Tuple items) s =
+        then_further b _ _ _ _ (exprs_further z i items (visit s)) (λ vs s1. ran_further b (tuple_within vs s1.world) s1) (λ vs s1. ran_adds (tuple_within vs s1.world) s1)
     expr_further z i (tree.Boolean o a c) s =
         then_further b _ _ _ _ (expr_further z i a (visit s)) (λ u s1. operands_further z i o u c s1) (λ u s1. operands_add (scope2 z i) adds o u c s1)
     expr_further z i (tree.Compare a cs) s = then_further b _ _ _ _ (expr_further z i a (visit s)) (λ u s1. chain_further z i u cs s1) (λ u s1. chain_adds (scope2 z i) adds u cs s1)

@@ -7,6 +7,7 @@ pub mod WorkedItems
 pub mod WorkedBuiltIns
 pub mod WorkedSequences
 pub mod WorkedBytes
+pub mod WorkedTuples
 pub mod WorkedScope
 pub mod Names
 pub mod WorkedLiterals

@@ -1,11 +1,11 @@
 -- A well scoped text is left by exceptions alone.
 use Rattle.std.proofs.Common.{◌≡◌, ℕ, zero, suc, List, [], ◌∷◌, ◌++◌, length, Bool, true, false, ◌&&◌, Option, Some, None, refl, subst}
 use Rattle.std.specs.Prelude.{nat_eq, slice_get}
-use Rattle.si_semantics.specs.Value.{Text, Value, Nothing, Truth, Int, Str, Bytes, Provided, Function, Range, Class, Address}
+use Rattle.si_semantics.specs.Value.{Text, Value, Nothing, Truth, Int, Str, Bytes, Provided, Function, Range, Tuple, Class, Address}
 use Rattle.si_semantics.specs.Tree.{BooleanOperator, Expr, Exprs, Comparisons, Stmt, Stmts, Clauses, functions_of, functions_in, functions_in_clauses}
 use Rattle.si_semantics.specs.Tree as tree
 use Rattle.si_semantics.specs.World.{Request, Answer, Replied, Got, Failed, Wants, Ran, Gave, Threw, Asked}
-use Rattle.si_semantics.specs.Operations.{exception, operate, operate_unary, is_true, compare, load_global, load_local, call_provided, call_by_name, not_callable, wrong_arguments, too_deep, catches, Iterator, iterator_of, Next, Item, Exhausted, Refuses, next_item, reply}
+use Rattle.si_semantics.specs.Operations.{exception, tuple_within, operate, operate_unary, is_true, compare, load_global, load_local, call_provided, call_by_name, not_callable, wrong_arguments, too_deep, catches, Iterator, iterator_of, Next, Item, Exhausted, Refuses, next_item, reply}
 use Rattle.si_semantics.specs.Subscription.{subscript}
 use Rattle.si_semantics.specs.Meaning.{State, Leave, Raises, Returns, Breaks, Continues, Result, Gives, Leaves, Asks, Cut, Meaning, Scope, behind, visit, then, raised, asked, ran, slot_at, read, assign, calls, choose, decides, compared, expr, exprs, operands, chain, after_turn, turn_of, loop, for_loop, over, returning, raising, caught, active_in, finally, unassign, named, with_active, clauses, stmt, stmts, returned, fitting, run_body, call, max_calls}
 use Rattle.si_semantics.specs.Scope.{place_of, Within, InText, InFunction, in_loop, may_return, looping, finishing, stmt_scoped, stmts_scoped, clauses_scoped}
@@ -101,6 +101,7 @@ calls_keep w e h (Str t) vs [] s = ran_keeps w (call_provided (Str t) vs s.world
 calls_keep w e h (Bytes t) vs [] s = ran_keeps w (call_provided (Bytes t) vs s.world) s
 calls_keep w e h (Provided f) vs [] s = ran_keeps w (call_provided (Provided f) vs s.world) s
 calls_keep w e h (Range a b c) vs [] s = ran_keeps w (call_provided (Range a b c) vs s.world) s
+calls_keep w e h (Tuple us) vs [] s = ran_keeps w (call_provided (Tuple us) vs s.world) s
 calls_keep w e h (Class k) vs [] s = ran_keeps w (call_provided (Class k) vs s.world) s
 calls_keep w e h (Address x) vs [] s = ran_keeps w (call_provided (Address x) vs s.world) s
 calls_keep w e h g vs (x ∷ names) s = ran_keeps w (call_by_name g s.world) s
@@ -119,6 +120,7 @@ module _ (w : Within) (e : Scope) (calling : Calls_keep e) where
         then_keeps w (expr e f (visit s)) _ (expr_keeps f (visit s)) (λ g s1. then_keeps w (exprs e args s1) _ (exprs_keep args s1) (λ vs s2. calls_keep w e calling g vs names s2))
     expr_keeps (tree.Subscript a b) s =
         then_keeps w (expr e a (visit s)) _ (expr_keeps a (visit s)) (λ u s1. then_keeps w (expr e b s1) _ (expr_keeps b s1) (λ v s2. ran_keeps w (subscript u v s2.world) s2))
+    expr_keeps (tree.Tuple items) s = then_keeps w (exprs e items (visit s)) _ (exprs_keep items (visit s)) (λ vs s1. ran_keeps w (tuple_within vs s1.world) s1)
     expr_keeps (tree.Boolean o a more) s = then_keeps w (expr e a (visit s)) _ (expr_keeps a (visit s)) (λ u s1. operands_keep o u more s1)
     expr_keeps (tree.Compare a cs) s = then_keeps w (expr e a (visit s)) _ (expr_keeps a (visit s)) (λ u s1. chain_keeps u cs s1)
     expr_keeps (tree.Conditional a b c) s =

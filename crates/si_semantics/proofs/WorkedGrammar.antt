@@ -107,7 +107,7 @@ f_is_called =
     record {
       terminals = NAME f ∷ Sign tokens.LeftParenthesis ∷ NAME x ∷ Sign tokens.RightParenthesis ∷ [];
       spelled =
-          inl (
+          inl (inl (
             NAME f ∷ [],
             NAME x ∷ [],
             Positional (tree.Name x) ∷ [],
@@ -116,7 +116,7 @@ f_is_called =
             inl refl,
             record { positional = tree.Name x ∷ []; named = []; in_order = refl; values_are = refl; names_are = refl; once = refl },
             (NAME x ∷ [], [], refl, inl refl, inl refl),
-          );
+          ));
     }
 
 abbrev if_spelled : Parsed (suite (an_if ∷ []))
@@ -144,7 +144,7 @@ f_is_called_by_name =
     record {
       terminals = NAME f ∷ Sign tokens.LeftParenthesis ∷ (between ++ Sign tokens.RightParenthesis ∷ []);
       spelled =
-          inl (
+          inl (inl (
             NAME f ∷ [],
             between,
             Positional (tree.Name x) ∷ ByName (codes "y") (int 1) ∷ [],
@@ -159,7 +159,7 @@ f_is_called_by_name =
               inl refl,
               (by_name, [], refl, (NUMBER (codes "1") ∷ [], refl, inl (codes "1", refl, refl)), inl refl),
             ),
-          );
+          ));
     }
 
 abbrev call_spelled : Parsed (suite (a_call ∷ []))

@@ -1,14 +1,14 @@
 -- The grammar: which tokens derive which tree (Python Language Reference 3.14, 6, 7, 8 and 10).
 -- Each rule stands in the line above its production, in the notation of the reference.
 use Rattle.std.specs.Prelude.{◌≡◌, ℕ, zero, suc, ◌<◌, ◌≤◌, Bool, true, false, List, [], ◌∷◌, ◌++◌, length, map, flat_map, ◌⊎◌, Option, Some, None}
-use Rattle.si_semantics.specs.Value.{Text, Nothing, Truth, Int, Str, Bytes, Provided, Function, Range, Class, Address}
+use Rattle.si_semantics.specs.Value.{Text, Nothing, Truth, Int, Str, Bytes, Provided, Function, Range, Tuple, Class, Address}
 use Rattle.si_semantics.specs.Tree.{BinaryOperator, UnaryOperator, ComparisonOperator, BooleanOperator, Expr, Exprs, Comparisons, Stmt, Target, Stmts, Clauses}
 use Rattle.si_semantics.specs.Tree as tree
 use Rattle.si_semantics.specs.Scope.{are_distinct}
 use Rattle.si_semantics.specs.Text.{max_length}
 use Rattle.si_semantics.specs.Tokens.{Symbol, Keyword, TokenKind, Token}
 use Rattle.si_semantics.specs.Tokens as token
-pub use Rattle.si_semantics.specs.Literals.{value_of_int, value_of_str}
+pub use Rattle.si_semantics.specs.Literals.{value_of_int, value_of_str, value_of_bytes}
 
 -- ---- terminals
 
@@ -17,6 +17,7 @@ pub data Terminal : Type 0 where
   NAME : List ℕ → Terminal
   NUMBER : List ℕ → Terminal
   STRING : List ℕ → Terminal
+  BYTES : List ℕ → Terminal
   Sign : Symbol → Terminal
   Word : Keyword → Terminal
   NEWLINE : Terminal
@@ -28,6 +29,7 @@ abbrev pub terminal : TokenKind → List ℕ → Terminal
 terminal token.Name text = NAME text
 terminal token.Int text = NUMBER text
 terminal token.Str text = STRING text
+terminal token.Bytes text = BYTES text
 terminal (token.Sign s) text = Sign s
 terminal (token.Word w) text = Word w
 terminal token.Newline text = NEWLINE
@@ -208,6 +210,12 @@ abbrev pub Separated : {A : Type 0} → (A → List Terminal → Type 0) → Sym
 Separated I s [] ts = ts ≡ []
 Separated I s (x ∷ xs) ts = (f : List Terminal) × (g : List Terminal) × (ts ≡ f ++ g) × I x f × Following I s xs g
 
+-- [ item separator | item separator item { separator item } [separator] ]: an only item has a separator behind it
+abbrev pub Ended : {A : Type 0} → (A → List Terminal → Type 0) → Symbol → List A → List Terminal → Type 0
+Ended I s [] ts = ts ≡ []
+Ended I s (x ∷ []) ts = (f : List Terminal) × (ts ≡ f ++ Sign s ∷ []) × I x f
+Ended I s (x ∷ y ∷ xs) ts = Separated I s (x ∷ y ∷ xs) ts
+
 -- ---- expressions
 
 -- Which tokens spell a tree where an expression of a level or a tighter one may stand.
@@ -246,6 +254,12 @@ Strings s [] = s ≡ []
 Strings s (STRING literal ∷ ts) = (a : Text) × (b : Text) × (s ≡ a ++ b) × (value_of_str literal ≡ Some a) × Strings b ts
 Strings s (_ ∷ ts) = ⊥
 
+-- the bytes of bytes literals beside each other (6.2.3.2)
+abbrev pub Octets : List ℕ → List Terminal → Type 0
+Octets bs [] = bs ≡ []
+Octets bs (BYTES literal ∷ ts) = (a : List ℕ) × (b : List ℕ) × (bs ≡ a ++ b) × (value_of_bytes literal ≡ Some a) × Octets b ts
+Octets bs (_ ∷ ts) = ⊥
+
 -- an argument of a call: an expression, or a name and the expression that is passed by it
 pub data Argument : Type 0 where
   Positional : Expr → Argument
@@ -267,17 +281,19 @@ pub record IsPassed (arguments : List Argument) (values : List Expr) (names : Li
 
 -- one production for each kind of tree, over the language of the parts
 abbrev pub Produces : Language → Language
--- atom: NAME | NUMBER | STRING+ | 'None' | 'True' | 'False'
--- The text of str literals beside each other is no longer than a str may be, which is a choice of this project.
+-- atom: NAME | NUMBER | STRING+ | BYTES+ | 'None' | 'True' | 'False'
+-- The text of str literals beside each other is no longer than a str may be, and no more are the bytes of bytes literals,
+-- which is a choice of this project.
 Produces E l (tree.Name x) ts = ts ≡ NAME x ∷ []
 Produces E l (tree.Constant (Int n)) ts = (digits : List ℕ) × (ts ≡ NUMBER digits ∷ []) × (value_of_int digits ≡ Some n)
 Produces E l (tree.Constant (Str s)) ts = (0 < length ts) × (length s ≤ max_length) × Strings s ts
+Produces E l (tree.Constant (Bytes bs)) ts = (0 < length ts) × (length bs ≤ max_length) × Octets bs ts
 Produces E l (tree.Constant Nothing) ts = ts ≡ Word token.NoneWord ∷ []
 Produces E l (tree.Constant (Truth b)) ts = ts ≡ Word (truth_word b) ∷ []
-Produces E l (tree.Constant (Bytes bs)) ts = ⊥
 Produces E l (tree.Constant (Provided b)) ts = ⊥
 Produces E l (tree.Constant (Function x k)) ts = ⊥
 Produces E l (tree.Constant (Range a b c)) ts = ⊥
+Produces E l (tree.Constant (Tuple vs)) ts = ⊥
 Produces E l (tree.Constant (Class k)) ts = ⊥
 Produces E l (tree.Constant (Address x)) ts = ⊥
 -- factor: ('+' | '-' | '~') factor; inversion: 'not' inversion
@@ -295,6 +311,9 @@ Produces E l (tree.Call a args names) ts =
 Produces E l (tree.Subscript a b) ts =
     (f : List Terminal) × (g : List Terminal)
     × (ts ≡ f ++ Sign token.LeftBracket ∷ (g ++ Sign token.RightBracket ∷ [])) × (l ≤ primary_level) × E primary_level a f × E expression_level b g
+-- atom: '(' [ expression ',' | expression ',' expression { ',' expression } [','] ] ')'
+Produces E l (tree.Tuple items) ts =
+    (f : List Terminal) × (ts ≡ Sign token.LeftParenthesis ∷ (f ++ Sign token.RightParenthesis ∷ [])) × Ended (E expression_level) token.Comma (items_of items) f
 -- comparison: bitor comparator { comparator }
 Produces E l (tree.Compare a cs) ts =
     (f : List Terminal) × (g : List Terminal) × (ts ≡ f ++ g) × (l ≤ comparison_level) × E bit_or_level a f × (0 < length (links_of cs)) × Many (Compares E) (links_of cs) g
@@ -321,6 +340,17 @@ max_depth = 100
 
 abbrev pub IsExpression : Expr → List Terminal → Type 0
 IsExpression = Spells max_depth expression_level
+
+-- the greatest depth of an item of a tuple round which no brackets stand: the tuple has 1 more, as with brackets
+abbrev pub max_item_depth : ℕ
+max_item_depth = 99
+
+-- expressions: expression | expression ',' | expression ',' expression { ',' expression } [','] (6.16)
+-- A comma makes a tuple; it is never empty where no brackets stand round it.
+abbrev pub IsExpressions : Expr → List Terminal → Type 0
+IsExpressions e ts =
+    IsExpression e ts
+    ⊎ ((items : List Expr) × (e ≡ tree.Tuple (exprs_of items)) × (0 < length items) × Ended (Spells max_item_depth expression_level) token.Comma items ts)
 
 -- ---- statements
 
@@ -351,18 +381,18 @@ abbrev pub Names : List Text → List Terminal → Type 0
 Names [] ts = ⊥
 Names (x ∷ xs) ts = (f : List Terminal) × (ts ≡ NAME x ∷ f) × Many (Behind (Sign token.Comma) IsName) xs f
 
--- small: expression | target '=' expression | target augmented expression | 'pass' | 'break' | 'continue'
--- | 'return' [expression] | 'global' NAME { ',' NAME } | 'raise' [expression]
+-- small: expressions | target '=' expressions | target augmented expressions | 'pass' | 'break' | 'continue'
+-- | 'return' [expressions] | 'global' NAME { ',' NAME } | 'raise' [expression]
 abbrev pub Small : Stmt → List Terminal → Type 0
-Small (tree.Evaluate e) ts = IsExpression e ts
-Small (tree.Assign t e) ts = (f : List Terminal) × (g : List Terminal) × (ts ≡ f ++ Sign token.Equal ∷ g) × IsTarget t f × IsExpression e g
+Small (tree.Evaluate e) ts = IsExpressions e ts
+Small (tree.Assign t e) ts = (f : List Terminal) × (g : List Terminal) × (ts ≡ f ++ Sign token.Equal ∷ g) × IsTarget t f × IsExpressions e g
 Small (tree.Augment t op e) ts =
-    (f : List Terminal) × (g : List Terminal) × (ts ≡ f ++ Sign (augmented_of op) ∷ g) × IsTarget t f × IsExpression e g
+    (f : List Terminal) × (g : List Terminal) × (ts ≡ f ++ Sign (augmented_of op) ∷ g) × IsTarget t f × IsExpressions e g
 Small tree.Pass ts = ts ≡ Word token.PassWord ∷ []
 Small tree.Break ts = ts ≡ Word token.BreakWord ∷ []
 Small tree.Continue ts = ts ≡ Word token.ContinueWord ∷ []
 Small (tree.Return None) ts = ts ≡ Word token.ReturnWord ∷ []
-Small (tree.Return (Some e)) ts = Behind (Word token.ReturnWord) IsExpression e ts
+Small (tree.Return (Some e)) ts = Behind (Word token.ReturnWord) IsExpressions e ts
 Small (tree.Global xs) ts = Behind (Word token.GlobalWord) Names xs ts
 Small (tree.Raise None) ts = ts ≡ Word token.RaiseWord ∷ []
 Small (tree.Raise (Some e)) ts = Behind (Word token.RaiseWord) IsExpression e ts
@@ -402,6 +432,10 @@ Branch = Expr × Stmts
 -- expression suite
 abbrev pub Tested : Lines → Branch → List Terminal → Type 0
 Tested L b ts = (f : List Terminal) × (g : List Terminal) × (ts ≡ f ++ g) × IsExpression b.0 f × Suite L b.1 g
+
+-- expressions suite
+abbrev pub Over : Lines → Branch → List Terminal → Type 0
+Over L b ts = (f : List Terminal) × (g : List Terminal) × (ts ≡ f ++ g) × IsExpressions b.0 f × Suite L b.1 g
 
 -- ['else' suite]
 abbrev pub Otherwise : Lines → Stmts → List Terminal → Type 0
@@ -458,10 +492,10 @@ Compound L (tree.If test body other) ts =
 -- while: 'while' expression suite ['else' suite]
 Compound L (tree.While test body other) ts =
     (f : List Terminal) × (g : List Terminal) × (ts ≡ Word token.WhileWord ∷ (f ++ g)) × Tested L (test, body) f × Otherwise L other g
--- for: 'for' target 'in' expression suite ['else' suite]
+-- for: 'for' target 'in' expressions suite ['else' suite]
 Compound L (tree.For t over body other) ts =
     (f : List Terminal) × (g : List Terminal) × (h : List Terminal)
-    × (ts ≡ Word token.ForWord ∷ (f ++ Word token.InWord ∷ (g ++ h))) × IsTarget t f × Tested L (over, body) g × Otherwise L other h
+    × (ts ≡ Word token.ForWord ∷ (f ++ Word token.InWord ∷ (g ++ h))) × IsTarget t f × Over L (over, body) g × Otherwise L other h
 -- try: 'try' suite except { except } ['else' suite]
 Compound L (tree.Try body cs other) ts =
     (f : List Terminal) × (g : List Terminal)

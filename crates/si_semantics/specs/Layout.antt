@@ -5,6 +5,7 @@ use Rattle.std.specs.Option.{option_map, option_and_then, option_to_list}
 use Rattle.si_plain.specs.LineEnds.{ends_before}
 use Rattle.si_semantics.specs.Tokens as tokens
 use Rattle.si_semantics.specs.Tokens.{Symbol, Keyword, TokenKind, Token}
+use Rattle.si_semantics.specs.Literals.{begins_bytes}
 use Rattle.si_semantics.specs.Words as words
 use Rattle.si_semantics.specs.Words.{Sort, Word, IsCut, spelled, symbols, keywords}
 
@@ -15,11 +16,16 @@ abbrev pub name_kind : Option Keyword → TokenKind
 name_kind None = tokens.Name
 name_kind (Some k) = tokens.Word k
 
+-- what a literal in quotes is: bytes where its prefix says so ("String and Bytes literals")
+abbrev pub literal_kind : Bool → TokenKind
+literal_kind true = tokens.Bytes
+literal_kind false = tokens.Str
+
 -- the kind of token that these bytes of a sort are; blanks, comments and line ends are none
 abbrev pub kind_of : Sort → List ℕ → Option TokenKind
 kind_of words.Name w = Some (name_kind (spelled keywords w))
 kind_of words.Int w = Some tokens.Int
-kind_of words.Text w = Some tokens.Str
+kind_of words.Text w = Some (literal_kind (begins_bytes w))
 kind_of words.Operator w = option_map tokens.Sign (spelled symbols w)
 kind_of words.Spaces w = None
 kind_of words.Tabs w = None

@@ -1,4 +1,7 @@
 pub mod Value
+pub mod Opened
+pub mod Tuples
+pub mod Code
 pub mod Tree
 pub mod Tokens
 pub mod Text

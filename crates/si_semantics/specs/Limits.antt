@@ -18,6 +18,7 @@ abbrev mutual
   depth_of (tree.Binary op a b) = max (depth_of a) (depth_of b) + 1
   depth_of (tree.Call a args names) = max (depth_of a) (depth_of_all args) + 1
   depth_of (tree.Subscript a b) = max (depth_of a) (depth_of b) + 1
+  depth_of (tree.Tuple items) = depth_of_all items + 1
   depth_of (tree.Boolean o a more) = max (depth_of a) (depth_of_all more) + 1
   depth_of (tree.Compare a cs) = max (depth_of a) (depth_of_chain cs) + 1
   depth_of (tree.Conditional a b c) = max (depth_of a) (max (depth_of b) (depth_of c)) + 1
@@ -41,6 +42,7 @@ abbrev mutual
   longest_literal (tree.Binary op a b) = max (longest_literal a) (longest_literal b)
   longest_literal (tree.Call a args names) = max (longest_literal a) (longest_literal_of_all args)
   longest_literal (tree.Subscript a b) = max (longest_literal a) (longest_literal b)
+  longest_literal (tree.Tuple items) = longest_literal_of_all items
   longest_literal (tree.Boolean o a more) = max (longest_literal a) (longest_literal_of_all more)
   longest_literal (tree.Compare a cs) = max (longest_literal a) (longest_literal_of_chain cs)
   longest_literal (tree.Conditional a b c) = max (longest_literal a) (max (longest_literal b) (longest_literal c))

@@ -1,5 +1,6 @@
 -- The values of literals (Python Language Reference 3.14, 2.5 and 2.6). A character stands for its code.
 use Rattle.std.specs.Prelude.{ℕ, zero, suc, ◌+◌, ◌-◌, ◌*◌, ◌==◌, ℤ, pos, ◌&&◌, ◌||◌, not, List, [], ◌∷◌, ◌++◌, length, take, drop, chars, Bool, true, false, Option, Some, None, option_map, option_and_then, nat_lt, nat_le, if◌then◌else◌}
+use Rattle.std.specs.List.{list_all}
 use Rattle.std.specs.Char.{digit_value}
 use Rattle.si_semantics.specs.Value.{Text}
 
@@ -44,7 +45,7 @@ in_range (Some n) = if nat_le n max_int then Some (pos n) else None
 abbrev pub value_of_int : List ℕ → Option ℤ
 value_of_int literal = in_range (number_of literal)
 
--- ---- texts (2.5, "String and Bytes literals")
+-- ---- texts and bytes (2.5, "String and Bytes literals")
 
 abbrev pub is_quote : ℕ → Bool
 is_quote b = (b == 39) || (b == 34)
@@ -53,24 +54,44 @@ is_quote b = (b == 39) || (b == 34)
 abbrev pub is_raw : ℕ → Bool
 is_raw b = (b == 114) || (b == 82)
 
--- a prefix: `r` or `u` in either case
+-- `b`, which makes a literal one of bytes (2.5.2, "Bytes literals"), in either case
+abbrev pub is_of_bytes : ℕ → Bool
+is_of_bytes b = (b == 98) || (b == 66)
+
+-- a prefix of one letter: `r`, `u` or `b` in either case
 abbrev pub is_prefix : ℕ → Bool
-is_prefix b = is_raw b || ((b == 117) || (b == 85))
+is_prefix b = is_raw b || (is_of_bytes b || ((b == 117) || (b == 85)))
+
+-- a prefix of two letters: `br` or `rb`, each letter in either case
+abbrev pub is_double_prefix : ℕ → ℕ → Bool
+is_double_prefix b c = (is_of_bytes b && is_raw c) || (is_raw b && is_of_bytes c)
+
+-- how many letters a literal's prefix has
+abbrev pub prefix_at : List ℕ → ℕ
+prefix_at [] = 0
+prefix_at (b ∷ []) = if is_prefix b then 1 else 0
+prefix_at (b ∷ (c ∷ bs)) = if is_double_prefix b c then 2 else (if is_prefix b then 1 else 0)
 
 -- a literal without its prefix
 abbrev pub unprefixed : List ℕ → List ℕ
-unprefixed [] = []
-unprefixed (b ∷ bs) = if is_prefix b then bs else b ∷ bs
+unprefixed bs = drop (prefix_at bs) bs
 
 -- how many quotes open a literal without prefix: three in a row always open one in three quotes
 abbrev pub quotes_at : List ℕ → ℕ
 quotes_at (a ∷ (b ∷ (c ∷ bs))) = if (a == b) && (b == c) then 3 else 1
 quotes_at _ = 1
 
--- a raw literal has `r` in front
+-- a raw literal has `r` in front, or behind a `b`
 abbrev pub begins_raw : Text → Bool
 begins_raw [] = false
-begins_raw (c ∷ cs) = is_raw c
+begins_raw (c ∷ []) = is_raw c
+begins_raw (c ∷ (d ∷ cs)) = is_raw c || (is_of_bytes c && is_raw d)
+
+-- a literal of bytes has `b` in front, or behind an `r`
+abbrev pub begins_bytes : Text → Bool
+begins_bytes [] = false
+begins_bytes (c ∷ []) = is_of_bytes c
+begins_bytes (c ∷ (d ∷ cs)) = is_of_bytes c || (is_raw c && is_of_bytes d)
 
 -- without its first and its last character
 abbrev pub peeled : Text → Text
@@ -150,25 +171,37 @@ escape_by None c cs =
     -- `\N` is refused (this project's own); with any other character a backslash stands for itself
     else (if c == 78 then None else Some (92 ∷ [], 0))))))
 
--- what stands after a backslash
-abbrev pub escape : Text → Option Written
-escape [] = Some (92 ∷ [], 0)
-escape (c ∷ cs) = escape_by (letter_escape c) c cs
+-- what begins an escape in texts alone: `N`, `U`, `u`
+abbrev pub is_of_texts : ℕ → Bool
+is_of_texts c = (c == 78) || ((c == 85) || (c == 117))
 
--- The text with its escapes read, after so many characters that belong to an escape before.
-abbrev pub unescaped : ℕ → Text → Option Text
-unescaped skipped [] = Some []
-unescaped zero (c ∷ cs) =
-    if c == 92 then option_and_then (λ (e : Written). option_map (λ text. e.0 ++ text) (unescaped e.1 cs)) (escape cs)
-    else option_map (λ text. c ∷ text) (unescaped 0 cs)
-unescaped (suc skipped) (c ∷ cs) = unescaped skipped cs
+-- what stands after a backslash, in bytes or in a text: in bytes `\N`, `\U` and `\u` are no escapes, and the backslash
+-- stands for itself
+abbrev pub escape : Bool → Text → Option Written
+escape bytes [] = Some (92 ∷ [], 0)
+escape bytes (c ∷ cs) = if bytes && is_of_texts c then Some (92 ∷ [], 0) else escape_by (letter_escape c) c cs
+
+-- The bytes, or the text, with the escapes read, after so many characters that belong to an escape before.
+abbrev pub unescaped : Bool → ℕ → Text → Option Text
+unescaped bytes skipped [] = Some []
+unescaped bytes zero (c ∷ cs) =
+    if c == 92 then option_and_then (λ (e : Written). option_map (λ text. e.0 ++ text) (unescaped bytes e.1 cs)) (escape bytes cs)
+    else option_map (λ text. c ∷ text) (unescaped bytes 0 cs)
+unescaped bytes (suc skipped) (c ∷ cs) = unescaped bytes skipped cs
 
 -- in a raw literal a backslash stands for itself (2.5.3)
-abbrev pub value_of_body : Bool → Text → Option Text
-value_of_body true cs = Some cs
-value_of_body false cs = unescaped 0 cs
+abbrev pub value_of_body : (bytes raw : Bool) → Text → Option Text
+value_of_body bytes true cs = Some cs
+value_of_body bytes false cs = unescaped bytes 0 cs
+
+-- what a literal writes, of bytes or of a text, by its characters
+abbrev pub value_of_literal : (bytes : Bool) → Text → Option Text
+value_of_literal bytes cs = value_of_body bytes (begins_raw cs) (with_line_feeds (between_quotes (unprefixed cs)))
 
 -- the value of a str literal, by its bytes
 abbrev pub value_of_str : List ℕ → Option Text
-value_of_str literal =
-    value_of_body (begins_raw (chars literal)) (with_line_feeds (between_quotes (unprefixed (chars literal))))
+value_of_str literal = value_of_literal false (chars literal)
+
+-- the value of a bytes literal, by its bytes, which are ASCII alone (2.5.2, "Bytes literals")
+abbrev pub value_of_bytes : List ℕ → Option (List ℕ)
+value_of_bytes literal = if list_all (λ b. nat_lt b 128) literal then value_of_literal true (chars literal) else None

@@ -5,7 +5,7 @@ use Rattle.si_semantics.specs.Tree.{BooleanOperator, Expr, Exprs, Comparisons, S
 use Rattle.si_semantics.specs.Tree as tree
 use Rattle.si_semantics.specs.Scope.{place_of, locals_of}
 use Rattle.si_semantics.specs.World.{World, Request, Answer, Got, Failed, Wants, Ran, Gave, Threw, Asked, set_global, unset_global}
-use Rattle.si_semantics.specs.Operations.{exception, operate, operate_unary, is_true, compare, load_global, load_local, call_provided, call_by_name, not_callable, wrong_arguments, too_deep, type_error, raised_by, raised_again, catches, Iterator, iterator_of, Next, Item, Exhausted, Refuses, next_item, reply}
+use Rattle.si_semantics.specs.Operations.{exception, tuple_within, operate, operate_unary, is_true, compare, load_global, load_local, call_provided, call_by_name, not_callable, wrong_arguments, too_deep, type_error, raised_by, raised_again, catches, Iterator, iterator_of, Next, Item, Exhausted, Refuses, next_item, reply}
 use Rattle.si_semantics.specs.Subscription.{subscript}
 
 -- a printed text, and its number: the visits begun before it
@@ -152,6 +152,7 @@ abbrev mutual
   expr e (tree.Binary o a b) s = then (expr e a (visit s)) (λ u s1. then (expr e b s1) (λ v s2. ran (operate o u v s2.world) s2))
   expr e (tree.Call f args names) s = then (expr e f (visit s)) (λ g s1. then (exprs e args s1) (λ vs s2. calls e g vs names s2))
   expr e (tree.Subscript a b) s = then (expr e a (visit s)) (λ u s1. then (expr e b s1) (λ v s2. ran (subscript u v s2.world) s2))
+  expr e (tree.Tuple items) s = then (exprs e items (visit s)) (λ vs s1. ran (tuple_within vs s1.world) s1)
   expr e (tree.Boolean o a more) s = then (expr e a (visit s)) (λ u s1. operands e o u more s1)
   expr e (tree.Compare a cs) s = then (expr e a (visit s)) (λ u s1. chain e u cs s1)
   expr e (tree.Conditional a b c) s = then (expr e a (visit s)) (λ t s1. choose (is_true t s1.world) (expr e b s1) (expr e c s1))

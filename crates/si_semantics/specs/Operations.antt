@@ -4,11 +4,12 @@ use Rattle.si_plain.specs.declared.kind.Kind.{Kind}
 use Rattle.si_plain.specs.declared.kind.Kind.TheVariants.{BaseException, Exception, ArithmeticError, OverflowError, ZeroDivisionError, AttributeError, LookupError, IndexError, KeyError, NameError, UnboundLocalError, RuntimeError, RecursionError, SyntaxError, TypeError, ValueError}
 use Rattle.si_plain.specs.Kinds.{name_of, same_kind, is_a}
 use Rattle.si_plain.specs.Integers.{in_range, sum_of, difference_of, product_of, floor_quotient, floor_remainder, power_result, negative_of, shifted_left, shifted_right, inverted, bits_and, bits_or, bits_xor}
-use Rattle.si_semantics.specs.Value.{Text, Value, Nothing, Truth, Int, Str, Bytes, Provided, Function, Range, Class, Address, BuiltIn, Print, MakeRange, MakeStr, Repr, Len, MakeBool, Abs, MakeInt, Ord, Chr, Min, Max, MakeBytes, Object}
+use Rattle.si_semantics.specs.Value.{Text, Value, NoValues, Nothing, Truth, Int, Str, Bytes, Provided, Function, Range, Tuple, Class, Address, BuiltIn, Print, MakeRange, MakeStr, Repr, Len, MakeBool, Abs, MakeInt, Ord, Chr, Min, Max, MakeTuple, MakeBytes, Object, items_of, tuple_of}
 use Rattle.si_semantics.specs.Value as value
 use Rattle.si_semantics.specs.Tree as tree
 use Rattle.si_semantics.specs.Tree.{BinaryOperator, UnaryOperator, ComparisonOperator}
-use Rattle.si_semantics.specs.Text.{max_length, built_in_name, same_text, same_int, str_in, repr_in, line_of}
+use Rattle.si_semantics.specs.Text.{max_length, max_nested, built_in_name, same_text, same_int, str_in, repr_in, line_of}
+use Rattle.si_semantics.specs.Tuples.{is_too_large, characters_in, numbers_in, integers_in, repeated_items}
 use Rattle.si_semantics.specs.Numerals.{read_integer}
 use Rattle.si_semantics.specs.Literals.{is_character}
 use Rattle.si_semantics.specs.Parts.{is_part}
@@ -104,6 +105,10 @@ operate_truths tree.BitXor a b w = gave (Truth (differ a b)) w
 operate_truths tree.BitAnd a b w = gave (Truth (a && b)) w
 operate_truths o a b w = integer (operate_integers o (int_of_truth a) (int_of_truth b)) w
 
+-- a tuple of these items, where it is not too large (this project's own)
+abbrev pub tuple_within : List Value → World → Ran
+tuple_within vs w = if is_too_large (tuple_of vs) then too_long w else gave (tuple_of vs) w
+
 -- an operator between two values (Language Reference, 6.5 and 6.7 to 6.9)
 abbrev pub operate : BinaryOperator → Value → Value → World → Ran
 operate o (Int i) (Int j) w = integer (operate_integers o i j) w
@@ -120,6 +125,11 @@ operate tree.Multiply (Bytes s) (Int j) w = bytes_repeated s j w
 operate tree.Multiply (Bytes s) (Truth b) w = bytes_repeated s (int_of_truth b) w
 operate tree.Multiply (Int i) (Bytes t) w = bytes_repeated t i w
 operate tree.Multiply (Truth a) (Bytes t) w = bytes_repeated t (int_of_truth a) w
+operate tree.Add (Tuple us) (Tuple vs) w = tuple_within (items_of us ++ items_of vs) w
+operate tree.Multiply (Tuple us) (Int j) w = tuple_within (repeated_items (items_of us) j) w
+operate tree.Multiply (Tuple us) (Truth b) w = tuple_within (repeated_items (items_of us) (int_of_truth b)) w
+operate tree.Multiply (Int i) (Tuple vs) w = tuple_within (repeated_items (items_of vs) i) w
+operate tree.Multiply (Truth a) (Tuple vs) w = tuple_within (repeated_items (items_of vs) (int_of_truth a)) w
 operate _ _ _ w = wrong_type w
 
 -- an item of a range lies before its stop, the way that the step goes (Standard Library, "Built-in Types": ranges)
@@ -145,6 +155,7 @@ is_true (Int (pos zero)) w = false
 is_true (Str []) w = false
 is_true (Bytes []) w = false
 is_true (Range a b c) w = is_item a b c
+is_true (Tuple NoValues) w = false
 is_true _ w = true
 
 -- an operator before a value (Language Reference, 6.6; `not`: 6.11)
@@ -180,6 +191,7 @@ same_built_in Chr Chr = true
 same_built_in Min Min = true
 same_built_in Max Max = true
 same_built_in MakeBytes MakeBytes = true
+same_built_in MakeTuple MakeTuple = true
 same_built_in _ _ = false
 
 -- two ranges have the same items (Standard Library, "Built-in Types": ranges)
@@ -187,23 +199,49 @@ abbrev pub same_range : (a b c d e f : ℤ) → Bool
 same_range a b c d e f =
     let n = range_length a b c in nat_eq n (range_length d e f) && (nat_eq n 0 || (same_int a d && (nat_eq n 1 || same_int c f)))
 
--- `==`: integers, True and False by their values, str by their characters, bytes by theirs, ranges by their items,
--- built-ins and kinds by name, exceptions by address, None is equal to itself; what is of different kinds is unequal
--- (Language Reference, 6.10.1); two functions are not compared (this project's own)
+-- `==` of two values, by that of the items of two tuples: integers, True and False by their values, str by their
+-- characters, bytes by theirs, ranges by their items, built-ins and kinds by name, exceptions by address, None is equal to
+-- itself; what is of different kinds is unequal (Language Reference, 6.10.1); two functions are not compared (this
+-- project's own)
+abbrev pub equal_by : (List Value → List Value → Result Bool Kind) → Value → Value → World → Result Bool Kind
+equal_by items Nothing Nothing w = Ok true
+equal_by items (Int i) (Int j) w = Ok (same_int i j)
+equal_by items (Int i) (Truth b) w = Ok (same_int i (int_of_truth b))
+equal_by items (Truth a) (Int j) w = Ok (same_int (int_of_truth a) j)
+equal_by items (Truth a) (Truth b) w = Ok (not (differ a b))
+equal_by items (Str s) (Str t) w = Ok (same_text s t)
+equal_by items (Bytes s) (Bytes t) w = Ok (same_text s t)
+equal_by items (Provided f) (Provided g) w = Ok (same_built_in f g)
+equal_by items (Function f k) (Function g l) w = Err TypeError
+equal_by items (Range a b c) (Range d e f) w = Ok (same_range a b c d e f)
+equal_by items (Tuple us) (Tuple vs) w = items (items_of us) (items_of vs)
+equal_by items (Class k) (Class l) w = Ok (same_kind k l)
+equal_by items (Address x) (Address y) w = Ok (nat_eq x y)
+equal_by items _ _ w = Ok false
+
+-- where what came first is equal, what comes after it decides
+abbrev pub and_then : Result Bool Kind → Result Bool Kind → Result Bool Kind
+and_then (Ok true) rest = rest
+and_then decided rest = decided
+
+-- items from the left, up to the first that are not equal
+abbrev pub each_equal : (Value → Value → Result Bool Kind) → List Value → List Value → Result Bool Kind
+each_equal equal [] [] = Ok true
+each_equal equal (u ∷ us) (v ∷ vs) = and_then (equal u v) (each_equal equal us vs)
+each_equal equal _ _ = Ok false
+
+-- the items of two sequences: those of different lengths are not compared (Language Reference, 6.10.1)
+abbrev pub items_equal : (Value → Value → Result Bool Kind) → List Value → List Value → Result Bool Kind
+items_equal equal us vs = if nat_eq (length us) (length vs) then each_equal equal us vs else Ok false
+
+-- `==`, where tuples are within each other at most so deep (this project's own)
+abbrev pub equal_within : ℕ → Value → Value → World → Result Bool Kind
+equal_within zero u v w = equal_by (λ us vs. Err RecursionError) u v w
+equal_within (suc n) u v w = equal_by (items_equal (λ a b. equal_within n a b w)) u v w
+
+-- `==` (Language Reference, 6.10.1)
 abbrev pub are_equal : Value → Value → World → Result Bool Kind
-are_equal Nothing Nothing w = Ok true
-are_equal (Int i) (Int j) w = Ok (same_int i j)
-are_equal (Int i) (Truth b) w = Ok (same_int i (int_of_truth b))
-are_equal (Truth a) (Int j) w = Ok (same_int (int_of_truth a) j)
-are_equal (Truth a) (Truth b) w = Ok (not (differ a b))
-are_equal (Str s) (Str t) w = Ok (same_text s t)
-are_equal (Bytes s) (Bytes t) w = Ok (same_text s t)
-are_equal (Provided f) (Provided g) w = Ok (same_built_in f g)
-are_equal (Function f k) (Function g l) w = Err TypeError
-are_equal (Range a b c) (Range d e f) w = Ok (same_range a b c d e f)
-are_equal (Class k) (Class l) w = Ok (same_kind k l)
-are_equal (Address x) (Address y) w = Ok (nat_eq x y)
-are_equal _ _ w = Ok false
+are_equal u v w = equal_within max_nested u v w
 
 -- `is`: None, True and False are each itself and nothing else (Language Reference, 6.10.3); the grammar lets nothing
 -- else stand after it
@@ -223,18 +261,39 @@ is_less (Str s) (Str t) w = Ok (is_before s t)
 is_less (Bytes s) (Bytes t) w = Ok (is_before s t)
 is_less _ _ w = Err TypeError
 
--- `v in u`: of a str its parts, which are str; of a range its items, where True and False count as 1 and 0 and what is no
--- integer is none; no other value has any yet (Language Reference, 6.10.2)
-abbrev pub contains : (whole : Value) → Value → Result Bool Kind
-contains (Str s) (Str t) = Ok (is_part s t)
-contains (Range a b c) (Int i) = Ok (is_among i a b c)
-contains (Range a b c) (Truth t) = Ok (is_among (int_of_truth t) a b c)
-contains (Range a b c) _ = Ok false
-contains _ _ = Err TypeError
+-- an integer is among bytes; one that can't be a byte has the wrong value
+abbrev pub is_byte_in : List ℕ → ℤ → Result Bool Kind
+is_byte_in bs (pos n) = if nat_lt n 256 then Ok (is_part bs (n ∷ [])) else Err ValueError
+is_byte_in bs (negsuc n) = Err ValueError
+
+-- where what came first is not equal, what comes after it decides
+abbrev pub or_later : Result Bool Kind → Result Bool Kind → Result Bool Kind
+or_later (Ok false) rest = rest
+or_later decided rest = decided
+
+-- a value is equal to one of these, asked from the left
+abbrev pub is_any_of : List Value → Value → World → Result Bool Kind
+is_any_of [] v w = Ok false
+is_any_of (u ∷ us) v w = or_later (are_equal u v w) (is_any_of us v w)
+
+-- `v in u`: of a str its parts, which are str; of bytes their parts, which are bytes, and each of them; of a range its
+-- items; of a tuple its items. True and False count as 1 and 0, and what is no integer is no item of a range. No other
+-- value has any yet (Language Reference, 6.10.2)
+abbrev pub contains : (whole : Value) → Value → World → Result Bool Kind
+contains (Str s) (Str t) w = Ok (is_part s t)
+contains (Bytes s) (Bytes t) w = Ok (is_part s t)
+contains (Bytes s) (Int i) w = is_byte_in s i
+contains (Bytes s) (Truth t) w = is_byte_in s (int_of_truth t)
+contains (Range a b c) (Int i) w = Ok (is_among i a b c)
+contains (Range a b c) (Truth t) w = Ok (is_among (int_of_truth t) a b c)
+contains (Range a b c) _ w = Ok false
+contains (Tuple us) v w = is_any_of (items_of us) v w
+contains _ _ w = Err TypeError
 
 -- the message with which a comparison refuses (this project's own)
 abbrev pub comparison_message : Kind → Text
 comparison_message RecursionError = codes "too deep"
+comparison_message ValueError = codes "wrong value"
 comparison_message _ = codes "wrong type"
 
 -- the truth that a comparison gives, or why it refuses
@@ -257,8 +316,8 @@ compare tree.Equal u v w = truth (are_equal u v w) w
 compare tree.NotEqual u v w = truth (opposite (are_equal u v w)) w
 compare tree.Is u v w = gave (Truth (is_same u v)) w
 compare tree.IsNot u v w = gave (Truth (not (is_same u v))) w
-compare tree.In u v w = truth (contains v u) w
-compare tree.NotIn u v w = truth (opposite (contains v u)) w
+compare tree.In u v w = truth (contains v u w) w
+compare tree.NotIn u v w = truth (opposite (contains v u w)) w
 
 -- the kinds that have built-in names (Standard Library, "Built-in Exceptions")
 abbrev pub built_in_kinds : List Kind
@@ -273,7 +332,8 @@ kind_named x (k ∷ ks) = if same_text x (name_of k) then Some k else kind_named
 
 -- the built-ins that are no kinds (Standard Library, "Built-in Functions"), this project's own choice among them
 abbrev pub built_ins : List BuiltIn
-built_ins = Print ∷ MakeRange ∷ MakeStr ∷ Repr ∷ Len ∷ MakeBool ∷ Abs ∷ MakeInt ∷ Ord ∷ Chr ∷ Min ∷ Max ∷ MakeBytes ∷ []
+built_ins =
+    Print ∷ MakeRange ∷ MakeStr ∷ Repr ∷ Len ∷ MakeBool ∷ Abs ∷ MakeInt ∷ Ord ∷ Chr ∷ Min ∷ Max ∷ MakeBytes ∷ MakeTuple ∷ []
 
 -- the built-in of a name among these
 abbrev pub built_in_named : Text → List BuiltIn → Option BuiltIn
@@ -343,12 +403,13 @@ range_of (Some a) (Some b) (Some (pos zero)) w = refused ValueError (codes "wron
 range_of (Some a) (Some b) (Some c) w = gave (Range a b c) w
 range_of _ _ _ w = wrong_type w
 
--- how many characters, bytes or items a value has: a str, bytes and a range have them (Standard Library, "Built-in Functions": len);
--- past the integers an OverflowError (this project's own)
+-- how many characters, bytes or items a value has: a str, bytes, a range and a tuple have them (Standard Library,
+-- "Built-in Functions": len); past the integers an OverflowError (this project's own)
 abbrev pub length_of : Value → World → Ran
 length_of (Str s) w = gave (Int (pos (length s))) w
 length_of (Bytes bs) w = gave (Int (pos (length bs))) w
 length_of (Range a b c) w = integer (in_range (pos (range_length a b c))) w
+length_of (Tuple vs) w = gave (Int (pos (length (items_of vs)))) w
 length_of _ w = wrong_type w
 
 -- an integer without its sign (Standard Library, "Built-in Functions": abs)
@@ -400,18 +461,42 @@ bytes_from [] = Some []
 bytes_from (pos n ∷ is) = if nat_lt n 256 then option_map (λ bs. n ∷ bs) (bytes_from is) else None
 bytes_from (negsuc n ∷ is) = None
 
+-- the byte that an integer is
+abbrev pub byte_meant : Option ℤ → Option ℕ
+byte_meant (Some (pos n)) = if nat_lt n 256 then Some n else None
+byte_meant _ = None
+
+-- a byte and those after it, where there are all
+abbrev pub more_bytes : Option ℕ → Option (List ℕ) → Option (List ℕ)
+more_bytes (Some b) (Some bs) = Some (b ∷ bs)
+more_bytes _ _ = None
+
+-- the bytes that values are, where each is one
+abbrev pub bytes_in : List Value → Option (List ℕ)
+bytes_in [] = Some []
+bytes_in (v ∷ vs) = more_bytes (byte_meant (integer_in v)) (bytes_in vs)
+
 -- bytes that were made, or that there are none (the message is this project's own)
 abbrev pub bytes_made : Option (List ℕ) → World → Ran
 bytes_made (Some bs) w = bytes_within bs w
 bytes_made None w = refused ValueError (codes "wrong value") w
 
--- the bytes of the items of a value (Standard Library, "Built-in Functions": bytes), of a range so far
+-- the bytes of the items of a value (Standard Library, "Built-in Functions": bytes), of a range or a tuple
 abbrev pub bytes_of : Value → World → Ran
 bytes_of (Range a b c) w = bytes_made (bytes_from (range_items a b c)) w
+bytes_of (Tuple vs) w = bytes_made (bytes_in (items_of vs)) w
 bytes_of _ w = wrong_type w
 
+-- the tuple of a value's items; a tuple is its own (Standard Library, "Built-in Types": tuple)
+abbrev pub tuple_from : Value → World → Ran
+tuple_from (Str s) w = tuple_within (characters_in s) w
+tuple_from (Bytes bs) w = tuple_within (numbers_in bs) w
+tuple_from (Range a b c) w = tuple_within (integers_in (range_items a b c)) w
+tuple_from (Tuple vs) w = gave (Tuple vs) w
+tuple_from _ w = wrong_type w
+
 -- a call of a built-in (Standard Library, "Built-in Functions": print, range, str, repr, len, bool, abs, int, ord, chr,
--- min, max, bytes); min and max take two values or more (this project's own)
+-- min, max, bytes, tuple); min and max take two values or more (this project's own)
 abbrev pub call_built_in : BuiltIn → List Value → World → Ran
 call_built_in Print vs w = printing (line_of w.store vs) w
 call_built_in MakeRange (b ∷ []) w = range_of (Some (pos 0)) (integer_in b) (Some (pos 1)) w
@@ -428,6 +513,7 @@ call_built_in Chr (v ∷ []) w = character_of (integer_in v) w
 call_built_in Min (u ∷ v ∷ vs) w = least u (v ∷ vs) w
 call_built_in Max (u ∷ v ∷ vs) w = greatest u (v ∷ vs) w
 call_built_in MakeBytes (v ∷ []) w = bytes_of v w
+call_built_in MakeTuple (v ∷ []) w = tuple_from v w
 call_built_in _ _ w = wrong_arguments w
 
 -- a new exception as a value
@@ -476,9 +562,22 @@ abbrev pub is_of : Kind → Option Object → Bool
 is_of top None = false
 is_of top (Some (value.Exception k a)) = is_a k top
 
--- whether an except clause with this value matches an exception (Language Reference, 8.4.1)
+-- an object is an exception of one of these kinds, or of one under it; values that are no kinds have no answer, whatever
+-- stands before them (this project's own)
+abbrev pub is_of_one : List Value → Option Object → Option Bool
+is_of_one [] o = Some false
+is_of_one (Class top ∷ vs) o = option_map (λ b. is_of top o || b) (is_of_one vs o)
+is_of_one _ o = None
+
+-- the truth that a test gives, or that what was tested is of a wrong kind
+abbrev pub tested : Option Bool → World → Ran
+tested (Some b) w = gave (Truth b) w
+tested None w = wrong_type w
+
+-- whether an except clause with this value, a kind or a tuple of kinds, matches an exception (Language Reference, 8.4.1)
 abbrev pub catches : Value → ℕ → World → Ran
 catches (Class top) x w = gave (Truth (is_of top (slice_get w.store x))) w
+catches (Tuple vs) x w = tested (is_of_one (items_of vs) (slice_get w.store x)) w
 catches _ x w = wrong_type w
 
 -- ---- items
@@ -491,6 +590,8 @@ pub data Iterator : Type 0 where
   Characters : Text → Iterator
   -- bytes, each as an integer
   Octets : List ℕ → Iterator
+  -- the items of a tuple
+  Items : List Value → Iterator
   NoMore : Iterator
 
 -- what a value gives in a world, where it can be gone over
@@ -498,6 +599,7 @@ abbrev pub iterator_of : Value → World → Option Iterator
 iterator_of (Range a b c) w = Some (Numbers a b c)
 iterator_of (Str s) w = Some (Characters s)
 iterator_of (Bytes bs) w = Some (Octets bs)
+iterator_of (Tuple vs) w = Some (Items (items_of vs))
 iterator_of _ w = None
 
 -- the items of a range after one: what lies past the integers lies past the stop
@@ -519,6 +621,8 @@ next_item (Characters []) w = Exhausted
 next_item (Characters (c ∷ cs)) w = Item (Str (c ∷ [])) (Characters cs)
 next_item (Octets []) w = Exhausted
 next_item (Octets (b ∷ bs)) w = Item (Int (pos b)) (Octets bs)
+next_item (Items []) w = Exhausted
+next_item (Items (v ∷ vs)) w = Item v (Items vs)
 next_item NoMore w = Exhausted
 
 -- what an answer makes of a request

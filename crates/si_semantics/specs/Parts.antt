@@ -1,6 +1,6 @@
 -- Parts of sequences (Python Language Reference 3.14, 6.10.2; Standard Library, "Built-in Types": common sequence
 -- operations).
-use Rattle.std.specs.Prelude.{ℕ, ℤ, ◌-ℤ◌, unsigned_abs, List, [], ◌∷◌, Bool, true, false, not, ◌&&◌, ◌||◌, nat_eq}
+use Rattle.std.specs.Prelude.{[], ◌∷◌, Bool, true, false, ◌&&◌, ◌||◌, nat_eq}
 use Rattle.si_semantics.specs.Value.{Text}
 
 -- a text begins with another

@@ -44,6 +44,7 @@ abbrev mutual
   names_of (tree.Binary o a b) = names_of a ++ names_of b
   names_of (tree.Call f args keywords) = names_of f ++ names_of_all args
   names_of (tree.Subscript a b) = names_of a ++ names_of b
+  names_of (tree.Tuple items) = names_of_all items
   names_of (tree.Boolean o a more) = names_of a ++ names_of_all more
   names_of (tree.Compare a cs) = names_of a ++ names_of_chain cs
   names_of (tree.Conditional a b c) = names_of a ++ names_of b ++ names_of c

@@ -1,7 +1,7 @@
 -- Subscriptions (Python Language Reference 3.14, 6.3.2; Standard Library, "Built-in Types": common sequence operations).
 use Rattle.std.specs.Prelude.{codes, ℕ, ◌+◌, ◌-◌, ◌+ℤ◌, ◌*ℤ◌, ℤ, pos, negsuc, List, [], ◌∷◌, length, Option, Some, None, nat_lt, slice_get, if◌then◌else◌}
 use Rattle.si_plain.specs.declared.kind.Kind.TheVariants.{IndexError}
-use Rattle.si_semantics.specs.Value.{Text, Value, Int, Str, Range}
+use Rattle.si_semantics.specs.Value.{Text, Value, Int, Str, Bytes, Range, Tuple, items_of}
 use Rattle.si_semantics.specs.World.{World, Ran}
 use Rattle.si_semantics.specs.Operations.{gave, refused, wrong_type, integer_in, range_length}
 
@@ -30,10 +30,32 @@ abbrev pub number_at : (start step : ℤ) → Option ℕ → World → Ran
 number_at a c (Some k) w = gave (Int (a +ℤ pos k *ℤ c)) w
 number_at a c None w = outside w
 
--- the item of a value at an index that is an integer: a str has its characters, each as a str of one, a range its
--- integers, however many they are
+-- a byte as an integer, where there is one
+abbrev pub byte : Option ℕ → World → Ran
+byte (Some b) w = gave (Int (pos b)) w
+byte None w = outside w
+
+-- the byte of bytes
+abbrev pub byte_at : List ℕ → Option ℕ → World → Ran
+byte_at bs (Some k) w = byte (slice_get bs k) w
+byte_at bs None w = outside w
+
+-- an item, where there is one
+abbrev pub item : Option Value → World → Ran
+item (Some v) w = gave v w
+item None w = outside w
+
+-- the item of a tuple
+abbrev pub item_of : List Value → Option ℕ → World → Ran
+item_of vs (Some k) w = item (slice_get vs k) w
+item_of vs None w = outside w
+
+-- the item of a value at an index that is an integer: a str has its characters, each as a str of one, bytes have
+-- integers, a range has its integers, however many they are, and a tuple has its items
 abbrev pub item_at : Value → Option ℤ → World → Ran
 item_at (Str s) (Some i) w = character_at s (item_meant (length s) i) w
+item_at (Bytes bs) (Some i) w = byte_at bs (item_meant (length bs) i) w
+item_at (Tuple vs) (Some i) w = item_of (items_of vs) (item_meant (length (items_of vs)) i) w
 item_at (Range a b c) (Some i) w = number_at a c (item_meant (range_length a b c) i) w
 item_at _ _ w = wrong_type w
 

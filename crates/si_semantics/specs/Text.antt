@@ -1,11 +1,12 @@
 -- How values are written as text (Python Standard Library 3.14, "Built-in Functions": str and repr).
-use Rattle.std.specs.Prelude.{codes, ℕ, zero, suc, ℤ, pos, List, [], ◌∷◌, ◌++◌, length, Bool, true, false, ◌&&◌, Option, Some, None, option_map, Result, Ok, Err, nat_eq, nat_lt, slice_get, int_le, if◌then◌else◌}
+use Rattle.std.specs.Prelude.{codes, ℕ, zero, suc, ℤ, pos, List, [], ◌∷◌, ◌++◌, length, Bool, true, false, ◌&&◌, Option, Some, None, Result, Ok, Err, nat_eq, nat_lt, int_le, if◌then◌else◌}
 use Rattle.si_plain.specs.declared.kind.Kind.{Kind}
 use Rattle.si_plain.specs.declared.kind.Kind.TheVariants.{KeyError, RecursionError, OverflowError}
 use Rattle.si_plain.specs.Kinds.{name_of}
 use Rattle.si_plain.specs.Repr as plain
 use Rattle.std.specs.Fmt.{signed_decimal}
-use Rattle.si_semantics.specs.Value.{Text, Value, Nothing, Truth, Int, Str, Bytes, Provided, Function, Range, Class, Address, BuiltIn, Print, MakeRange, MakeStr, Repr, Len, MakeBool, Abs, MakeInt, Ord, Chr, Min, Max, MakeBytes, Object, Exception}
+use Rattle.si_semantics.specs.Opened.{Opened, Atom, InTuple, InException, Nowhere, opened}
+use Rattle.si_semantics.specs.Value.{Text, Value, Nothing, Truth, Int, Str, Bytes, Provided, Function, Range, Tuple, Class, Address, BuiltIn, Print, MakeRange, MakeStr, Repr, Len, MakeBool, Abs, MakeInt, Ord, Chr, Min, Max, MakeBytes, MakeTuple, Object}
 
 -- the most characters of a str, and the most bytes of bytes (this project's own)
 abbrev pub max_length : ℕ
@@ -45,13 +46,14 @@ built_in_name Chr = codes "chr"
 built_in_name Min = codes "min"
 built_in_name Max = codes "max"
 built_in_name MakeBytes = codes "bytes"
+built_in_name MakeTuple = codes "tuple"
 
 -- the repr of a range: its step is left out where it is 1
 abbrev pub repr_range : ℤ → ℤ → ℤ → Text
 repr_range a b c =
     codes "range(" ++ decimal a ++ codes ", " ++ decimal b ++ (if same_int c (pos 1) then codes ")" else codes ", " ++ decimal c ++ codes ")")
 
--- the repr of a value that is no object
+-- the repr of a value that holds none
 abbrev pub repr_atom : Value → Text
 repr_atom Nothing = codes "None"
 repr_atom (Truth true) = codes "True"
@@ -62,45 +64,88 @@ repr_atom (Bytes bs) = plain.bytes_repr_of bs
 repr_atom (Provided b) = codes "<built-in " ++ built_in_name b ++ codes ">"
 repr_atom (Function f k) = codes "<function " ++ f ++ codes ">"
 repr_atom (Range a b c) = repr_range a b c
+repr_atom (Tuple vs) = []
 repr_atom (Class k) = codes "<class '" ++ name_of k ++ codes "'>"
 repr_atom (Address x) = []
 
--- the repr of an object, with that of its parts: of an exception its kind, and its argument in brackets (Standard
--- Library, "Built-in Exceptions")
-abbrev pub repr_object : (Value → Option Text) → Option Object → Option Text
-repr_object repr None = None
-repr_object repr (Some (Exception k None)) = Some (name_of k ++ codes "()")
-repr_object repr (Some (Exception k (Some v))) = option_map (λ t. name_of k ++ codes "(" ++ t ++ codes ")") (repr v)
+-- what is written of a value: all of it, or what stands before the first place where values are too deep within each other
+pub data Written : Type 0 where
+  Whole : Text → Written
+  Broken : Text → Written
 
--- the str of an object: of an exception that of its argument, of a KeyError the repr of its argument; empty without one
-abbrev pub str_object : (repr str : Value → Option Text) → Option Object → Option Text
-str_object repr str None = None
-str_object repr str (Some (Exception k None)) = Some []
-str_object repr str (Some (Exception KeyError (Some v))) = repr v
-str_object repr str (Some (Exception k (Some v))) = str v
+-- behind a text
+abbrev pub behind : Text → Written → Written
+behind t (Whole u) = Whole (t ++ u)
+behind t (Broken u) = Broken (t ++ u)
 
--- the repr of a value, where objects are within each other at most so deep
-abbrev pub repr_of : ℕ → List Object → Value → Option Text
-repr_of zero store (Address x) = None
-repr_of (suc n) store (Address x) = repr_object (repr_of n store) (slice_get store x)
-repr_of n store v = Some (repr_atom v)
+-- one behind the other
+abbrev pub followed : Written → Written → Written
+followed (Whole t) w = behind t w
+followed (Broken t) w = Broken t
 
--- the str of a value: a str is its own
-abbrev pub str_of : ℕ → List Object → Value → Option Text
-str_of n store (Str s) = Some s
-str_of zero store (Address x) = None
-str_of (suc n) store (Address x) = str_object (repr_of n store) (str_of n store) (slice_get store x)
-str_of n store v = Some (repr_atom v)
+-- between an opening and a closing text
+abbrev pub between : Text → Written → Text → Written
+between opening w closing = behind opening (followed w (Whole closing))
 
--- the most objects within each other that are written (this project's own)
+-- values, each with a comma and a space before it
+abbrev pub rest_by : (Value → Written) → List Value → Written
+rest_by repr [] = Whole []
+rest_by repr (v ∷ vs) = behind (codes ", ") (followed (repr v) (rest_by repr vs))
+
+-- values, with a comma and a space between them
+abbrev pub items_by : (Value → Written) → List Value → Written
+items_by repr [] = Whole []
+items_by repr (v ∷ vs) = followed (repr v) (rest_by repr vs)
+
+-- what stands behind the items of a tuple: a comma behind an only one (Language Reference, 6.15)
+abbrev pub tuple_end : List Value → Text
+tuple_end (v ∷ []) = codes ",)"
+tuple_end _ = codes ")"
+
+-- the values that an exception holds
+abbrev pub argument_of : Option Value → List Value
+argument_of None = []
+argument_of (Some v) = v ∷ []
+
+-- the repr of an opened value, by that of a row of values between two texts: of a tuple its items in brackets (Language
+-- Reference, 6.2.4), of an exception its kind, and its argument in brackets (Standard Library, "Built-in Exceptions")
+abbrev pub repr_opened : (Text → List Value → Text → Written) → Opened → Written
+repr_opened row (Atom v) = Whole (repr_atom v)
+repr_opened row (InTuple vs) = row (codes "(") vs (tuple_end vs)
+repr_opened row (InException x k a) = row (name_of k ++ codes "(") (argument_of a) (codes ")")
+repr_opened row Nowhere = Broken []
+
+-- the repr of a value, where tuples and objects are within each other at most so deep
+abbrev pub repr_of : ℕ → List Object → Value → Written
+repr_of zero store v = repr_opened (λ opening vs closing. Broken []) (opened store v)
+repr_of (suc n) store v = repr_opened (λ opening vs closing. between opening (items_by (repr_of n store) vs) closing) (opened store v)
+
+-- the str of an exception: that of its argument, of a KeyError the repr of its argument; empty without one
+abbrev pub str_exception : (repr str : Value → Written) → Kind → Option Value → Written
+str_exception repr str k None = Whole []
+str_exception repr str KeyError (Some v) = repr v
+str_exception repr str k (Some v) = str v
+
+-- the str of an opened value, by that of an exception and by its repr: a str is its own
+abbrev pub str_opened : (Kind → Option Value → Written) → Written → Opened → Written
+str_opened exception repr (Atom (Str s)) = Whole s
+str_opened exception repr (InException x k a) = exception k a
+str_opened exception repr _ = repr
+
+-- the str of a value, where tuples and objects are within each other at most so deep
+abbrev pub str_of : ℕ → List Object → Value → Written
+str_of zero store v = str_opened (λ k a. Broken []) (repr_of zero store v) (opened store v)
+str_of (suc n) store v = str_opened (str_exception (repr_of n store) (str_of n store)) (repr_of (suc n) store v) (opened store v)
+
+-- the most tuples and objects within each other that are written or compared (this project's own)
 abbrev pub max_nested : ℕ
 max_nested = 200
 
--- a text that was written, or why it can't be: objects too deep within each other, or it is too long for a str (this
--- project's own)
-abbrev pub written : Option Text → Result Text Kind
-written None = Err RecursionError
-written (Some t) = if nat_lt max_length (length t) then Err OverflowError else Ok t
+-- a text that was written, or why it can't be: of too long for a str and too deep what is met first from the left, and too
+-- deep where both are met at one place (this project's own)
+abbrev pub written : Written → Result Text Kind
+written (Whole t) = if nat_lt max_length (length t) then Err OverflowError else Ok t
+written (Broken t) = if nat_lt max_length (length t) then Err OverflowError else Err RecursionError
 
 -- the str and the repr of a value, in this store
 abbrev pub str_in : List Object → Value → Result Text Kind

@@ -88,6 +88,8 @@ pub data TokenKind : Type 0 where
   Int : TokenKind
   -- a str literal, with its prefix and quotes
   Str : TokenKind
+  -- a bytes literal, with its prefix and quotes
+  Bytes : TokenKind
   Sign : Symbol → TokenKind
   Word : Keyword → TokenKind
   -- the end of a line that has tokens

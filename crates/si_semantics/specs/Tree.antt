@@ -23,6 +23,8 @@ mutual
     Call : Expr → Exprs → List Text → Expr
     -- `object[index]`: the object, the index (6.3.2)
     Subscript : Expr → Expr → Expr
+    -- a tuple of its items (6.2.4, 6.15)
+    Tuple : Exprs → Expr
     -- operands of `and` or of `or` in a row: the first, and the others, of which there is one at least (6.11)
     Boolean : BooleanOperator → Expr → Exprs → Expr
     -- a chain of comparisons: the first operand, and each operator with the operand after it (6.10)

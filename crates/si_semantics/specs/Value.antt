@@ -1,5 +1,5 @@
 -- Values (Python Language Reference 3.14, 3.2).
-use Rattle.std.specs.Prelude.{ℕ, ℤ, List, Bool, Option}
+use Rattle.std.specs.Prelude.{ℕ, ℤ, List, [], ◌∷◌, Bool, Option}
 use Rattle.si_plain.specs.declared.kind.Kind.{Kind}
 
 -- a text is the list of its characters, each by its code point
@@ -21,25 +21,49 @@ pub data BuiltIn : Type 0 where
   Min : BuiltIn
   Max : BuiltIn
   MakeBytes : BuiltIn
+  MakeTuple : BuiltIn
 
-pub data Value : Type 0 where
-  Nothing : Value
-  -- True and False
-  Truth : Bool → Value
-  Int : ℤ → Value
-  Str : Text → Value
-  -- bytes, each a number below 256 (3.2.5.1)
-  Bytes : List ℕ → Value
-  Provided : BuiltIn → Value
-  -- a function of a script, by its name and its number among those that its interpreter has read; the number is this
-  -- project's own
-  Function : Text → ℕ → Value
-  -- a range: its start, its stop, and its step, which is not 0 (Standard Library, "Built-in Types": ranges)
-  Range : (start stop step : ℤ) → Value
-  -- a kind of exception (Standard Library, "Built-in Exceptions")
-  Class : Kind → Value
-  -- an object, by its address: its place in the store (3.1)
-  Address : ℕ → Value
+-- a tuple's items are a type of their own, since no constructor of a data type takes a List of that type
+mutual
+  pub data Value : Type 0 where
+    Nothing : Value
+    -- True and False
+    Truth : Bool → Value
+    Int : ℤ → Value
+    Str : Text → Value
+    -- bytes, each a number below 256 (3.2.5.1)
+    Bytes : List ℕ → Value
+    Provided : BuiltIn → Value
+    -- a function of a script, by its name and its number among those that its interpreter has read; the number is this
+    -- project's own
+    Function : Text → ℕ → Value
+    -- a range: its start, its stop, and its step, which is not 0 (Standard Library, "Built-in Types": ranges)
+    Range : (start stop step : ℤ) → Value
+    -- a tuple, by its items (3.2.5.1)
+    Tuple : Values → Value
+    -- a kind of exception (Standard Library, "Built-in Exceptions")
+    Class : Kind → Value
+    -- an object, by its address: its place in the store (3.1)
+    Address : ℕ → Value
+
+  -- values in a row
+  pub data Values : Type 0 where
+    NoValues : Values
+    MoreValues : Value → Values → Values
+
+-- values in a row, as a list
+abbrev pub items_of : Values → List Value
+items_of NoValues = []
+items_of (MoreValues v vs) = v ∷ items_of vs
+
+-- values from a list of them
+abbrev pub values_of : List Value → Values
+values_of [] = NoValues
+values_of (v ∷ vs) = MoreValues v (values_of vs)
+
+-- a tuple of these items
+abbrev pub tuple_of : List Value → Value
+tuple_of vs = Tuple (values_of vs)
 
 -- an object of the store
 pub data Object : Type 0 where

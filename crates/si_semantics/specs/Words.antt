@@ -4,7 +4,7 @@
 use Rattle.std.specs.Prelude.{◌≡◌, ℕ, ◌+◌, ◌<◌, ◌==◌, ◌&&◌, ◌||◌, not, List, [], ◌∷◌, ◌++◌, ◌⊎◌, length, drop, Bool, true, false, Option, Some, None, nat_le, codes, if◌then◌else◌}
 use Rattle.std.specs.List.{AllByRecursion}
 use Rattle.std.specs.Option.{is_some}
-use Rattle.si_semantics.specs.Literals.{value_of_int, value_of_str, is_quote, is_prefix, unprefixed, quotes_at}
+use Rattle.si_semantics.specs.Literals.{value_of_int, begins_bytes, value_of_str, value_of_bytes, is_quote, is_prefix, is_double_prefix, unprefixed, quotes_at}
 use Rattle.si_semantics.specs.Tokens as tokens
 use Rattle.si_semantics.specs.Tokens.{Symbol, Keyword}
 
@@ -123,7 +123,7 @@ is_quoted [] = false
 is_quoted (quote ∷ bs) =
     is_quote quote && is_body (quotes_at (quote ∷ bs)) quote 0 false (drop (quotes_at (quote ∷ bs)) (quote ∷ bs))
 
--- a str literal with its prefix and quotes ("String and Bytes literals")
+-- a literal of a str or of bytes, with its prefix and quotes ("String and Bytes literals")
 abbrev pub is_text : List ℕ → Bool
 is_text w = is_quoted (unprefixed w)
 
@@ -161,14 +161,16 @@ abbrev pub is_apart : List ℕ → Bool
 is_apart [] = true
 is_apart (b ∷ bs) = not (b == 46)
 
--- a letter before a quote is a prefix
+-- a letter or two before a quote are a prefix
 abbrev pub is_prefixing : List ℕ → List ℕ → Bool
 is_prefixing (p ∷ []) (b ∷ bs) = is_prefix p && is_quote b
+is_prefixing (p ∷ q ∷ []) (b ∷ bs) = is_double_prefix p q && is_quote b
 is_prefixing _ _ = false
 
--- A str literal has a value: its escapes are those of the rules ("Escape sequences").
+-- A literal has a value: its escapes are those of the rules ("Escape sequences"), and bytes hold ASCII alone ("Bytes
+-- literals").
 abbrev pub has_value : List ℕ → Bool
-has_value w = is_some (value_of_str w)
+has_value w = is_some (if begins_bytes w then value_of_bytes w else value_of_str w)
 
 -- After two quotes no third one follows: three always open a literal in three quotes.
 abbrev pub is_closed : List ℕ → List ℕ → Bool

@@ -8,6 +8,7 @@ pub mod Items
 pub mod BuiltIns
 pub mod Sequences
 pub mod Bytes
+pub mod Tuples
 pub mod Scope
 pub mod Literals
 pub mod Layout

@@ -8,6 +8,7 @@ ghost use Rattle.si_semantics.specs.Worked.BuiltIns.{BuiltInCases};
 ghost use Rattle.si_semantics.specs.Worked.Bytes.{BytesCases};
 ghost use Rattle.si_semantics.specs.Worked.Items.{ItemCases};
 ghost use Rattle.si_semantics.specs.Worked.Sequences.{SequenceCases};
+ghost use Rattle.si_semantics.specs.Worked.Tuples.{TupleCases};
 ghost use Rattle.si_semantics.specs.Worked.Scope.{ScopeCases};
 ghost use Rattle.si_semantics.specs.Worked.Literals.{LiteralCases};
 ghost use Rattle.si_semantics.specs.Worked.Layout.{LayoutCases};
@@ -55,6 +56,11 @@ pub fn worked_sequences()
 /// The worked cases of bytes: what scripts print and how they end, and their parcels.
 pub fn worked_bytes()
     ensures { BytesCases }
+{}
+
+/// The worked cases of tuples: what operations give for them.
+pub fn worked_tuples()
+    ensures { TupleCases }
 {}
 
 /// The worked cases of scopes: which texts are well scoped, and which names are local.

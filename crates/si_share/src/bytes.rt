@@ -9,7 +9,8 @@ ghost use Rattle.si_share.specs.Copies.{CopiesIn, CopiesOut};
 
 use crate::fault::{ReceiveFault, ShareFault};
 use si_arena::{Arena, Fault, Ref};
-use si_parcel::{Octets, Parcel};
+use si_parcel::Parcel;
+use si_plain::Octets;
 use si_plain::limits::MAX_STR_LENGTH;
 use std::alloc::Global;
 

@@ -1,23 +1,24 @@
 // Values that are copied out of an arena.
 
-ghost use Rattle.std.specs.Prelude.{◌≡◌, length};
-ghost use Rattle.si_semantics.specs.Shareable.{is_shareable};
+ghost use Rattle.std.specs.Prelude.{◌≡◌, Some, length};
+ghost use Rattle.si_semantics.specs.Shareable.{is_shareable, parcel_of};
+ghost use Rattle.si_semantics.specs.Parcels.{Tree, longest_in};
 ghost use Rattle.si_semantics.specs.Value as pure;
 ghost use Rattle.si_arena.specs.Memory.{value_of, Lies};
 ghost use Rattle.si_arena.specs.Texts.{characters_in};
 ghost use Rattle.si_share.specs.Copies.{CopiesOut};
+ghost use Rattle.si_share.specs.inner.Fitting.{Fits};
 
 use crate::bytes::bytes_out;
 use crate::fault::ShareFault;
 use crate::text::text_of;
 use si_arena::{Arena, Characters, Ref, View};
-use si_parcel::Parcel;
-use si_plain::limits::MAX_STR_LENGTH;
+use si_parcel::{Parcel, StrFault, TupleFault};
+use si_plain::limits::{MAX_STR_LENGTH, MAX_TUPLE_LEVELS, MAX_TUPLE_VALUES};
 use std::alloc::Global;
 
-/// Whether a value may be sent to another interpreter (PEP 734, "Shareable Objects"): None, True, False, an int, a str or
-/// bytes.
-/// Takes no memory.
+/// Whether a value may be sent to another interpreter (PEP 734, "Shareable Objects"): None, True, False, an int, a str,
+/// bytes, or a tuple all of whose items may. Takes no memory.
 pub fn is_shareable(arena: &Arena, value: Ref) -> bool
     requires { Lies arena.now value }
     ensures { result ≡ is_shareable (value_of arena.now value) }
@@ -28,6 +29,14 @@ pub fn is_shareable(arena: &Arena, value: Ref) -> bool
         View::Int(_) => true,
         View::Str(_) => true,
         View::Bytes(_) => true,
+        View::Tuple(items) => {
+            'items: for item in items {
+                if !is_shareable(arena, *item) {
+                    return false;
+                }
+            }
+            true
+        }
         View::BuiltIn(_) => false,
         View::Function(_, _) => false,
         View::Range(_) => false,
@@ -38,10 +47,58 @@ pub fn is_shareable(arena: &Arena, value: Ref) -> bool
 
 /// The parcel of a value, a copy that may be sent to another interpreter (PEP 734, "Shareable Objects"). `NotShareable`
 /// exactly where `is_shareable` is false; `TooLarge` exactly where it is shareable and past the limits of a parcel, as a
-/// str of more than 1,048,576 characters; `NoMemory` where memory is refused: only a str or bytes within the limits take
-/// any.
+/// str of more than 1,048,576 characters; `NoMemory` where memory is refused: only a str, bytes or a tuple within the
+/// limits takes any.
 pub fn copy_out(alloc: Global, arena: &Arena, value: Ref) -> Result<Parcel, ShareFault>
     requires { Lies arena.now value }
+    ensures { CopiesOut (value_of arena.now value) result }
+{
+    if !is_shareable(arena, value) {
+        return Err(ShareFault::NotShareable);
+    }
+    let size = arena.size(value);
+    if size.values > MAX_TUPLE_VALUES {
+        return Err(ShareFault::TooLarge);
+    }
+    if size.levels > MAX_TUPLE_LEVELS {
+        return Err(ShareFault::TooLarge);
+    }
+    if longest(arena, value) > MAX_STR_LENGTH {
+        return Err(ShareFault::TooLarge);
+    }
+    parcel_out(alloc, arena, value)
+}
+
+// How long the longest str or bytes in a shareable value is.
+fn longest(arena: &Arena, value: Ref) -> usize
+    requires { Lies arena.now value }
+    ensures { (p : Tree) → parcel_of (value_of arena.now value) ≡ Some p → result ≡ longest_in p }
+{
+    match arena.view(&value) {
+        View::None => 0,
+        View::Truth(_) => 0,
+        View::Int(_) => 0,
+        View::Str(characters) => length_of(characters),
+        View::Bytes(bytes) => bytes.len(),
+        View::Tuple(items) => {
+            let mut most = 0;
+            'items: for item in items {
+                most = longest(arena, *item).max(most);
+            }
+            most
+        }
+        View::BuiltIn(_) => 0,
+        View::Function(_, _) => 0,
+        View::Range(_) => 0,
+        View::Kind(_) => 0,
+        View::Object(_) => 0,
+    }
+}
+
+// The parcel of a value that fits into one.
+fn parcel_out(alloc: Global, arena: &Arena, value: Ref) -> Result<Parcel, ShareFault>
+    requires there { Lies arena.now value }
+    requires fits { Fits (value_of arena.now value) }
     ensures { CopiesOut (value_of arena.now value) result }
 {
     match arena.view(&value) {
@@ -50,11 +107,27 @@ pub fn copy_out(alloc: Global, arena: &Arena, value: Ref) -> Result<Parcel, Shar
         View::Int(int) => Ok(Parcel::int(int)),
         View::Str(characters) => str_out(alloc, characters),
         View::Bytes(bytes) => bytes_out(alloc, bytes),
-        View::BuiltIn(_) => Err(ShareFault::NotShareable),
-        View::Function(_, _) => Err(ShareFault::NotShareable),
-        View::Range(_) => Err(ShareFault::NotShareable),
-        View::Kind(_) => Err(ShareFault::NotShareable),
-        View::Object(_) => Err(ShareFault::NotShareable),
+        View::Tuple(items) => {
+            let mut parcels = Vec::with_capacity(alloc, items.len())?;
+            'items: for item in items {
+                let parcel = parcel_out(alloc, arena, *item)?;
+                match parcels.push(parcel) {
+                    Ok(()) => {}
+                    Err(_) => return Err(ShareFault::NoMemory),
+                }
+            }
+            match Parcel::tuple(alloc, parcels) {
+                Ok(parcel) => Ok(parcel),
+                Err(TupleFault::TooLarge(_)) => unreachable!(),
+                Err(TupleFault::TooDeep(_)) => unreachable!(),
+                Err(TupleFault::NoMemory(_)) => Err(ShareFault::NoMemory),
+            }
+        }
+        View::BuiltIn(_) => unreachable!(),
+        View::Function(_, _) => unreachable!(),
+        View::Range(_) => unreachable!(),
+        View::Kind(_) => unreachable!(),
+        View::Object(_) => unreachable!(),
     }
 }
 
@@ -66,9 +139,10 @@ fn str_out(alloc: Global, characters: Characters<'_>) -> Result<Parcel, ShareFau
         return Err(ShareFault::TooLarge);
     }
     let text = text_of(alloc, characters)?;
-    match Parcel::str(text) {
+    match Parcel::str(alloc, text) {
         Ok(parcel) => Ok(parcel),
-        Err(_) => unreachable!(),
+        Err(StrFault::TooLong(_)) => unreachable!(),
+        Err(StrFault::NoMemory(_)) => Err(ShareFault::NoMemory),
     }
 }
 

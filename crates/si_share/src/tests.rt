@@ -4,13 +4,33 @@ ghost use Rattle.si_arena.specs.Memory.{Lies};
 
 use crate::{ReceiveFault, ShareFault, copy_in, copy_out, is_shareable};
 use si_arena::{Arena, BuiltIn, Object, Ref, Steps};
-use si_parcel::{Octets, Parcel};
-use si_plain::{Kind, Text};
+use si_parcel::Parcel;
+use si_plain::{Kind, Octets, Text};
 use std::alloc::{AllocError, Global};
 use std::test::Fail;
 
 fn str(alloc: Global, text: &str) -> Result<Parcel, AllocError> {
-    Parcel::str(Text::from_str(alloc, text)?).or(Err(AllocError))
+    Parcel::str(alloc, Text::from_str(alloc, text)?).or(Err(AllocError))
+}
+
+// A tuple of two items.
+fn pair(alloc: Global, first: Parcel, second: Parcel) -> Result<Parcel, AllocError> {
+    let mut items = Vec::new(alloc);
+    items.push(first)?;
+    items.push(second)?;
+    Parcel::tuple(alloc, items).or(Err(AllocError))
+}
+
+// `('a café for ..', (1, (b'\x00', None)))`
+fn nested(alloc: Global) -> Result<Parcel, AllocError> {
+    let bytes = Octets::from_slice(alloc, b"\x00")?;
+    let bytes = Parcel::bytes(bytes).or(Err(AllocError))?;
+    let inner = pair(alloc, bytes, Parcel::none())?;
+    pair(
+        alloc,
+        str(alloc, LONG)?,
+        pair(alloc, Parcel::int(1), inner)?,
+    )
 }
 
 // An arena that holds a hundred exceptions.
@@ -117,13 +137,65 @@ fn bytes_go_over(rt: HostRuntime) -> Result<(), Fail> {
 }
 
 #[test]
+fn tuples_go_over(rt: HostRuntime) -> Result<(), Fail> {
+    let alloc = rt.alloc();
+    let mut from = Arena::new(alloc);
+    let mut to = filled(alloc)?;
+    let parcel = nested(alloc)?;
+    let placed = copy_in(&mut from, &parcel).map_err(|_| "refused")?;
+    let sent = copy_out(alloc, &from, placed).map_err(|_| "refused")?;
+    let received = copy_in(&mut to, &sent).map_err(|_| "refused")?;
+    assert!(rt; is_shareable(&to, received));
+    let back = copy_out(alloc, &to, received).map_err(|_| "refused")?;
+    assert!(rt; back == parcel);
+    let next = to.make(Object::Bare(Kind::TypeError))?;
+    assert!(rt; matches!(next, Ref::Object(100)));
+    Ok(())
+}
+
+// Whether a parcel is the same that was copied into an arena and out of it.
+fn comes_back(alloc: Global, parcel: &Parcel) -> bool {
+    let mut arena = Arena::new(alloc);
+    let Ok(placed) = copy_in(&mut arena, parcel) else {
+        return false;
+    };
+    match copy_out(alloc, &arena, placed) {
+        Ok(back) => back == *parcel,
+        Err(_) => false,
+    }
+}
+
+#[test]
+fn the_largest_tuple_goes_over(rt: HostRuntime) -> Result<(), Fail> {
+    let mut items = Vec::new(rt.alloc());
+    for int in 0..65_535 {
+        items.push(Parcel::int(int))?;
+    }
+    let large = Parcel::tuple(rt.alloc(), items).map_err(|_| "too large")?;
+    assert!(rt; comes_back(rt.alloc(), &large));
+    Ok(())
+}
+
+#[test]
+fn the_deepest_tuple_goes_over(rt: HostRuntime) -> Result<(), Fail> {
+    let mut deep = Parcel::tuple(rt.alloc(), Vec::new(rt.alloc())).map_err(|_| "too deep")?;
+    for _ in 0..199 {
+        let mut items = Vec::new(rt.alloc());
+        items.push(deep)?;
+        deep = Parcel::tuple(rt.alloc(), items).map_err(|_| "too deep")?;
+    }
+    assert!(rt; comes_back(rt.alloc(), &deep));
+    Ok(())
+}
+
+#[test]
 fn some_parcels_have_no_value_yet(rt: HostRuntime) -> Result<(), Fail> {
     let alloc = rt.alloc();
     let mut arena = Arena::new(alloc);
-    let tuple = Parcel::tuple(Vec::new(alloc)).map_err(|_| "too large")?;
-    assert!(rt; matches!(copy_in(&mut arena, &tuple), Err(ReceiveFault::NoSuchValue)));
     let queue = Parcel::queue(0, 1);
     assert!(rt; matches!(copy_in(&mut arena, &queue), Err(ReceiveFault::NoSuchValue)));
+    let tuple = pair(alloc, str(alloc, LONG)?, queue)?;
+    assert!(rt; matches!(copy_in(&mut arena, &tuple), Err(ReceiveFault::NoSuchValue)));
     Ok(())
 }
 
@@ -155,6 +227,22 @@ fn refused_copy_into_an_arena(rt: HostRuntime) -> Result<(), Fail> {
     let Ok(copy) = copy_in(&mut arena, &parcel) else {
         return Err(AllocError)?;
     };
+    let again = copy_out(rt.alloc(), &arena, copy).or(Err(AllocError))?;
+    assert!(rt; again == parcel);
+    Ok(())
+}
+
+#[test]
+fn refused_copies_of_a_tuple(rt: HostRuntime) -> Result<(), Fail> {
+    let parcel = nested(rt.alloc())?;
+    let mut arena = Arena::new(rt.alloc());
+    let first = copy_in(&mut arena, &parcel);
+    assert!(rt; first.is_ok() || matches!(first, Err(ReceiveFault::NoMemory)));
+    let Ok(copy) = copy_in(&mut arena, &parcel) else {
+        return Err(AllocError)?;
+    };
+    let first = copy_out(rt.alloc(), &arena, copy);
+    assert!(rt; first.map_or_else(|fault| fault == ShareFault::NoMemory, |p| p == parcel));
     let again = copy_out(rt.alloc(), &arena, copy).or(Err(AllocError))?;
     assert!(rt; again == parcel);
     Ok(())

@@ -1,11 +1,11 @@
 -- Expressions and calls are left by exceptions alone.
 use Rattle.std.proofs.Common.{ℕ, zero, suc, List, [], ◌∷◌, length, Bool, true, false, Option, Some, None}
 use Rattle.std.specs.Prelude.{nat_eq, slice_get}
-use Rattle.si_semantics.specs.Value.{Text, Value, Nothing, Truth, Int, Str, Bytes, Provided, Function, Range, Class, Address}
+use Rattle.si_semantics.specs.Value.{Text, Value, Nothing, Truth, Int, Str, Bytes, Provided, Function, Range, Tuple, Class, Address}
 use Rattle.si_semantics.specs.Tree.{BooleanOperator, Expr, Exprs, Comparisons}
 use Rattle.si_semantics.specs.Tree as tree
 use Rattle.si_semantics.specs.World.{Request, Answer, Replied, Got, Failed, Wants, Ran, Gave, Threw, Asked}
-use Rattle.si_semantics.specs.Operations.{exception, operate, operate_unary, is_true, compare, load_global, load_local, call_provided, call_by_name, not_callable, wrong_arguments, too_deep, reply}
+use Rattle.si_semantics.specs.Operations.{exception, tuple_within, operate, operate_unary, is_true, compare, load_global, load_local, call_provided, call_by_name, not_callable, wrong_arguments, too_deep, reply}
 use Rattle.si_semantics.specs.Subscription.{subscript}
 use Rattle.si_semantics.specs.Meaning.{State, Raises, Returns, Breaks, Continues, Result, Gives, Leaves, Asks, Cut, Meaning, Scope, visit, then, raised, asked, ran, slot_at, read, calls, choose, decides, compared, expr, exprs, operands, chain, returned, fitting, run_body, call}
 use Rattle.si_semantics.specs.Scope.{place_of}
@@ -82,6 +82,7 @@ calls_keep e h (Str t) vs [] s = ran_keeps (call_provided (Str t) vs s.world) s
 calls_keep e h (Bytes t) vs [] s = ran_keeps (call_provided (Bytes t) vs s.world) s
 calls_keep e h (Provided f) vs [] s = ran_keeps (call_provided (Provided f) vs s.world) s
 calls_keep e h (Range a b c) vs [] s = ran_keeps (call_provided (Range a b c) vs s.world) s
+calls_keep e h (Tuple us) vs [] s = ran_keeps (call_provided (Tuple us) vs s.world) s
 calls_keep e h (Class k) vs [] s = ran_keeps (call_provided (Class k) vs s.world) s
 calls_keep e h (Address x) vs [] s = ran_keeps (call_provided (Address x) vs s.world) s
 calls_keep e h g vs (x ∷ names) s = ran_keeps (call_by_name g s.world) s
@@ -100,6 +101,7 @@ module _ (e : Scope) (calling : Calls_keep e) where
         then_keeps (expr e f (visit s)) _ (expr_keeps f (visit s)) (λ g s1. then_keeps (exprs e args s1) _ (exprs_keep args s1) (λ vs s2. calls_keep e calling g vs names s2))
     expr_keeps (tree.Subscript a b) s =
         then_keeps (expr e a (visit s)) _ (expr_keeps a (visit s)) (λ u s1. then_keeps (expr e b s1) _ (expr_keeps b s1) (λ v s2. ran_keeps (subscript u v s2.world) s2))
+    expr_keeps (tree.Tuple items) s = then_keeps (exprs e items (visit s)) _ (exprs_keep items (visit s)) (λ vs s1. ran_keeps (tuple_within vs s1.world) s1)
     expr_keeps (tree.Boolean o a more) s = then_keeps (expr e a (visit s)) _ (expr_keeps a (visit s)) (λ u s1. operands_keep o u more s1)
     expr_keeps (tree.Compare a cs) s = then_keeps (expr e a (visit s)) _ (expr_keeps a (visit s)) (λ u s1. chain_keeps u cs s1)
     expr_keeps (tree.Conditional a b c) s =

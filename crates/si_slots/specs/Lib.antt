@@ -6,6 +6,7 @@ pub mod Shows
 pub mod Laws
 pub mod Interpreter
 pub mod CodeCases
+pub mod Literals
 pub mod Contents
 pub mod Views
 pub mod inner

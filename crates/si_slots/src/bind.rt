@@ -6,6 +6,7 @@ ghost use Rattle.si_slots.specs.Machine as machine;
 ghost use Rattle.si_slots.specs.Views.{Gains};
 
 use crate::full::FullInstr;
+use crate::literal::Literal;
 use crate::operand::{Constant, Source};
 use crate::table::{CodeTable, text_of};
 use si_plain::NoMemory;
@@ -20,7 +21,7 @@ impl CodeTable {
         let text = text_of(self.allocator(), name)?;
         let mark = self.mark();
         let slot = self.slot_of(name)?;
-        let added = self.add_literal(&text);
+        let added = self.add_literal(Literal::Str(text));
         if added.is_err() {
             self.return_to(mark);
         }

@@ -4,10 +4,10 @@
 // specs/Code.antt (the code of a tree) with specs/CodeCases.antt (worked cases), specs/Running.antt (the run of one
 // text), specs/Correct.antt (what such code does, against what a tree means), specs/Shows.antt and
 // specs/Interpreter.antt (what an interpreter shows of its life at any moment), specs/Laws.antt (laws of courses);
-// `laws`, which state them. Then the code as it lies in memory: `instr`, the instructions, in 8 bytes each; `operand` and
-// `full`, instructions in full; `routine`, what is known of a function's code; `table`, their lines, literals and slots;
-// `aim`, its jumps; `bind`, globals bound to functions; `fetch`, how its code is read. specs/Contents.antt and specs/Views.antt say what a table has and what it stands for;
-// specs/inner/Jumps.antt is for the proofs alone.
+// `laws`, which state them. Then the code as it lies in memory: `instr`, the instructions, in 8 bytes each; `operand`
+// and `full`, instructions in full; `routine`, what is known of a function's code; `table`, their lines, literals and
+// slots; `aim`, its jumps; `bind`, globals bound to functions; `fetch`, how its code is read. specs/Contents.antt and
+// specs/Views.antt say what a table has and what it stands for; specs/inner/Jumps.antt is for the proofs alone.
 #![tactic(auto)]
 
 mod aim;
@@ -17,6 +17,7 @@ mod frame;
 mod full;
 mod instr;
 pub mod laws;
+mod literal;
 mod operand;
 mod pack;
 mod routine;
@@ -25,6 +26,7 @@ mod unpack;
 
 pub use full::FullInstr;
 pub use instr::Instr;
+pub use literal::Literal;
 pub use operand::{Aim, Constant, Source, Target};
 pub use routine::Routine;
 pub use table::{CodeTable, Mark};

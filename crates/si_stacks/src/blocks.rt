@@ -116,6 +116,7 @@ impl<I: Copy, T: Copy> Blocks<I, T> {
     /// # Errors
     ///
     /// `NoMemory` where memory was refused; nothing was entered then.
+    #[inline(always)]
     pub fn push(&mut self, block: Block<I, T>) -> Result<(), NoMemory>
         ensures ok { OnOk result (self.new ≡ block ∷ self.old) }
         ensures err { OnErr result (self.new ≡ self.old) }
@@ -125,6 +126,7 @@ impl<I: Copy, T: Copy> Blocks<I, T> {
     }
 
     /// The innermost.
+    #[inline(always)]
     pub fn innermost(&self) -> Option<Block<I, T>>
         ensures { MatchOption result (self.now ≡ []) (λ b. self.now ≡ b ∷ drop 1 self.now) }
     {
@@ -132,6 +134,7 @@ impl<I: Copy, T: Copy> Blocks<I, T> {
     }
 
     /// The innermost, which is left.
+    #[inline(always)]
     pub fn pop(&mut self) -> Option<Block<I, T>>
         ensures { MatchOption result ((self.old ≡ []) × (self.new ≡ [])) (λ b. self.old ≡ b ∷ self.new) }
     {
@@ -139,6 +142,7 @@ impl<I: Copy, T: Copy> Blocks<I, T> {
     }
 
     /// The innermost is left, where there is one.
+    #[inline(always)]
     pub fn discard(&mut self)
         ensures { self.new ≡ drop 1 self.old }
     {
@@ -149,6 +153,7 @@ impl<I: Copy, T: Copy> Blocks<I, T> {
     }
 
     /// Another in place of the innermost.
+    #[inline(always)]
     pub fn replace(&mut self, block: Block<I, T>)
         requires { 0 < length self.old }
         ensures { self.new ≡ block ∷ drop 1 self.old }

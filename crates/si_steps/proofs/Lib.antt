@@ -14,4 +14,5 @@ pub mod Along
 pub mod Told
 pub mod Callees
 pub mod Provided
+pub mod Displayed
 pub mod Fast

@@ -1,6 +1,6 @@
 // What calls make of a state.
 ghost use Rattle.std.specs.Prelude.{◌≡◌, ◌+◌, ◌-◌, ◌<◌, ◌≤◌, ◌^◌, length, slice_get, Some, None};
-ghost use Rattle.si_arena.specs.Memory.{Lies, value_of};
+ghost use Rattle.si_arena.specs.Memory.{Memory, Lies, value_of};
 ghost use Rattle.si_arena.specs.Views.{value_in};
 ghost use Rattle.si_slots.specs.Machine as machine;
 ghost use Rattle.si_slots.specs.Views.{target_of};
@@ -18,6 +18,7 @@ use si_stacks::{Block, Shape};
 impl State {
     /// Calls what lies in a temporary with so many arguments, which lie above it; they are taken, and the value of the
     /// call goes to a target.
+    #[inline(always)]
     pub fn call(&mut self, target: Target, at: u32, count: u32) -> Step
         ghost p: { Moment }
         requires ready { IsReady (machine.Call (target_of target) at count) self.old p }
@@ -72,6 +73,7 @@ impl State {
     }
 
     // A call of the function of a number.
+    #[inline(always)]
     fn call_function(
         &mut self,
         callee: Ref,
@@ -101,6 +103,7 @@ impl State {
     }
 
     // A function begins, whose arguments are the temporaries from a place on.
+    #[inline(always)]
     fn begin(&mut self, routine: Routine, target: Target, at: usize) -> Step
         requires place { self.old.pc < 2 ^ 63 }
         requires arguments { at + routine.parameters ≤ length self.old.frames.temporaries }
@@ -150,7 +153,7 @@ fn function_in(arena: &Arena, callee: Ref) -> Option<u32>
 // The same of what is shown.
 #[inline(never)]
 fn function_shown(view: View) -> Option<u32>
-    ensures { result ≡ function_number (value_in view.entry) }
+    ensures { (m : Memory) → result ≡ function_number (value_in m view.entry) }
 {
     match view {
         View::Function(number, _) => Some(number),
@@ -163,6 +166,7 @@ const FIRST_ROOM: usize = 8;
 
 // The frame of a function as it begins: its locals, its parameters included, and room for a few temporaries; more is made
 // as they come.
+#[inline(always)]
 fn shape_of(routine: Routine) -> Shape
     ensures parameters { routine.parameters ≤ result.locals }
     ensures others { result.locals - routine.parameters ≡ routine.locals - routine.parameters }

@@ -7,16 +7,17 @@
 // The step takes the instruction at a state's place, and a `Machine` goes so along a course of that definition
 // (`specs/Machines.antt`).
 //
-// In reading order: `step` (what a step did), `state` (what a machine has), `landing` (where a value goes), `raising` (how
-// exceptions are raised), `reading` (how operands are read), `flow` (the instructions of branches, chains and loops),
-// `tries` (those of `try` and of unbinding), `values` (those of operands and operations), `subscripts`, `names` (those of globals),
-// `calls` (calls of functions and of other values), `leaving` (`break`, `continue`, `return` and the end of a finally
-// suite), `short` (frequent instructions as they stand in 8 bytes), `execute` (one instruction), `begin` (how a run begins),
-// `machine`.
+// In reading order: `step` (what a step did), `state` (what a machine has), `landing` (where a value goes), `raising`
+// (how exceptions are raised), `reading` (how operands are read), `flow` (the instructions of branches, chains and
+// loops), `tries` (those of `try` and of unbinding), `values` (those of operands and operations), `subscripts`,
+// `displays`, `names` (those of globals), `calls` (calls of functions and of other values), `leaving` (`break`,
+// `continue`, `return` and the end of a finally suite), `short` and `short_values` (instructions as they stand in 8
+// bytes), `execute` (one instruction), `begin` (how a run begins), `machine`.
 #![tactic(auto)]
 
 mod begin;
 mod calls;
+mod displays;
 mod execute;
 mod flow;
 mod landing;
@@ -26,6 +27,7 @@ mod names;
 mod raising;
 mod reading;
 mod short;
+mod short_values;
 mod state;
 mod step;
 mod subscripts;

@@ -1,7 +1,7 @@
 -- The trees that values of this crate stand for.
 use Rattle.std.specs.Prelude.{List, map, string_bytes}
 use Rattle.std.specs.Option.{option_map}
-use Rattle.si_semantics.specs.Value.{Nothing, Truth, Int, Str}
+use Rattle.si_semantics.specs.Value.{Nothing, Truth, Int, Str, Bytes}
 use Rattle.si_semantics.specs.Tree as tree
 use Rattle.si_semantics.specs.Grammar.{exprs_of, chain_of, stmts_of, Branch, elifs_of, Clause, clauses_of}
 use Rattle.si_plain.specs.declared.operators.ComparisonOperator.{ComparisonOperator}
@@ -25,12 +25,14 @@ abbrev pub view_step : Expr-F tree.Expr → tree.Expr
 view_step (Expr-F.Name x) = tree.Name (string_bytes x)
 view_step (Expr-F.Int n) = tree.Constant (Int n)
 view_step (Expr-F.Str t) = tree.Constant (Str t)
+view_step (Expr-F.Bytes bs) = tree.Constant (Bytes bs)
 view_step Expr-F.Nothing = tree.Constant Nothing
 view_step (Expr-F.Truth b) = tree.Constant (Truth b)
 view_step (Expr-F.Unary op a) = tree.Unary op a.value
 view_step (Expr-F.Binary op a b) = tree.Binary op a.value b.value
 view_step (Expr-F.Call a args names) = tree.Call a.value (exprs_of args.items) (map string_bytes names.items)
 view_step (Expr-F.Subscript a b) = tree.Subscript a.value b.value
+view_step (Expr-F.Tuple items) = tree.Tuple (exprs_of items.items)
 view_step (Expr-F.Boolean op a others) = tree.Boolean op a.value (exprs_of others.items)
 view_step (Expr-F.Compare a links) = tree.Compare a.value (chain_of links.items)
 view_step (Expr-F.Conditional test value other) = tree.Conditional test.value value.value other.value

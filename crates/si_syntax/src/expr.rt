@@ -1,6 +1,6 @@
 // Expressions.
 
-use si_plain::{BinaryOperator, BooleanOperator, ComparisonOperator, Text, UnaryOperator};
+use si_plain::{BinaryOperator, BooleanOperator, ComparisonOperator, Octets, Text, UnaryOperator};
 
 /// An expression.
 #[derive(Debug, Drop)]
@@ -15,6 +15,8 @@ pub enum Expr {
     Truth(bool),
     /// One str literal or several beside each other, with their escapes read.
     Str(Text),
+    /// One bytes literal or several beside each other, with their escapes read.
+    Bytes(Octets),
     Unary(UnaryOperator, Box<Expr>),
     Binary(BinaryOperator, Box<Expr>, Box<Expr>),
     /// A callee, its arguments, and the names of those that are passed by name, which are the last ones. No name comes
@@ -22,6 +24,8 @@ pub enum Expr {
     Call(Box<Expr>, Vec<Expr>, Vec<String>),
     /// `object[index]`: the object, the index.
     Subscript(Box<Expr>, Box<Expr>),
+    /// A tuple displayed in brackets: its items, from the left.
+    Tuple(Vec<Expr>),
     /// Operands of `and` or of `or` in a row: the first, and the others, of which there is one at least.
     Boolean(BooleanOperator, Box<Expr>, Vec<Expr>),
     /// A chain of comparisons: the first operand, and each operator with the operand after it.

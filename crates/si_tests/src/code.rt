@@ -34,7 +34,7 @@ fn instruction_by_instruction(rt: HostRuntime) -> Result<(), Fail> {
         FullInstr::StoreGlobal(0, Source::Temporary(0)),
         FullInstr::LoadGlobal(Target::Temporary(0), 1),
         FullInstr::LoadGlobal(Target::Temporary(1), 0),
-        FullInstr::Copy(Target::Temporary(2), Source::Literal(Constant::Str(0))),
+        FullInstr::Copy(Target::Temporary(2), Source::Literal(Constant::Placed(0))),
         FullInstr::Call(Target::Nowhere, 0, 2),
         FullInstr::Finish,
     ];
@@ -48,7 +48,7 @@ fn instruction_by_instruction(rt: HostRuntime) -> Result<(), Fail> {
     assert_eq!(rt; table.name(1), Some("print"));
     assert_eq!(rt; table.name(2), None);
     assert_eq!(rt; table.literals().len(), 1);
-    assert_eq!(rt; table.literals()[0].as_str(), "ab");
+    assert_eq!(rt; table.literals()[0].name(), "ab");
     table.facts();
     Ok(())
 }
@@ -165,7 +165,7 @@ fn functions_come_first(rt: HostRuntime) -> Result<(), Fail> {
     );
     assert_eq!(rt; table.routine(2), None);
     assert_eq!(rt; table.literals().len(), 2);
-    assert_eq!(rt; table.literals()[1].as_str(), "g");
+    assert_eq!(rt; table.literals()[1].name(), "g");
     Ok(())
 }
 

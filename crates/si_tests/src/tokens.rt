@@ -1,7 +1,7 @@
 // Texts and their tokens, as Python's own `tokenize` gives them, but for blank lines, comments, CR, tabs before a line's
 // first token, and the text of an INDENT.
 
-use si_token::TokenKind::{Dedent, End, Indent, Int, Name, Newline, Str};
+use si_token::TokenKind::{Bytes, Dedent, End, Indent, Int, Name, Newline, Str};
 use si_token::{Keyword, Symbol, TokenKind, tokens};
 use std::process::Abort;
 
@@ -119,16 +119,18 @@ fn names_and_operators(rt: HostRuntime) {
 fn texts(rt: HostRuntime) {
     expect(
         &rt,
-        r#"r'\'' R"\""U'a'u"" b'c' ru'd'"#,
+        r#"r'\'' R"\""U'a'u"" b'c'Rb"" ru'd' b 'e'"#,
         &[
             (Str, r"r'\''"),
             (Str, r#"R"\"""#),
             (Str, "U'a'"),
             (Str, "u\"\""),
-            (Name, "b"),
-            (Str, "'c'"),
+            (Bytes, "b'c'"),
+            (Bytes, "Rb\"\""),
             (Name, "ru"),
             (Str, "'d'"),
+            (Name, "b"),
+            (Str, "'e'"),
             (Newline, ""),
             (End, ""),
         ],

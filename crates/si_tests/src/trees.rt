@@ -148,6 +148,63 @@ fn operators_bind_as_in_python(rt: HostRuntime) -> Result<(), Fail> {
 }
 
 #[test]
+fn tuples_are_displayed_in_brackets(rt: HostRuntime) -> Result<(), Fail> {
+    let alloc = rt.alloc();
+    for (text, tree) in [
+        ("()", "Tuple([])"),
+        ("(1,)", "Tuple([Int(1)])"),
+        ("(1, 2)", "Tuple([Int(1), Int(2)])"),
+        ("(1, 2, 3,)", "Tuple([Int(1), Int(2), Int(3)])"),
+        ("((1))", "Int(1)"),
+        ("(1, (2,),)", "Tuple([Int(1), Tuple([Int(2)])])"),
+        (
+            "((), ((1), 2))",
+            "Tuple([Tuple([]), Tuple([Int(1), Int(2)])])",
+        ),
+        (
+            "(a, b)[0] + f((c,), d)",
+            "Binary(Add, Subscript(Tuple([Name(\"a\"), Name(\"b\")]), Int(0)), Call(Name(\"f\"), [Tuple([Name(\"c\")]), Name(\"d\")], []))",
+        ),
+    ] {
+        let wanted = format!(in alloc; "[Evaluate({tree})]")?;
+        assert_eq!(rt; shown(alloc, text)?.as_str(), wanted.as_str(), "{text:?}");
+    }
+    Ok(())
+}
+
+#[test]
+fn tuples_may_stand_without_brackets(rt: HostRuntime) -> Result<(), Fail> {
+    let alloc = rt.alloc();
+    for (text, trees) in [
+        ("1,", "Evaluate(Tuple([Int(1)]))"),
+        (
+            "1, 2,; 3",
+            "Evaluate(Tuple([Int(1), Int(2)])), Evaluate(Int(3))",
+        ),
+        (
+            "x = (), 1",
+            "Assign(Assign { target: Named(\"x\"), value: Tuple([Tuple([]), Int(1)]) })",
+        ),
+        (
+            "x += 1,",
+            "Augment(Augment { target: Named(\"x\"), operator: Add, value: Tuple([Int(1)]) })",
+        ),
+        (
+            "return a, b",
+            "Return(1, Some(Tuple([Name(\"a\"), Name(\"b\")])))",
+        ),
+        (
+            "for x in a, b,: c, d",
+            "For(For { target: Named(\"x\"), items: Tuple([Name(\"a\"), Name(\"b\")]), body: [Evaluate(Tuple([Name(\"c\"), Name(\"d\")]))], last: [] })",
+        ),
+    ] {
+        let wanted = format!(in alloc; "[{trees}]")?;
+        assert_eq!(rt; shown(alloc, text)?.as_str(), wanted.as_str(), "{text:?}");
+    }
+    Ok(())
+}
+
+#[test]
 fn statements_of_branches_and_loops(rt: HostRuntime) -> Result<(), Fail> {
     let alloc = rt.alloc();
     for (text, trees) in [

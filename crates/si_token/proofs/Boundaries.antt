@@ -8,7 +8,7 @@ use Rattle.std.proofs.lemmas.Bool.{eqb-true}
 use Rattle.std.proofs.Math.Seq.{drop-cons}
 use Rattle.std.proofs.str.Laws.{order}
 use Rattle.si_semantics.specs.Tokens.{Symbol}
-use Rattle.si_semantics.specs.Literals.{is_quote, is_prefix}
+use Rattle.si_semantics.specs.Literals.{is_quote, is_prefix, is_double_prefix}
 use Rattle.si_semantics.specs.Words.{Sort, Name, Int, Text, Operator, Spaces, Tabs, Comment, LineEnd, is_digit, begins_name, continues_name, is_space, is_tab, is_hash, in_comment, is_plain, is_body, is_escaped, is_quoted, is_text, spelled, symbols, line_ends, each, IsRun, IsIn, IsWord}
 use Rattle.si_token.proofs.Texts.{and_both, drop_none}
 use Rattle.si_token.proofs.Runs.{Longest, spelled_test}
@@ -96,15 +96,21 @@ quoted_last (q ∷ (a ∷ (b ∷ v))) h = by ((q == a) && (a == b)) h
 
 text_last : (w : List ℕ) → is_text w ≡ true → last w < 128
 text_last [] h = let bad : false ≡ true = h in cc
-text_last (b ∷ w) h = by (is_prefix b) h
+text_last (b ∷ []) h = by (is_prefix b) h
   where
-    behind : (w : List ℕ) → is_quoted w ≡ true → last (b ∷ w) < 128
+    by : (t : Bool) → is_quoted (drop (if t then 1 else 0) (b ∷ [])) ≡ true → last (b ∷ []) < 128
+    by true h = let bad : false ≡ true = h in cc
+    by false h = quoted_last (b ∷ []) h
+text_last (b ∷ (c ∷ w)) h = by (is_double_prefix b c) (is_prefix b) h
+  where
+    behind : (w : List ℕ) → is_quoted w ≡ true → last (b ∷ (c ∷ w)) < 128
     behind [] h = let bad : false ≡ true = h in cc
-    behind (c ∷ w) h = quoted_last (c ∷ w) h
+    behind (a ∷ w) h = quoted_last (a ∷ w) h
 
-    by : (t : Bool) → is_quoted (if t then w else b ∷ w) ≡ true → last (b ∷ w) < 128
-    by true h = behind w h
-    by false h = quoted_last (b ∷ w) h
+    by : (d t : Bool) → is_quoted (drop (if d then 2 else (if t then 1 else 0)) (b ∷ (c ∷ w))) ≡ true → last (b ∷ (c ∷ w)) < 128
+    by true t h = behind w h
+    by false true h = quoted_last (c ∷ w) h
+    by false false h = quoted_last (b ∷ (c ∷ w)) h
 
 abbrev ends_small : List ℕ → Bool
 ends_small w = nat_lt (last w) 128

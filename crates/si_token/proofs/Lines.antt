@@ -315,7 +315,7 @@ goes (w ∷ ws) p blocks = by w.sort w.text (goes ws)
     by : (s : Sort) (w : List ℕ) → Goes ws → laid_all p blocks (record { sort = s; text = w } ∷ ws) ≡ from_place p blocks (split p.brackets (record { sort = s; text = w } ∷ ws))
     by Name w go = any_token _ Name w ws p blocks go
     by Int w go = any_token tokens.Int Int w ws p blocks go
-    by Text w go = any_token tokens.Str Text w ws p blocks go
+    by Text w go = any_token _ Text w ws p blocks go
     by Operator w go = operator_word (option_map tokens.Sign (spelled symbols w)) w ws p blocks go
     by Spaces w go = blank_word Spaces w ws p (laying.behind_spaces p w) blocks refl refl refl (spaces_move p.has_tab p.column (length w)) go
     by Tabs w go = blank_word Tabs w ws p (laying.behind_tabs p w) blocks refl refl refl (λ o. tabs_move p.has_tab p.column) go

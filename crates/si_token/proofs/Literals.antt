@@ -145,17 +145,17 @@ is_some_map : {A B : Type 0} (f : A → B) (o : Option A) → is_some (option_ma
 is_some_map f None = refl
 is_some_map f (Some x) = refl
 
-module _ (skipped c : ℕ) (cs ds : Text) (front : ◌≡◌ {A = Option (ℕ × Text)} (Some (c, ds)) (front_of cs)) (first : skipped ≡ 0) where
-  here : unescaped skipped cs ≡ unescaped 0 (c ∷ ds)
-  here = λ i. unescaped (first i) (front_is cs c ds front i)
+module _ (bytes : Bool) (skipped c : ℕ) (cs ds : Text) (front : ◌≡◌ {A = Option (ℕ × Text)} (Some (c, ds)) (front_of cs)) (first : skipped ≡ 0) where
+  here : unescaped bytes skipped cs ≡ unescaped bytes 0 (c ∷ ds)
+  here = λ i. unescaped bytes (first i) (front_is cs c ds front i)
 
-  escape_here : c ≡ 92 → unescaped skipped cs ≡ option_and_then (λ (e : Written). option_map (λ text. e.0 ++ text) (unescaped e.1 ds)) (escape ds)
-  escape_here h = here ∙ if_true (c == 92) _ (option_map (λ text. c ∷ text) (unescaped 0 ds)) (ap (λ c. c == 92) h)
+  escape_here : c ≡ 92 → unescaped bytes skipped cs ≡ option_and_then (λ (e : Written). option_map (λ text. e.0 ++ text) (unescaped bytes e.1 ds)) (escape bytes ds)
+  escape_here h = here ∙ if_true (c == 92) _ (option_map (λ text. c ∷ text) (unescaped bytes 0 ds)) (ap (λ c. c == 92) h)
 
-  pub no_escape : c ≡ 92 → escape ds ≡ None → is_some (unescaped skipped cs) ≡ false
-  no_escape h none = ap is_some (escape_here h ∙ ap (option_and_then (λ (e : Written). option_map (λ text. e.0 ++ text) (unescaped e.1 ds))) none)
+  pub no_escape : c ≡ 92 → escape bytes ds ≡ None → is_some (unescaped bytes skipped cs) ≡ false
+  no_escape h none = ap is_some (escape_here h ∙ ap (option_and_then (λ (e : Written). option_map (λ text. e.0 ++ text) (unescaped bytes e.1 ds))) none)
 
-  pub on_escape : c ≡ 92 → (w : Text) (k : ℕ) → escape ds ≡ Some (w, k) → is_some (unescaped k ds) ≡ is_some (unescaped skipped cs)
+  pub on_escape : c ≡ 92 → (w : Text) (k : ℕ) → escape bytes ds ≡ Some (w, k) → is_some (unescaped bytes k ds) ≡ is_some (unescaped bytes skipped cs)
   on_escape h w k some =
-      sym (is_some_map (λ text. w ++ text) (unescaped k ds))
-      ∙ sym (ap is_some (escape_here h ∙ ap (option_and_then (λ (e : Written). option_map (λ text. e.0 ++ text) (unescaped e.1 ds))) some))
+      sym (is_some_map (λ text. w ++ text) (unescaped bytes k ds))
+      ∙ sym (ap is_some (escape_here h ∙ ap (option_and_then (λ (e : Written). option_map (λ text. e.0 ++ text) (unescaped bytes e.1 ds))) some))

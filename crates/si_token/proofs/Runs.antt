@@ -5,10 +5,10 @@ use Rattle.std.specs.List.{list_all, prefix_len}
 use Rattle.std.proofs.lemmas.Bool.Decides.{nat_tests}
 use Rattle.std.proofs.lemmas.Bool.{eqb-true}
 use Rattle.si_semantics.specs.Tokens.{Symbol}
-use Rattle.si_semantics.specs.Literals.{is_quote, is_prefix}
+use Rattle.si_semantics.specs.Literals.{is_quote, is_raw, is_of_bytes, is_prefix, is_double_prefix, prefix_at, unprefixed}
 use Rattle.si_semantics.specs.Words.{Sort, Name, Int, Text, Operator, Spaces, Tabs, Comment, LineEnd, is_digit, begins_name, continues_name, is_space, is_tab, is_hash, in_comment, is_quoted, is_text, is_prefixing, same, spelled, symbols, line_ends, each, IsRun, IsIn, IsWord, IsLongest, has_value, is_allowed}
-use Rattle.si_token.specs.inner.Reading.{then_read, sort_of_byte, sort_at, text_length, some_if, symbol_length, line_end_length, length_of, if_allowed, longest_at, word_at}
-use Rattle.si_token.proofs.Texts.{if_true, if_false, and_both, some_inj, text_found, text_reaches, text_is}
+use Rattle.si_token.specs.inner.Reading.{then_read, sort_of_byte, begins_quoted, sort_at, text_length, some_if, symbol_length, line_end_length, length_of, if_allowed, longest_at, word_at}
+use Rattle.si_token.proofs.Texts.{if_true, if_false, and_both, some_inj, prefix_stays, text_found, text_reaches, text_is}
 
 -- ---- tests
 
@@ -237,10 +237,44 @@ no_prefix b differs = by (is_prefix b) refl
     by false e = e
     by true e = let n : begins_name b ≡ true = grind (arith, nat_tests) in absurd (differs (name_first b n))
 
+-- no prefix of two letters begins with what is none of one
+double_none : (p q r s u : Bool) → (r || (p || u)) ≡ false → ((p && q) || (r && s)) ≡ false
+double_none p q true s u h = cc
+double_none true q false s u h = cc
+double_none false q false s u h = refl
+
+no_double : (b c : ℕ) → is_prefix b ≡ false → is_double_prefix b c ≡ false
+no_double b c h = double_none (is_of_bytes b) (is_raw c) (is_raw b) (is_of_bytes c) _ h
+
+-- nor ends with what is no letter
+ends_none : (p q r s : Bool) → q ≡ false → s ≡ false → ((p && q) || (r && s)) ≡ false
+ends_none false q false s f g = refl
+ends_none false q true s f g = g
+ends_none true q false s f g = ap (λ t. t || false) f
+ends_none true q true s f g = ap (λ t. t || s) f ∙ g
+
+no_double_end : (b c : ℕ) → continues_name c ≡ false → is_double_prefix b c ≡ false
+no_double_end b c h =
+    let r : is_raw c ≡ false = grind (arith, nat_tests) in
+    let s : is_of_bytes c ≡ false = grind (arith, nat_tests) in
+    ends_none (is_of_bytes b) (is_raw c) (is_raw b) (is_of_bytes c) r s
+
+quote_no_letter : (c : ℕ) → is_quote c ≡ true → continues_name c ≡ false
+quote_no_letter c h = grind (arith, nat_tests)
+
 -- the sort is that of the first byte, where it is no prefix
 by_byte : (b : ℕ) (rest : List ℕ) → is_prefix b ≡ false → sort_at (b ∷ rest) ≡ sort_of_byte b
-by_byte b [] e = refl
-by_byte b (c ∷ rest) e = ap (λ t. if t && is_quote c then Text else sort_of_byte b) e
+by_byte b rest e = ap (λ t. if t then Text else sort_of_byte b) (at_quote rest) ∙ own (is_quote b) refl
+  where
+    at_quote : (rest : List ℕ) → begins_quoted (unprefixed (b ∷ rest)) ≡ is_quote b
+    at_quote [] = ap (λ t. begins_quoted (drop (if t then 1 else 0) (b ∷ []))) e
+    at_quote (c ∷ rest) =
+        ap (λ d. begins_quoted (drop (if d then 2 else (if is_prefix b then 1 else 0)) (b ∷ (c ∷ rest)))) (no_double b c e)
+        ∙ ap (λ t. begins_quoted (drop (if t then 1 else 0) (b ∷ (c ∷ rest)))) e
+
+    own : (t : Bool) → is_quote b ≡ t → (if t then Text else sort_of_byte b) ≡ sort_of_byte b
+    own true f = sym (quote_first b f)
+    own false f = refl
 
 other_sort : (k : Sort) (w rest : List ℕ) → (k ≡ Name → ⊥) → BeginsSort k w → sort_at (w ++ rest) ≡ k
 other_sort k [] rest differs h = absurd h
@@ -253,16 +287,67 @@ not_true : (t : Bool) → not t ≡ true → t ≡ false
 not_true false h = refl
 not_true true h = cc
 
-name_sort : (w rest : List ℕ) → IsRun begins_name continues_name w → is_prefixing w rest ≡ false → sort_at (w ++ rest) ≡ Name
-name_sort [] rest h a = absurd h
-name_sort (b ∷ []) [] h a = name_first b h.0
-name_sort (b ∷ []) (c ∷ rest) h a = if_false (is_prefix b && is_quote c) Text _ a ∙ name_first b h.0
-name_sort (b ∷ (c ∷ w)) rest h a =
-    ap (λ t. if is_prefix b && t then Text else sort_of_byte b) (quote_in_name c h.1.0) ∙ none (is_prefix b) ∙ name_first b h.0
+name_no_quote : (b : ℕ) → begins_name b ≡ true → is_quote b ≡ false
+name_no_quote b h = grind (arith, nat_tests)
+
+-- a name of one letter is followed by no more of it
+abbrev IsWhole : List ℕ → List ℕ → Type 0
+IsWhole (b ∷ []) (c ∷ rest) = continues_name c ≡ false
+IsWhole _ _ = Unit {0}
+
+name_sort : (w rest : List ℕ) → IsRun begins_name continues_name w → is_prefixing w rest ≡ false → IsWhole w rest → sort_at (w ++ rest) ≡ Name
+name_sort [] rest h a z = absurd h
+name_sort (b ∷ []) [] h a z = by (is_prefix b) ∙ name_first b h.0
   where
-    none : (t : Bool) → (if t && false then Text else sort_of_byte b) ≡ sort_of_byte b
-    none true = refl
-    none false = refl
+    by : (t : Bool) → (if begins_quoted (drop (if t then 1 else 0) (b ∷ [])) then Text else sort_of_byte b) ≡ sort_of_byte b
+    by true = refl
+    by false = if_false (is_quote b) Text _ (name_no_quote b h.0)
+name_sort (b ∷ []) (c ∷ rest) h a z =
+    ap (λ d. if begins_quoted (drop (if d then 2 else (if is_prefix b then 1 else 0)) (b ∷ (c ∷ rest))) then Text else sort_of_byte b) (no_double_end b c z)
+    ∙ by (is_prefix b) a
+    ∙ name_first b h.0
+  where
+    by : (t : Bool) → (t && is_quote c) ≡ false → (if begins_quoted (drop (if t then 1 else 0) (b ∷ (c ∷ rest))) then Text else sort_of_byte b) ≡ sort_of_byte b
+    by true f = if_false (is_quote c) Text _ f
+    by false f = if_false (is_quote b) Text _ (name_no_quote b h.0)
+name_sort (b ∷ (c ∷ [])) [] h a z = by (is_double_prefix b c) (is_prefix b) ∙ name_first b h.0
+  where
+    by : (d t : Bool) → (if begins_quoted (drop (if d then 2 else (if t then 1 else 0)) (b ∷ (c ∷ []))) then Text else sort_of_byte b) ≡ sort_of_byte b
+    by true t = refl
+    by false true = if_false (is_quote c) Text _ (quote_in_name c h.1.0)
+    by false false = if_false (is_quote b) Text _ (name_no_quote b h.0)
+name_sort (b ∷ (c ∷ [])) (q ∷ rest) h a z = by (is_double_prefix b c) (is_prefix b) a ∙ name_first b h.0
+  where
+    by : (d t : Bool) → (d && is_quote q) ≡ false → (if begins_quoted (drop (if d then 2 else (if t then 1 else 0)) (b ∷ (c ∷ (q ∷ rest)))) then Text else sort_of_byte b) ≡ sort_of_byte b
+    by true t f = if_false (is_quote q) Text _ f
+    by false true f = if_false (is_quote c) Text _ (quote_in_name c h.1.0)
+    by false false f = if_false (is_quote b) Text _ (name_no_quote b h.0)
+name_sort (b ∷ (c ∷ (q ∷ w))) rest h a z = by (is_double_prefix b c) (is_prefix b) ∙ name_first b h.0
+  where
+    by : (d t : Bool) → (if begins_quoted (drop (if d then 2 else (if t then 1 else 0)) (b ∷ (c ∷ (q ∷ (w ++ rest))))) then Text else sort_of_byte b) ≡ sort_of_byte b
+    by true t = if_false (is_quote q) Text _ (quote_in_name q h.1.1.0)
+    by false true = if_false (is_quote c) Text _ (quote_in_name c h.1.0)
+    by false false = if_false (is_quote b) Text _ (name_no_quote b h.0)
+
+-- where a name is a prefix before a quote, a literal stands
+prefixing_sort : (w rest : List ℕ) → is_prefixing w rest ≡ true → (sort_at (w ++ rest) ≡ Text) × (length w ≤ 2)
+prefixing_sort [] rest h = cc
+prefixing_sort (b ∷ []) [] h = cc
+prefixing_sort (b ∷ []) (q ∷ rest) h =
+    let p = and_both (is_prefix b) (is_quote q) h in (
+      ap (λ d. if begins_quoted (drop (if d then 2 else (if is_prefix b then 1 else 0)) (b ∷ (q ∷ rest))) then Text else sort_of_byte b) (no_double_end b q (quote_no_letter q p.1))
+          ∙ ap (λ t. if begins_quoted (drop (if t then 1 else 0) (b ∷ (q ∷ rest))) then Text else sort_of_byte b) p.0
+          ∙ if_true (is_quote q) Text _ p.1,
+      omega arith,
+    )
+prefixing_sort (b ∷ (c ∷ [])) [] h = cc
+prefixing_sort (b ∷ (c ∷ [])) (q ∷ rest) h =
+    let p = and_both (is_double_prefix b c) (is_quote q) h in (
+      ap (λ d. if begins_quoted (drop (if d then 2 else (if is_prefix b then 1 else 0)) (b ∷ (c ∷ (q ∷ rest)))) then Text else sort_of_byte b) p.0
+          ∙ if_true (is_quote q) Text _ p.1,
+      omega arith,
+    )
+prefixing_sort (b ∷ (c ∷ (e ∷ w))) rest h = cc
 
 -- a quote stands in front of a literal without prefix
 quoted_first : (w : List ℕ) → is_quoted w ≡ true → BeginsSort Text w
@@ -272,25 +357,23 @@ quoted_first (q ∷ w) h = quote_first q (and_both (is_quote q) _ h).0
 quote_no_name : (q : ℕ) → is_quote q ≡ true → begins_name q ≡ false
 quote_no_name q h = grind (arith, nat_tests)
 
+quoted_at : (v rest : List ℕ) → is_quoted v ≡ true → begins_quoted (v ++ rest) ≡ true
+quoted_at [] rest h = cc
+quoted_at (q ∷ v) rest h = (and_both (is_quote q) _ h).0
+
 text_sort : (w rest : List ℕ) → is_text w ≡ true → sort_at (w ++ rest) ≡ Text
 text_sort [] rest h = let bad : false ≡ true = h in cc
-text_sort (b ∷ w) rest h = by (is_prefix b) refl h
-  where
-    prefixed : (w : List ℕ) → is_prefix b ≡ true → is_quoted w ≡ true → sort_at (b ∷ (w ++ rest)) ≡ Text
-    prefixed [] e h = let bad : false ≡ true = h in cc
-    prefixed (q ∷ w) e h = let t : (is_prefix b && is_quote q) ≡ true = ap (λ t. t && is_quote q) e ∙ (and_both (is_quote q) _ h).0 in if_true (is_prefix b && is_quote q) Text _ t
+text_sort (b ∷ w) rest h =
+    if_true (begins_quoted (unprefixed (b ∷ (w ++ rest)))) Text _
+    (ap begins_quoted (prefix_stays (b ∷ w) rest h).1 ∙ quoted_at (unprefixed (b ∷ w)) rest h)
 
-    by : (t : Bool) → is_prefix b ≡ t → is_quoted (if t then w else b ∷ w) ≡ true → sort_at (b ∷ (w ++ rest)) ≡ Text
-    by true e h = prefixed w e h
-    by false e h = by_byte b (w ++ rest) e ∙ quoted_first (b ∷ w) h
-
--- a name that is a prefix before a quote is no word there
+-- a name that is a prefix before a quote is no word there, nor is a part of a name
 abbrev Stands : Sort → List ℕ → List ℕ → Type 0
-Stands Name w rest = is_prefixing w rest ≡ false
+Stands Name w rest = (is_prefixing w rest ≡ false) × IsWhole w rest
 Stands _ w rest = Unit {0}
 
 pub sort_word : (k : Sort) (w rest : List ℕ) → IsWord k w → Stands k w rest → sort_at (w ++ rest) ≡ k
-sort_word Name w rest h a = name_sort w rest h a
+sort_word Name w rest h a = name_sort w rest h a.0 a.1
 sort_word Text w rest h a = text_sort w rest h
 sort_word Int [] rest h a = absurd h
 sort_word Int (b ∷ w) rest h a = other_sort Int (b ∷ w) rest (λ e. cc) (digit_first b h.0)
@@ -349,8 +432,7 @@ test_of k b h =
 
 -- the first byte says the sort, but of a literal
 byte_of : (k : Sort) (b : ℕ) (bs : List ℕ) → (Text ≡ k → ⊥) → sort_at (b ∷ bs) ≡ k → sort_of_byte b ≡ k
-byte_of k b [] differs h = h
-byte_of k b (c ∷ bs) differs h = by (is_prefix b && is_quote c) h
+byte_of k b bs differs h = by (begins_quoted (unprefixed (b ∷ bs))) h
   where
     by : (t : Bool) → (if t then Text else sort_of_byte b) ≡ k → sort_of_byte b ≡ k
     by true h = absurd (differs h)
@@ -381,7 +463,7 @@ front Tabs b bs n s h = let t = test_of Tabs b (byte_of Tabs b bs (λ e. cc) s) 
 front Comment b bs n s h = let t = test_of Comment b (byte_of Comment b bs (λ e. cc) s) in run_front is_hash in_comment b bs n t (hash_in b t) h
 front Operator b bs n s h = symbol_front (b ∷ bs) n h
 front LineEnd b bs n s h = subst (Front LineEnd (b ∷ bs)) (some_inj _ n h) (line_end_front b bs (is_line_end b (test_of LineEnd b (byte_of LineEnd b bs (λ e. cc) s))))
-front Text b bs n s h = text_is (b ∷ bs) n h
+front Text b bs n s h = let r = text_is (b ∷ bs) n h in let l = r.1 in (r.0, omega (arith, l), r.2)
 
 -- ---- a word at the front is found, or a longer one
 
@@ -432,27 +514,37 @@ some_found Tabs w rest h a = reaches Tabs w rest h
 some_found Comment w rest h a = reaches Comment w rest h
 some_found LineEnd w rest h a = reaches LineEnd w rest h
 
-stands : (k : Sort) (w rest : List ℕ) → is_allowed k w rest ≡ true → Stands k w rest
-stands Name w rest a = not_true (is_prefixing w rest) a
-stands Int w rest a = tt
-stands Text w rest a = tt
-stands Operator w rest a = tt
-stands Spaces w rest a = tt
-stands Tabs w rest a = tt
-stands Comment w rest a = tt
-stands LineEnd w rest a = tt
+whole_name : (w rest : List ℕ) → IsRun begins_name continues_name w → IsLongest w rest → IsWhole w rest
+whole_name [] rest h l = tt
+whole_name (b ∷ []) [] h l = tt
+whole_name (b ∷ []) (c ∷ rest) h l = by (continues_name c) refl
+  where
+    by : (t : Bool) → continues_name c ≡ t → continues_name c ≡ false
+    by false e = e
+    by true e = absurd (l (c ∷ []) rest Name (omega arith) refl (h.0, (e, tt)))
+whole_name (b ∷ (c ∷ w)) rest h l = tt
 
-long_stands : (k : Sort) (w rest : List ℕ) → 1 < length w → Stands k w rest
-long_stands Name [] rest h = refl
-long_stands Name (b ∷ []) rest h = absurd (omega (arith, h))
-long_stands Name (b ∷ (c ∷ w)) rest h = refl
-long_stands Int w rest h = tt
-long_stands Text w rest h = tt
-long_stands Operator w rest h = tt
-long_stands Spaces w rest h = tt
-long_stands Tabs w rest h = tt
-long_stands Comment w rest h = tt
-long_stands LineEnd w rest h = tt
+stands : (k : Sort) (w rest : List ℕ) → IsWord k w → IsLongest w rest → is_allowed k w rest ≡ true → Stands k w rest
+stands Name w rest h l a = (not_true (is_prefixing w rest) a, whole_name w rest h l)
+stands Int w rest h l a = tt
+stands Text w rest h l a = tt
+stands Operator w rest h l a = tt
+stands Spaces w rest h l a = tt
+stands Tabs w rest h l a = tt
+stands Comment w rest h l a = tt
+stands LineEnd w rest h l a = tt
+
+long_stands : (k : Sort) (w rest : List ℕ) → 1 < length w → is_prefixing w rest ≡ false → Stands k w rest
+long_stands Name [] rest h f = absurd (omega (arith, h))
+long_stands Name (b ∷ []) rest h f = absurd (omega (arith, h))
+long_stands Name (b ∷ (c ∷ w)) rest h f = (f, tt)
+long_stands Int w rest h f = tt
+long_stands Text w rest h f = tt
+long_stands Operator w rest h f = tt
+long_stands Spaces w rest h f = tt
+long_stands Tabs w rest h f = tt
+long_stands Comment w rest h f = tt
+long_stands LineEnd w rest h f = tt
 
 -- ---- the word at the front
 
@@ -513,14 +605,27 @@ append_length [] y = omega arith
 append_length (a ∷ x) y = let e = append_length x y in omega (arith, e)
 
 longest_front : (k : Sort) (b : ℕ) (bs : List ℕ) (n : ℕ) → sort_at (b ∷ bs) ≡ k → length_of k (b ∷ bs) ≡ Some n → 0 < n → n ≤ length (b ∷ bs) → IsLongest (take n (b ∷ bs)) (drop n (b ∷ bs))
-longest_front k b bs n s h some le more after j pos e w =
-    let whole : b ∷ bs ≡ (take n (b ∷ bs) ++ more) ++ after = split_at n (b ∷ bs) ∙ ap (λ l. take n (b ∷ bs) ++ l) e ∙ sym (append_assoc (take n (b ∷ bs)) more after) in
-    let l = append_length (take n (b ∷ bs)) more in
-    let t = take_length n (b ∷ bs) le in
-    let same : j ≡ k = sym (sort_word j (take n (b ∷ bs) ++ more) after w (long_stands j (take n (b ∷ bs) ++ more) after (omega (arith, l, t, pos, some)))) ∙ sym (ap sort_at whole) ∙ s in
-    let found : length_of j ((take n (b ∷ bs) ++ more) ++ after) ≡ Some n = ap (λ l. length_of j l) (sym whole) ∙ ap (λ x. length_of x (b ∷ bs)) same ∙ h in
-    let r = no_shorter j (take n (b ∷ bs) ++ more) after n w found in
-    absurd (omega (arith, l, t, pos, r))
+longest_front k b bs n s h some le more after j pos e w = by (is_prefixing (take n (b ∷ bs) ++ more) after) refl
+  where
+    whole : b ∷ bs ≡ (take n (b ∷ bs) ++ more) ++ after
+    whole = split_at n (b ∷ bs) ∙ ap (λ l. take n (b ∷ bs) ++ l) e ∙ sym (append_assoc (take n (b ∷ bs)) more after)
+
+    by : (t : Bool) → is_prefixing (take n (b ∷ bs) ++ more) after ≡ t → ⊥
+    by true f =
+        let l = append_length (take n (b ∷ bs)) more in
+        let t = take_length n (b ∷ bs) le in
+        let p = prefixing_sort (take n (b ∷ bs) ++ more) after f in
+        let few = p.1 in
+        let same : k ≡ Text = sym s ∙ ap sort_at whole ∙ p.0 in
+        let two = (text_is (b ∷ bs) n (ap (λ x. length_of x (b ∷ bs)) (sym same) ∙ h)).1 in
+        omega (arith, l, t, pos, few, two)
+    by false f =
+        let l = append_length (take n (b ∷ bs)) more in
+        let t = take_length n (b ∷ bs) le in
+        let same : j ≡ k = sym (sort_word j (take n (b ∷ bs) ++ more) after w (long_stands j (take n (b ∷ bs) ++ more) after (omega (arith, l, t, pos, some)) f)) ∙ sym (ap sort_at whole) ∙ s in
+        let found : length_of j ((take n (b ∷ bs) ++ more) ++ after) ≡ Some n = ap (λ l. length_of j l) (sym whole) ∙ ap (λ x. length_of x (b ∷ bs)) same ∙ h in
+        let r = no_shorter j (take n (b ∷ bs) ++ more) after n w found in
+        omega (arith, l, t, pos, r)
 
 pub longest_found : (bs : List ℕ) (k : Sort) (n : ℕ) → longest_at bs ≡ Some (k, n) → Longest bs k n
 longest_found [] k n h = cc
@@ -554,7 +659,7 @@ word_found (b ∷ bs) k n h =
 pub word_only : (w rest : List ℕ) (k : Sort) → IsWord k w → IsLongest w rest → is_allowed k w rest ≡ true → word_at (w ++ rest) ≡ Some (k, length w)
 word_only [] rest k h l a = absurd (let some = nonempty k [] h in omega (arith, some))
 word_only (b ∷ w) rest k h l a =
-    let s : sort_at (b ∷ (w ++ rest)) ≡ k = sort_word k (b ∷ w) rest h (stands k (b ∷ w) rest a) in
+    let s : sort_at (b ∷ (w ++ rest)) ≡ k = sort_word k (b ∷ w) rest h (stands k (b ∷ w) rest h l a) in
     let r = some_found k (b ∷ w) rest h a in
     let f = front k b (w ++ rest) r.0 s r.1 in
     let is : r.0 ≡ length (b ∷ w) = ⊎_elim

@@ -2,7 +2,7 @@
 use Rattle.std.proofs.Common.{◌≡◌, ℕ, zero, suc, ◌+◌, ◌<◌, ◌≤◌, List, [], ◌∷◌, ◌++◌, length, take, drop, Bool, true, false, refl, sym, ap, ◌∙◌, subst, arith, Option, Some, None}
 use Rattle.std.specs.Prelude.{◌||◌, ◌&&◌, ◌==◌, not, if◌then◌else◌}
 use Rattle.std.proofs.lemmas.Bool.Decides.{nat_tests}
-use Rattle.si_semantics.specs.Literals.{is_quote, is_prefix, unprefixed, quotes_at}
+use Rattle.si_semantics.specs.Literals.{is_quote, is_prefix, is_double_prefix, prefix_at, unprefixed, quotes_at}
 use Rattle.si_semantics.specs.Words.{is_plain, is_body, is_escaped, is_quoted, is_text, is_closed}
 use Rattle.si_token.specs.inner.Reading.{add_one, plus, body_length, escaped_length, quoted_length, text_length}
 
@@ -258,41 +258,108 @@ quoted_is (q ∷ (a ∷ (b ∷ v))) n h =
 
 -- ---- the prefix
 
+-- a literal without prefix has two quotes
+pub quoted_long : (w : List ℕ) → is_quoted w ≡ true → 2 ≤ length w
+quoted_long [] h = cc
+quoted_long (q ∷ []) h = let bad : false ≡ true = (and_both (is_quote q) false h).1 in cc
+quoted_long (q ∷ (a ∷ w)) h = omega arith
+
+-- what follows a literal leaves its prefix as it is
+pub prefix_stays : (w rest : List ℕ) → is_text w ≡ true → (prefix_at (w ++ rest) ≡ prefix_at w) × (unprefixed (w ++ rest) ≡ unprefixed w ++ rest)
+prefix_stays [] rest h = cc
+prefix_stays (b ∷ []) rest h = by (is_prefix b) h
+  where
+    by : (t : Bool) → is_quoted (drop (if t then 1 else 0) (b ∷ [])) ≡ true → (prefix_at (b ∷ rest) ≡ prefix_at (b ∷ [])) × (unprefixed (b ∷ rest) ≡ unprefixed (b ∷ []) ++ rest)
+    by true h = cc
+    by false h = let l = quoted_long (b ∷ []) h in absurd (omega (arith, l))
+prefix_stays (b ∷ (c ∷ w)) rest h = (refl, by (is_double_prefix b c) (is_prefix b))
+  where
+    by : (d t : Bool) → drop (if d then 2 else (if t then 1 else 0)) (b ∷ (c ∷ (w ++ rest))) ≡ drop (if d then 2 else (if t then 1 else 0)) (b ∷ (c ∷ w)) ++ rest
+    by true t = refl
+    by false true = refl
+    by false false = refl
+
+-- a prefix and what follows it
+pub prefixed_length : (w : List ℕ) → prefix_at w + length (unprefixed w) ≡ length w
+prefixed_length [] = refl
+prefixed_length (b ∷ []) = by (is_prefix b)
+  where
+    by : (t : Bool) → (if t then 1 else 0) + length (drop (if t then 1 else 0) (b ∷ [])) ≡ 1
+    by true = refl
+    by false = refl
+prefixed_length (b ∷ (c ∷ w)) = by (is_double_prefix b c) (is_prefix b)
+  where
+    by : (d t : Bool) → (if d then 2 else (if t then 1 else 0)) + length (drop (if d then 2 else (if t then 1 else 0)) (b ∷ (c ∷ w))) ≡ suc (suc (length w))
+    by true t = omega arith
+    by false true = omega arith
+    by false false = omega arith
+
 -- a literal at the front is found where it may stand there
 pub text_found : (w rest : List ℕ) → is_text w ≡ true → is_closed (unprefixed w) rest ≡ true → text_length (w ++ rest) ≡ Some (length w)
-text_found [] rest h c = cc
-text_found (b ∷ w) rest h c = by (is_prefix b) h c
-  where
-    by : (t : Bool) → is_quoted (if t then w else b ∷ w) ≡ true → is_closed (if t then w else b ∷ w) rest ≡ true
-        → (if t then plus 1 (quoted_length (w ++ rest)) else quoted_length (b ∷ (w ++ rest))) ≡ Some (suc (length w))
-    by true h c = let l : 1 + length w ≡ suc (length w) = omega arith in ap (plus 1) (quoted_found w rest h c) ∙ ap Some l
-    by false h c = quoted_found (b ∷ w) rest h c
+text_found w rest h c =
+    let stays = prefix_stays w rest h in
+    (λ i. plus (stays.0 i) (quoted_length (stays.1 i)))
+    ∙ ap (plus (prefix_at w)) (quoted_found (unprefixed w) rest h c)
+    ∙ ap Some (prefixed_length w)
 
 -- and what is found is no shorter
 pub text_reaches : (w rest : List ℕ) (n : ℕ) → is_text w ≡ true → text_length (w ++ rest) ≡ Some n → length w ≤ n
-text_reaches [] rest n h e = omega arith
-text_reaches (b ∷ w) rest n h e = by (is_prefix b) h e
-  where
-    by : (t : Bool) → is_quoted (if t then w else b ∷ w) ≡ true → (if t then plus 1 (quoted_length (w ++ rest)) else quoted_length (b ∷ (w ++ rest))) ≡ Some n → suc (length w) ≤ n
-    by true h e =
-        let p = from_plus 1 (quoted_length (w ++ rest)) n e in let l = quoted_reaches w rest p.0 h p.1 in let s = p.2 in omega (arith, l, s)
-    by false h e = quoted_reaches (b ∷ w) rest n h e
+text_reaches w rest n h e =
+    let stays = prefix_stays w rest h in
+    let p = from_plus (prefix_at w) (quoted_length (unprefixed w ++ rest)) n ((λ i. plus (sym stays.0 i) (quoted_length (sym stays.1 i))) ∙ e) in
+    let l = quoted_reaches (unprefixed w) rest p.0 h p.1 in
+    let s = p.2 in
+    let all = prefixed_length w in omega (arith, l, s, all)
 
-pub text_is : (bs : List ℕ) (n : ℕ) → text_length bs ≡ Some n → (is_text (take n bs) ≡ true) × (0 < n) × (n ≤ length bs)
-text_is [] n h = cc
-text_is (b ∷ bs) n h = by (is_prefix b) refl h
-  where
-    plain : (n : ℕ) → is_prefix b ≡ false → FoundQuoted (b ∷ bs) n → (is_text (take n (b ∷ bs)) ≡ true) × (0 < n) × (n ≤ length (b ∷ bs))
-    plain zero e r = let bad : false ≡ true = r.0 in cc
-    plain (suc n) e r = (ap (λ t. is_quoted (if t then take n bs else b ∷ take n bs)) e ∙ r.0, omega arith, r.1)
+abbrev FoundText : List ℕ → ℕ → Type 0
+FoundText bs n = (is_text (take n bs) ≡ true) × (2 ≤ n) × (n ≤ length bs)
 
-    by : (t : Bool) → is_prefix b ≡ t → (if t then plus 1 (quoted_length bs) else quoted_length (b ∷ bs)) ≡ Some n → (is_text (take n (b ∷ bs)) ≡ true) × (0 < n) × (n ≤ length (b ∷ bs))
-    by true e h =
-        let p = from_plus 1 (quoted_length bs) n h in
-        let r = quoted_is bs p.0 p.1 in
-        let l = r.1 in
-        let s = p.2 in
-        let long : suc p.0 ≡ n = omega (arith, s) in
-        subst (λ n. (is_text (take n (b ∷ bs)) ≡ true) × (0 < n) × (n ≤ length (b ∷ bs))) long
-        (ap (λ t. is_quoted (if t then take p.0 bs else b ∷ take p.0 bs)) e ∙ r.0, omega arith, omega (arith, l))
-    by false e h = plain n e (quoted_is (b ∷ bs) n h)
+pub text_is : (bs : List ℕ) (n : ℕ) → text_length bs ≡ Some n → FoundText bs n
+text_is bs n h =
+    let p = from_plus (prefix_at bs) (quoted_length (unprefixed bs)) n h in
+    let r = quoted_is (unprefixed bs) p.0 p.1 in
+    subst (FoundText bs) p.2 (whole bs p.0 r.0 r.1 (quoted_long (take p.0 (unprefixed bs)) r.0))
+  where
+    taken : (m : ℕ) (xs : List ℕ) → 2 ≤ length (take m xs) → 2 ≤ m
+    taken zero [] l = absurd (omega (arith, l))
+    taken zero (x ∷ xs) l = absurd (omega (arith, l))
+    taken (suc zero) [] l = absurd (omega (arith, l))
+    taken (suc zero) (x ∷ []) l = absurd (omega (arith, l))
+    taken (suc zero) (x ∷ (y ∷ xs)) l = absurd (omega (arith, l))
+    taken (suc (suc m)) xs l = omega arith
+
+    two_by : (b c : ℕ) (v : List ℕ) (m : ℕ) (d t : Bool) → is_double_prefix b c ≡ d → is_prefix b ≡ t → 2 ≤ m
+        → is_quoted (take m (drop (if d then 2 else (if t then 1 else 0)) (b ∷ (c ∷ v)))) ≡ true
+        → is_text (take ((if d then 2 else (if t then 1 else 0)) + m) (b ∷ (c ∷ v))) ≡ true
+    two_by b c v m true t e f l h =
+        let long : suc (suc m) ≡ 2 + m = omega arith in
+        subst (λ k. is_text (take k (b ∷ (c ∷ v))) ≡ true) long
+        (ap (λ x. is_quoted (drop (if x then 2 else (if is_prefix b then 1 else 0)) (b ∷ (c ∷ take m v)))) e ∙ h)
+    two_by b c v zero false t e f l h = absurd (omega (arith, l))
+    two_by b c v (suc zero) false t e f l h = absurd (omega (arith, l))
+    two_by b c v (suc (suc m)) false true e f l h =
+        let long : suc (suc (suc m)) ≡ 1 + suc (suc m) = omega arith in
+        subst (λ k. is_text (take k (b ∷ (c ∷ v))) ≡ true) long
+        ((λ i. is_quoted (drop (if e i then 2 else (if f i then 1 else 0)) (b ∷ (c ∷ take (suc m) v)))) ∙ h)
+    two_by b c v (suc (suc m)) false false e f l h =
+        let long : suc (suc m) ≡ 0 + suc (suc m) = omega arith in
+        subst (λ k. is_text (take k (b ∷ (c ∷ v))) ≡ true) long
+        ((λ i. is_quoted (drop (if e i then 2 else (if f i then 1 else 0)) (b ∷ (c ∷ take m v)))) ∙ h)
+
+    short : (m : ℕ) (xs : List ℕ) → length xs ≤ 1 → m ≤ length xs → 2 ≤ m → ⊥
+    short m xs a b c = omega (arith, a, b, c)
+
+    one_by : (b : ℕ) (t : Bool) → length (drop (if t then 1 else 0) (b ∷ [])) ≤ 1
+    one_by b true = omega arith
+    one_by b false = omega arith
+
+    whole : (bs : List ℕ) (m : ℕ) → is_quoted (take m (unprefixed bs)) ≡ true → m ≤ length (unprefixed bs) → 2 ≤ length (take m (unprefixed bs)) → FoundText bs (prefix_at bs + m)
+    whole bs m h within long =
+        let all = prefixed_length bs in
+        let two = taken m (unprefixed bs) long in
+        (text bs h within two, omega (arith, two), omega (arith, within, all))
+      where
+        text : (bs : List ℕ) → is_quoted (take m (unprefixed bs)) ≡ true → m ≤ length (unprefixed bs) → 2 ≤ m → is_text (take (prefix_at bs + m) bs) ≡ true
+        text [] h w l = absurd (omega (arith, w, l))
+        text (b ∷ []) h w l = absurd (short m (unprefixed (b ∷ [])) (one_by b (is_prefix b)) w l)
+        text (b ∷ (c ∷ v)) h w l = two_by b c v m (is_double_prefix b c) (is_prefix b) refl refl l h

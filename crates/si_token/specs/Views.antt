@@ -98,6 +98,7 @@ abbrev pub kind_of : TokenKind → tokens.TokenKind
 kind_of kind.Name = tokens.Name
 kind_of kind.Int = tokens.Int
 kind_of kind.Str = tokens.Str
+kind_of kind.Bytes = tokens.Bytes
 kind_of (kind.Symbol s) = tokens.Sign (symbol_of s)
 kind_of (kind.Keyword k) = tokens.Word (keyword_of k)
 kind_of kind.Newline = tokens.Newline

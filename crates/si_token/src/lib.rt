@@ -8,9 +8,9 @@
 // si_semantics), each a slice of the source, in order, and in the line that its span says; `BadText` says that there is
 // none.
 //
-// Read: `token` (what a token is), `symbols` and `keywords` (the spellings), `numbers` (the values of
-// integer literals), `literal` (the quotes and escapes of str literals), `words` (the word at the front, and where it
-// may stand), `layout` (lines, brackets and blocks), `scan` (the loop over the text).
+// Read: `token` (what a token is), `symbols` and `keywords` (the spellings), `numbers` (the values of integer
+// literals), `literal` (the quotes and escapes of literals of strs and bytes), `words` (the word at the front, and
+// where it may stand), `layout` (lines, brackets and blocks), `scan` (the loop over the text).
 #![tactic(auto)]
 
 mod keywords;
@@ -22,7 +22,7 @@ mod symbols;
 mod token;
 mod words;
 
-pub use literal::{begins_raw, between_quotes, escape, next_character, unprefixed};
+pub use literal::{begins_raw, between_quotes, escape, is_ascii, next_character, unprefixed};
 pub use numbers::int_value;
 pub use scan::{TokenFault, tokens};
 pub use token::{Keyword, Span, Symbol, Token, TokenKind};

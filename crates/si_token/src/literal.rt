@@ -1,10 +1,13 @@
-// What the characters of a str literal stand for: its quotes, and its escapes.
+// What the characters of a literal stand for: its quotes, and its escapes.
 
-ghost use Rattle.std.specs.Prelude.{◌≡◌, ◌+◌, ◌*◌, ◌<◌, ◌≤◌, length, chars, IfSome, SomeIff, IsUtf8};
-ghost use Rattle.std.specs.Option.{option_map};
-ghost use Rattle.si_semantics.specs.Literals.{begins_raw, unprefixed, quotes_at, peeled, between_quotes, letter_escape, digits_within, numbered, behind_letter, escape};
+ghost use Rattle.std.specs.Prelude.{◌≡◌, ◌+◌, ◌*◌, ◌<◌, ◌≤◌, length, chars, nat_lt, IfSome, SomeIff, IsUtf8};
+ghost use Rattle.std.specs.List.{list_all};
+ghost use Rattle.std.specs.Option.{option_map, is_some};
+ghost use Rattle.si_semantics.specs.Literals.{is_raw, is_of_bytes, is_prefix, is_double_prefix, is_of_texts, begins_raw, unprefixed, quotes_at, peeled, between_quotes, letter_escape, digits_within, numbered, behind_letter, escape, value_of_literal};
 ghost use Rattle.si_semantics.specs.Words.{has_value};
 ghost use Rattle.si_token.specs.inner.Literals.{characters, front_of, digit_front, up_to, written_of};
+
+use crate::words::begins_bytes;
 
 // The greatest number of a character.
 const MAX_CHARACTER: u32 = 0x10_ffff;
@@ -38,24 +41,56 @@ pub fn next_character<'a>(text: &'a str) -> Option<(char, &'a str)>
     Some(('\n', behind))
 }
 
-/// Whether `r` stands in front, in either case: then a backslash stands for itself.
+fn is_raw(c: char) -> bool
+    ensures { result ≡ is_raw c }
+{
+    c == 'r' || c == 'R'
+}
+
+fn is_of_bytes(c: char) -> bool
+    ensures { result ≡ is_of_bytes c }
+{
+    c == 'b' || c == 'B'
+}
+
+fn is_prefix(c: char) -> bool
+    ensures { result ≡ is_prefix c }
+{
+    is_raw(c) || is_of_bytes(c) || c == 'u' || c == 'U'
+}
+
+fn is_double_prefix(c: char, d: char) -> bool
+    ensures { result ≡ is_double_prefix c d }
+{
+    is_of_bytes(c) && is_raw(d) || is_raw(c) && is_of_bytes(d)
+}
+
+/// Whether the prefix has an `r`, in either case: then a backslash stands for itself.
 pub fn begins_raw(literal: &str) -> bool
     ensures { result ≡ begins_raw (chars literal.now) }
 {
-    match front(literal) {
-        Some((first, _)) => matches!(first, 'r' | 'R'),
-        None => false,
+    let Some((first, rest)) = front(literal) else {
+        return false;
+    };
+    match front(rest) {
+        Some((second, _)) => is_raw(first) || is_of_bytes(first) && is_raw(second),
+        None => is_raw(first),
     }
 }
 
-/// A literal without its prefix, one of `r` and `u` in either case.
+/// A literal without its prefix, one of `r`, `u`, `b`, or `b` and `r`, in either case.
 pub fn unprefixed<'a>(literal: &'a str) -> &'a str
     ensures { chars result.now ≡ unprefixed (chars literal.now) }
 {
-    match front(literal) {
-        Some(('r' | 'R' | 'u' | 'U', rest)) => rest,
-        _ => literal,
+    let Some((first, rest)) = front(literal) else {
+        return literal;
+    };
+    if let Some((second, behind)) = front(rest) {
+        if is_double_prefix(first, second) {
+            return behind;
+        }
     }
+    if is_prefix(first) { rest } else { literal }
 }
 
 // How many quotes open a literal without prefix.
@@ -183,14 +218,24 @@ fn letter_escape(letter: char) -> Option<char>
     }
 }
 
-/// What the characters after a backslash stand for, a character or none, and how many of them belong to the escape
-/// (Python Language Reference 3.14, 2.5.4 "Escape sequences"); `None` where the escape is refused.
-pub fn escape(behind: &str) -> Option<(Option<char>, usize)>
-    ensures { option_map written_of result ≡ escape (characters behind.now) }
+// What begins an escape in texts alone.
+fn is_of_texts(c: char) -> bool
+    ensures { result ≡ is_of_texts c }
+{
+    c == 'N' || c == 'U' || c == 'u'
+}
+
+/// What the characters after a backslash stand for in bytes, or in a text: a character or none, and how many of them
+/// belong to the escape (Python Language Reference 3.14, 2.5.4 "Escape sequences"); `None` where the escape is refused.
+pub fn escape(bytes: bool, behind: &str) -> Option<(Option<char>, usize)>
+    ensures { option_map written_of result ≡ escape bytes (characters behind.now) }
 {
     let Some((letter, rest)) = next_character(behind) else {
         return Some((Some('\\'), 0));
     };
+    if bytes && is_of_texts(letter) {
+        return Some((Some('\\'), 0));
+    }
     if let Some(value) = letter_escape(letter) {
         return Some((Some(value), 1));
     }
@@ -205,9 +250,29 @@ pub fn escape(behind: &str) -> Option<(Option<char>, usize)>
     }
 }
 
-/// Whether a str literal has a value: each of its escapes is one. In a raw one there is none to look at.
+/// Whether a literal has a value: each of its escapes is one, and bytes are ASCII alone.
 pub fn has_value(literal: &str) -> bool
     ensures { result ≡ has_value literal.now }
+{
+    if !begins_bytes(literal.as_bytes()) {
+        return is_written(false, literal);
+    }
+    if !is_ascii(literal) {
+        return false;
+    }
+    is_written(true, literal)
+}
+
+/// Whether a literal is ASCII alone.
+pub fn is_ascii(literal: &str) -> bool
+    ensures { result ≡ list_all (λ b. nat_lt b 128) literal.now }
+{
+    literal.as_bytes().iter().all(|b| b.is_ascii())
+}
+
+// Whether a literal writes something: each of its escapes is one. In a raw one there is none to look at.
+fn is_written(bytes: bool, literal: &str) -> bool
+    ensures { result ≡ is_some (value_of_literal bytes (chars literal.now)) }
 {
     if begins_raw(literal) {
         return true;
@@ -220,7 +285,7 @@ pub fn has_value(literal: &str) -> bool
         if skipped > 0 {
             skipped -= 1;
         } else if character == '\\' {
-            let Some((_, count)) = escape(behind) else {
+            let Some((_, count)) = escape(bytes, behind) else {
                 return false;
             };
             skipped = count;

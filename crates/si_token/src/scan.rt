@@ -5,7 +5,8 @@ ghost use Rattle.std.specs.Option.{option_map, option_to_list};
 ghost use Rattle.std.specs.Str.{IsUtf8};
 ghost use Rattle.si_token.specs.inner.Reading.{word_at};
 ghost use Rattle.si_semantics.specs.Words.{spelled, keywords};
-ghost use Rattle.si_semantics.specs.Layout.{name_kind, HasTokens};
+ghost use Rattle.si_semantics.specs.Literals.{begins_bytes};
+ghost use Rattle.si_semantics.specs.Layout.{literal_kind, name_kind, HasTokens};
 ghost use Rattle.si_semantics.specs.Layout as lines;
 ghost use Rattle.si_semantics.specs.Tokens as tokens;
 ghost use Rattle.si_token.specs.Views.{kind_of, sort_of, token_of, place_of};
@@ -20,7 +21,7 @@ use crate::layout::{
 };
 use crate::symbols::symbol;
 use crate::token::{Token, TokenKind};
-use crate::words::{Sort, is_allowed, longest_word};
+use crate::words::{Sort, begins_bytes, is_allowed, longest_word};
 use si_plain::line_ends;
 use std::alloc::{AllocError, AllocFailed, Global};
 
@@ -63,6 +64,17 @@ fn name_kind(word: &str) -> TokenKind
     }
 }
 
+// What a literal in quotes is.
+fn literal_kind(word: &str) -> TokenKind
+    ensures { kind_of result ≡ literal_kind (begins_bytes word.now) }
+{
+    if begins_bytes(word.as_bytes()) {
+        TokenKind::Bytes
+    } else {
+        TokenKind::Str
+    }
+}
+
 // The kind of token that a word is; blanks, comments and line ends are none.
 fn token_kind(sort: Sort, word: &str) -> Option<TokenKind>
     ensures { option_map kind_of result ≡ lines.kind_of (sort_of sort) word.now }
@@ -70,7 +82,7 @@ fn token_kind(sort: Sort, word: &str) -> Option<TokenKind>
     match sort {
         Sort::Name => Some(name_kind(word)),
         Sort::Int => Some(TokenKind::Int),
-        Sort::Text => Some(TokenKind::Str),
+        Sort::Text => Some(literal_kind(word)),
         Sort::Operator => {
             let found = symbol(word.as_bytes())?;
             Some(TokenKind::Symbol(found))

@@ -94,6 +94,8 @@ pub enum TokenKind {
     Int,
     /// A str literal that has a value, with its prefix and quotes.
     Str,
+    /// A bytes literal that has a value, with its prefix and quotes.
+    Bytes,
     Symbol(Symbol),
     Keyword(Keyword),
     /// The end of a line that has tokens. Its text is the line end, and empty where the text ends without one.

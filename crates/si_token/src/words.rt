@@ -3,9 +3,9 @@
 ghost use Rattle.std.specs.Prelude.{◌≡◌, ◌<◌, ◌≤◌, ◌==◌, length, IfSome, false};
 ghost use Rattle.std.specs.List.{prefix_len};
 ghost use Rattle.std.specs.Option.{option_map};
-ghost use Rattle.si_semantics.specs.Literals.{is_quote, is_prefix, unprefixed, quotes_at};
+ghost use Rattle.si_semantics.specs.Literals.{is_quote, is_raw, is_of_bytes, is_prefix, is_double_prefix, prefix_at, unprefixed, begins_bytes, quotes_at};
 ghost use Rattle.si_semantics.specs.Words.{continues_name, begins_name, in_comment, is_digit, is_plain, is_number, is_apart, is_prefixing, is_closed, is_allowed};
-ghost use Rattle.si_token.specs.inner.Reading.{sort_of_byte, sort_at, body_length, quoted_length, text_length, line_end_length, length_of, longest_at};
+ghost use Rattle.si_token.specs.inner.Reading.{sort_of_byte, begins_quoted, sort_at, body_length, quoted_length, text_length, line_end_length, length_of, longest_at};
 ghost use Rattle.si_token.specs.Views.{sort_of, word_of};
 
 use crate::literal::has_value;
@@ -58,11 +58,53 @@ fn is_quote(b: u8) -> bool
     b == b'\'' || b == b'"'
 }
 
-// A prefix of a literal.
+// A prefix of a literal, of one letter.
 fn is_prefix(b: u8) -> bool
     ensures { result ≡ is_prefix b }
 {
-    matches!(b, b'r' | b'R' | b'u' | b'U')
+    is_raw(b) || is_of_bytes(b) || b == b'u' || b == b'U'
+}
+
+fn is_raw(b: u8) -> bool
+    ensures { result ≡ is_raw b }
+{
+    b == b'r' || b == b'R'
+}
+
+fn is_of_bytes(b: u8) -> bool
+    ensures { result ≡ is_of_bytes b }
+{
+    b == b'b' || b == b'B'
+}
+
+// Two letters that are a prefix of a literal together.
+fn is_double_prefix(b: u8, c: u8) -> bool
+    ensures { result ≡ is_double_prefix b c }
+{
+    is_of_bytes(b) && is_raw(c) || is_raw(b) && is_of_bytes(c)
+}
+
+// How many letters a literal's prefix has.
+fn prefix_length(bytes: &[u8]) -> usize
+    ensures gives { result ≡ prefix_at bytes.now }
+    ensures within { result ≤ length bytes.now }
+{
+    match bytes {
+        [first, second, ..] if is_double_prefix(*first, *second) => 2,
+        [first, ..] if is_prefix(*first) => 1,
+        _ => 0,
+    }
+}
+
+/// Whether a literal is one of bytes.
+pub fn begins_bytes(word: &[u8]) -> bool
+    ensures { result ≡ begins_bytes word.now }
+{
+    match word {
+        [] => false,
+        [first] => is_of_bytes(*first),
+        [first, second, ..] => is_of_bytes(*first) || is_raw(*first) && is_of_bytes(*second),
+    }
 }
 
 // What stands for itself between so many quotes.
@@ -92,13 +134,23 @@ fn sort_of_byte(first: u8) -> Sort
     }
 }
 
+// Whether a quote stands at the front.
+fn begins_quoted(bytes: &[u8]) -> bool
+    ensures { result ≡ begins_quoted bytes.now }
+{
+    match bytes {
+        [first, ..] => is_quote(*first),
+        [] => false,
+    }
+}
+
 // The sort of the words at the front.
 fn sort_at(bytes: &[u8]) -> Sort
     ensures { sort_of result ≡ sort_at bytes.now }
 {
     match bytes {
         [] => Sort::Operator,
-        [first, next, ..] if is_prefix(*first) && is_quote(*next) => Sort::Text,
+        _ if begins_quoted(unprefixed(bytes)) => Sort::Text,
         [first, ..] => sort_of_byte(*first),
     }
 }
@@ -184,10 +236,8 @@ fn quoted_length(bytes: &[u8]) -> Option<usize>
 fn text_length(bytes: &[u8]) -> Option<usize>
     ensures { result ≡ text_length bytes.now }
 {
-    match bytes {
-        [first, quoted @ ..] if is_prefix(*first) => Some(1 + quoted_length(quoted)?),
-        _ => quoted_length(bytes),
-    }
+    let prefix = prefix_length(bytes);
+    Some(prefix + quoted_length(&bytes[prefix..])?)
 }
 
 fn line_end_length(bytes: &[u8]) -> usize
@@ -231,12 +281,13 @@ fn is_apart(rest: &[u8]) -> bool
     }
 }
 
-// A letter before a quote is a prefix.
+// A letter or two before a quote are a prefix.
 fn is_prefixing(word: &[u8], rest: &[u8]) -> bool
     ensures { result ≡ is_prefixing word.now rest.now }
 {
     match (word, rest) {
         ([letter], [next, ..]) => is_prefix(*letter) && is_quote(*next),
+        ([first, second], [next, ..]) => is_double_prefix(*first, *second) && is_quote(*next),
         _ => false,
     }
 }
@@ -245,10 +296,7 @@ fn is_prefixing(word: &[u8], rest: &[u8]) -> bool
 fn unprefixed(word: &[u8]) -> &[u8]
     ensures { result.now ≡ unprefixed word.now }
 {
-    match word {
-        [first, quoted @ ..] if is_prefix(*first) => quoted,
-        _ => word,
-    }
+    &word[prefix_length(word)..]
 }
 
 // After an empty literal no third quote stands.

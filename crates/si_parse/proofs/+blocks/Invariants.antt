@@ -28,6 +28,9 @@ decreases-block::elifs l = 9 * l.parts + 6
 abbrev pub decreases-block::branch : goal.decreases-block::branch
 decreases-block::branch l = 9 * l.parts + 5
 
+abbrev pub decreases-block::over : goal.decreases-block::over
+decreases-block::over l = 9 * l.parts + 5
+
 abbrev pub decreases-block::otherwise : goal.decreases-block::otherwise
 decreases-block::otherwise l = 9 * l.parts + 5
 

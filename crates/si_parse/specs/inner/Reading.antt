@@ -1,6 +1,6 @@
 -- Reading as a function on lists of terminals, which the parser computes: what stands between grammar and code.
 use Rattle.std.specs.Prelude.{ℕ, zero, suc, ◌+◌, max, List, [], ◌∷◌, ◌++◌, length, Option, Some, None, option_map, nat_lt, nat_le, nat_eq, Bool, true, false, not, ◌&&◌, if◌then◌else◌}
-use Rattle.si_semantics.specs.Value.{Text, Nothing, Truth, Int, Str}
+use Rattle.si_semantics.specs.Value.{Text, Nothing, Truth, Int, Str, Bytes}
 use Rattle.si_semantics.specs.Tree.{BinaryOperator, UnaryOperator, ComparisonOperator, BooleanOperator, Expr, Stmt, Target, Stmts}
 use Rattle.si_semantics.specs.Tree as tree
 use Rattle.si_semantics.specs.Scope.{is_in}
@@ -8,7 +8,7 @@ use Rattle.si_semantics.specs.Tokens.{Symbol, Keyword}
 use Rattle.si_semantics.specs.Tokens as token
 use Rattle.si_semantics.specs.Text.{max_length}
 use Rattle.si_parse.specs.inner.Numbers.{same_symbol, same_keyword}
-use Rattle.si_semantics.specs.Grammar.{Terminal, NAME, NUMBER, STRING, Sign, Word, NEWLINE, INDENT, DEDENT, ENDMARKER, Argument, Positional, ByName, value_of_int, value_of_str, left_level, right_level, prefix_level, item_level, is_identity, Link, chain_of, exprs_of, max_depth, Branch, stmts_of, elifs_of, Clause, clauses_of, max_nesting, max_parameters, word_of}
+use Rattle.si_semantics.specs.Grammar.{Terminal, NAME, NUMBER, STRING, BYTES, Sign, Word, NEWLINE, INDENT, DEDENT, ENDMARKER, Argument, Positional, ByName, value_of_int, value_of_str, value_of_bytes, left_level, right_level, prefix_level, item_level, is_identity, Link, chain_of, exprs_of, max_depth, Branch, stmts_of, elifs_of, Clause, clauses_of, max_nesting, max_parameters, word_of}
 
 -- ---- one terminal of look-ahead
 
@@ -100,11 +100,12 @@ strength_of nothing = 0
 abbrev pub strength_at : List Terminal → ℕ
 strength_at ts = strength_of (continuation_at ts)
 
--- whether a str literal stands first
-abbrev pub begins_str : List Terminal → Bool
-begins_str [] = false
-begins_str (STRING literal ∷ ts) = true
-begins_str (_ ∷ ts) = false
+-- whether a literal of a str or of bytes stands first
+abbrev pub begins_literal : List Terminal → Bool
+begins_literal [] = false
+begins_literal (STRING literal ∷ ts) = true
+begins_literal (BYTES literal ∷ ts) = true
+begins_literal (_ ∷ ts) = false
 
 -- the terminals after the first
 abbrev pub rest_of : List Terminal → List Terminal
@@ -165,6 +166,18 @@ Found = Expr × ℕ × List Terminal
 
 abbrev pub Parsed : Type 0
 Parsed = Option Found
+
+-- what was read, its depth, and the terminals after it
+abbrev pub Measured : Type 0 → Type 0
+Measured A = A × ℕ × List Terminal
+
+-- the items with one more, and the greatest depth
+abbrev pub with_item : {A : Type 0} → List A × ℕ → Measured A → List A × ℕ
+with_item b r = (b.0 ++ r.0 ∷ [], max b.1 r.1)
+
+-- Items with commas between them, up to a closed bracket, after those before. The number bounds them.
+abbrev pub enclosed_by : {A : Type 0} → (List Terminal → Option (Measured A)) → ℕ → List A × ℕ → List Terminal → Option ((List A × ℕ) × List Terminal)
+enclosed_by item k b ts = separated_by with_item (λ r. r.2) item (after (Sign token.Comma)) (after (Sign token.RightParenthesis)) k b ts
 
 -- Operands after operators, and the greatest depth among them, as long as an operator follows. The number bounds them.
 abbrev pub chain_from : {O X : Type 0} → (O → Expr → X) → (O → List Terminal → Parsed) → (List X × ℕ → List Terminal → Option ((List X × ℕ) × List Terminal)) → List X × ℕ → List Terminal
@@ -243,7 +256,7 @@ Collected = List Expr × ℕ
 
 -- an argument, its depth, and the terminals after it
 abbrev pub Argued : Type 0
-Argued = Argument × ℕ × List Terminal
+Argued = Measured Argument
 
 -- the name by which an argument is passed, and the terminals after its `=`
 abbrev pub named_at : List Terminal → Option (Text × List Terminal)
@@ -260,14 +273,10 @@ argument_from sub ts None = then_read (sub 1 ts) (λ r. Some (Positional r.0, r.
 abbrev pub argument_by : Parser → List Terminal → Option Argued
 argument_by sub ts = argument_from sub ts (named_at ts)
 
--- the arguments with one more, and the greatest depth
-abbrev pub with_argument : List Argument × ℕ → Argued → List Argument × ℕ
-with_argument b r = (b.0 ++ r.0 ∷ [], max b.1 r.1)
-
 -- the arguments, once it is known whether the bracket is closed at once
 abbrev pub arguments_from : Parser → List Terminal → Option (List Terminal) → Option ((List Argument × ℕ) × List Terminal)
 arguments_from sub ts (Some rest) = Some (([], 0), rest)
-arguments_from sub ts None = separated_by with_argument (λ r. r.2) (argument_by sub) (after (Sign token.Comma)) (after (Sign token.RightParenthesis)) (length ts) ([], 0) ts
+arguments_from sub ts None = enclosed_by (argument_by sub) (length ts) ([], 0) ts
 
 -- the arguments after an open bracket, the greatest depth among them, and the closed one
 abbrev pub arguments_by : Parser → List Terminal → Option ((List Argument × ℕ) × List Terminal)
@@ -388,10 +397,24 @@ continued_by sub n l (suc k) e d ts =
     if nat_lt (strength_at ts) l then Some (e, d, ts)
     else then_read (extended_by sub n e d ts (continuation_at ts)) (λ r. continued_by sub n l k r.0 r.1 r.2)
 
--- the tree in round brackets, where the closed one follows
-abbrev pub closed : Expr → ℕ → Option (List Terminal) → Parsed
-closed e d (Some rest) = Some (e, d + 1, rest)
-closed e d None = None
+-- the items of a tuple, from after a first one and its comma, once it is known whether the bracket is closed there
+abbrev pub items_from : Parser → Collected → List Terminal → Option (List Terminal) → Option (Collected × List Terminal)
+items_from sub b ts (Some rest) = Some (b, rest)
+items_from sub b ts None = enclosed_by (sub 1) (length ts) b ts
+
+-- the items of a tuple whose first one this is, from after its comma
+abbrev pub items_by : Parser → Expr → ℕ → List Terminal → Option (Collected × List Terminal)
+items_by sub e d ts = items_from sub (e ∷ [], d) ts (after (Sign token.RightParenthesis) ts)
+
+-- the tuple of items that were read
+abbrev pub tupled : Collected × List Terminal → Parsed
+tupled r = Some (tree.Tuple (exprs_of r.0.0), r.0.1 + 1, r.1)
+
+-- what the first expression in round brackets begins: a group where the closed one follows, a tuple where a comma does
+abbrev pub closed : Parser → Expr → ℕ → (close comma : Option (List Terminal)) → Parsed
+closed sub e d (Some rest) more = Some (e, d + 1, rest)
+closed sub e d None (Some more) = then_read (items_by sub e d more) tupled
+closed sub e d None None = None
 
 -- the joined text of the str literals that stand first, after a text
 abbrev pub strings_by : Text → List Terminal → Option (Text × List Terminal)
@@ -407,6 +430,16 @@ short r = if nat_le (length r.0) max_length then Some r else None
 abbrev pub str_by : List Terminal → Option (Text × List Terminal)
 str_by ts = then_read (strings_by [] ts) short
 
+-- the joined bytes of the bytes literals that stand first, after others
+abbrev pub octets_by : List ℕ → List Terminal → Option (List ℕ × List Terminal)
+octets_by bs [] = Some (bs, [])
+octets_by bs (BYTES literal ∷ ts) = then_read (value_of_bytes literal) (λ s. octets_by (bs ++ s) ts)
+octets_by bs (t ∷ ts) = Some (bs, t ∷ ts)
+
+-- the bytes of the bytes literals that stand first, where they are few enough
+abbrev pub bytes_by : List Terminal → Option (List ℕ × List Terminal)
+bytes_by ts = then_read (octets_by [] ts) short
+
 -- the operator that stands before an operand
 abbrev pub prefix_at : List Terminal → Option UnaryOperator
 prefix_at [] = None
@@ -419,14 +452,24 @@ prefix_at (_ ∷ ts) = None
 abbrev pub unary_by : Parser → ℕ → UnaryOperator → List Terminal → Parsed
 unary_by sub l op ts = if nat_le l (prefix_level op) then then_read (sub (prefix_level op) ts) (λ r. Some (tree.Unary op r.0, r.1 + 1, r.2)) else None
 
+abbrev pub grouped : Parser → Found → Parsed
+grouped sub r = closed sub r.0 r.1 (after (Sign token.RightParenthesis) r.2) (after (Sign token.Comma) r.2)
+
+-- what stands in round brackets, once it is known whether they are closed at once
+abbrev pub bracketed_from : Parser → List Terminal → Option (List Terminal) → Parsed
+bracketed_from sub ts (Some rest) = Some (tree.Tuple tree.NoExprs, 1, rest)
+bracketed_from sub ts None = then_read (sub 1 ts) (grouped sub)
+
+-- from after the open bracket
 abbrev pub bracketed_by : Parser → List Terminal → Parsed
-bracketed_by sub ts = then_read (sub 1 ts) (λ r. closed r.0 r.1 (after (Sign token.RightParenthesis) r.2))
+bracketed_by sub ts = bracketed_from sub ts (after (Sign token.RightParenthesis) ts)
 
 abbrev pub atom_by : Parser → List Terminal → Parsed
 atom_by sub [] = None
 atom_by sub (NAME x ∷ ts) = Some (tree.Name x, 1, ts)
 atom_by sub (NUMBER digits ∷ ts) = then_read (value_of_int digits) (λ n. Some (tree.Constant (Int n), 1, ts))
 atom_by sub (STRING literal ∷ ts) = then_read (str_by (STRING literal ∷ ts)) (λ r. Some (tree.Constant (Str r.0), 1, r.1))
+atom_by sub (BYTES literal ∷ ts) = then_read (bytes_by (BYTES literal ∷ ts)) (λ r. Some (tree.Constant (Bytes r.0), 1, r.1))
 atom_by sub (Word token.NoneWord ∷ ts) = Some (tree.Constant Nothing, 1, ts)
 atom_by sub (Word token.TrueWord ∷ ts) = Some (tree.Constant (Truth true), 1, ts)
 atom_by sub (Word token.FalseWord ∷ ts) = Some (tree.Constant (Truth false), 1, ts)
@@ -447,6 +490,47 @@ expression_by sub n l ts = then_read (operand_by sub l ts) (λ r. continued_by s
 unfoldable pub expression_at : ℕ → Parser
 expression_at zero l ts = None
 expression_at (suc n) l ts = expression_by (expression_at n) (suc n) l ts
+
+-- ---- tuples round which no brackets stand
+
+-- whether no item can stand here: where a statement ends, or the test of a loop
+abbrev pub ends_items : List Terminal → Bool
+ends_items [] = false
+ends_items (NEWLINE ∷ ts) = true
+ends_items (Sign token.Semicolon ∷ ts) = true
+ends_items (Sign token.Colon ∷ ts) = true
+ends_items (_ ∷ ts) = false
+
+-- the terminals after a comma behind which an item has to stand
+abbrev pub after_comma : Step
+after_comma ts = then_read (after (Sign token.Comma) ts) (λ rest. if ends_items rest then None else Some rest)
+
+abbrev pub item_follows : Option (List Terminal) → Option (Bool × List Terminal)
+item_follows rest = option_map (λ ts. (true, ts)) rest
+
+-- the items after others, each behind its comma
+abbrev pub further_by : Parser → Collected → List Terminal → Option (Collected × List Terminal)
+further_by sub b ts = chain_by (λ o e. e) (λ ts. item_follows (after_comma ts)) (λ o. sub 1) (length ts) b ts
+
+-- the terminals after a comma, where one stands first
+abbrev pub past_from : List Terminal → Option (List Terminal) → List Terminal
+past_from ts None = ts
+past_from ts (Some rest) = rest
+
+abbrev pub past_comma : List Terminal → List Terminal
+past_comma ts = past_from ts (after (Sign token.Comma) ts)
+
+-- the tuple of items that were read
+abbrev pub unbracketed : ℕ → Collected × List Terminal → Parsed
+unbracketed n r = within n (tree.Tuple (exprs_of r.0.0)) (r.0.1 + 1) (past_comma r.1)
+
+-- an expression, or the tuple that it begins, once it is known whether a comma follows
+abbrev pub expressions_from : Parser → ℕ → Found → Option (List Terminal) → Parsed
+expressions_from sub n r None = Some r
+expressions_from sub n r (Some rest) = then_read (further_by sub (r.0 ∷ [], r.1) r.2) (unbracketed n)
+
+abbrev pub expressions_by : Parser → List Terminal → Parsed
+expressions_by sub ts = then_read (sub 1 ts) (λ r. expressions_from sub max_depth r (after (Sign token.Comma) r.2))
 
 -- ---- statements
 
@@ -483,10 +567,10 @@ assigned t (Some op) e = tree.Augment t op e
 -- what an expression begins: an assignment to it, or itself
 abbrev pub statement_from : Parser → List Terminal → Expr → Option (Option BinaryOperator × List Terminal) → Option (Stmt × List Terminal)
 statement_from sub ts e None = Some (tree.Evaluate e, ts)
-statement_from sub ts e (Some a) = then_read (as_target e) (λ t. then_read (sub 1 a.1) (λ r. Some (assigned t a.0 r.0, r.2)))
+statement_from sub ts e (Some a) = then_read (as_target e) (λ t. then_read (expressions_by sub a.1) (λ r. Some (assigned t a.0 r.0, r.2)))
 
 abbrev pub spelled_by : Parser → List Terminal → Option (Stmt × List Terminal)
-spelled_by sub ts = then_read (sub 1 ts) (λ r. statement_from sub r.2 r.0 (assignment_at r.2))
+spelled_by sub ts = then_read (expressions_by sub ts) (λ r. statement_from sub r.2 r.0 (assignment_at r.2))
 
 -- the statement that is one word
 abbrev pub word_statement : List Terminal → Option Stmt
@@ -503,17 +587,17 @@ ends_small (NEWLINE ∷ ts) = true
 ends_small (Sign token.Semicolon ∷ ts) = true
 ends_small (_ ∷ ts) = false
 
--- the expression in front of the end of a small statement, where there is one
-abbrev pub value_by : Parser → List Terminal → Option (Option Expr × List Terminal)
-value_by sub ts = if ends_small ts then Some (None, ts) else then_read (sub 1 ts) (λ r. Some (Some r.0, r.2))
+-- what is read in front of the end of a small statement, where there is something
+abbrev pub value_by : (List Terminal → Parsed) → List Terminal → Option (Option Expr × List Terminal)
+value_by read ts = if ends_small ts then Some (None, ts) else then_read (read ts) (λ r. Some (Some r.0, r.2))
 
 -- from after the `return`
 abbrev pub returned_by : Parser → List Terminal → Option (Stmt × List Terminal)
-returned_by sub ts = then_read (value_by sub ts) (λ r. Some (tree.Return r.0, r.1))
+returned_by sub ts = then_read (value_by (expressions_by sub) ts) (λ r. Some (tree.Return r.0, r.1))
 
 -- from after the `raise`
 abbrev pub raised_by : Parser → List Terminal → Option (Stmt × List Terminal)
-raised_by sub ts = then_read (value_by sub ts) (λ r. Some (tree.Raise r.0, r.1))
+raised_by sub ts = then_read (value_by (sub 1) ts) (λ r. Some (tree.Raise r.0, r.1))
 
 -- from after the `global`
 abbrev pub global_by : List Terminal → Option (Stmt × List Terminal)
@@ -563,6 +647,10 @@ suite_by line ts = then_read (after (Sign token.Colon) ts) (λ rest. suite_from 
 abbrev pub branch_by : LineParser → List Terminal → Option (Branch × List Terminal)
 branch_by line ts = then_read (expression_at max_depth 1 ts) (λ t. then_read (suite_by line t.2) (λ b. Some ((t.0, stmts_of b.0), b.1)))
 
+-- what a `for` goes over, and the suite after it
+abbrev pub over_by : LineParser → List Terminal → Option (Branch × List Terminal)
+over_by line ts = then_read (expressions_by (expression_at max_depth) ts) (λ t. then_read (suite_by line t.2) (λ b. Some ((t.0, stmts_of b.0), b.1)))
+
 abbrev pub with_branch : List Branch → Branch × List Terminal → Option (List Branch × List Terminal)
 with_branch bs r = Some (bs ++ r.0 ∷ [], r.1)
 
@@ -609,7 +697,7 @@ joined_for t b o = Some (tree.For t b.0 b.1 (stmts_of o.0), o.1)
 
 -- from after the `for`
 abbrev pub for_by : LineParser → List Terminal → Option (Stmt × List Terminal)
-for_by line ts = then_read (target_by ts) (λ t. then_read (branch_by line t.1) (λ b. then_read (otherwise_by line b.1) (joined_for t.0 b.0)))
+for_by line ts = then_read (target_by ts) (λ t. then_read (over_by line t.1) (λ b. then_read (otherwise_by line b.1) (joined_for t.0 b.0)))
 
 -- a function of this name and these parameters, from its suite on
 abbrev pub defined_by : LineParser → Text → List Text × List Terminal → Option (Stmt × List Terminal)

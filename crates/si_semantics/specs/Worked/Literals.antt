@@ -1,6 +1,6 @@
 -- Worked cases: what literals are, computed from the definitions.
 use Rattle.std.specs.Prelude.{◌≡◌, codes, List, ℕ, Bool, [], ◌∷◌, pos, Some, None, true, false}
-use Rattle.si_semantics.specs.Literals.{value_of_int, value_of_str}
+use Rattle.si_semantics.specs.Literals.{value_of_int, value_of_str, value_of_bytes}
 use Rattle.si_semantics.specs.Words as words
 use Rattle.si_semantics.specs.Words.{is_text, is_allowed}
 
@@ -78,3 +78,21 @@ pub record LiteralCases : Type 0 where
   pub raw_named_character : may_stand (codes "R'\\N{a}'") ≡ true
   pub backslash_before_the_escape : may_stand (codes "'\\\\400'") ≡ true
   pub unknown_escape : may_stand (codes "'\\q'") ≡ true
+  pub bytes_literal : is_text (codes "b'a'") ≡ true
+  pub raw_bytes : is_text (codes "rB\"\\\"\"") ≡ true
+  pub bytes_that_are_raw : is_text (codes "Br'''a''\n'''") ≡ true
+  pub two_prefixes_of_bytes : is_text (codes "bb''") ≡ false
+  pub prefixes_of_both : is_text (codes "ub''") ≡ false
+  pub three_prefixes : is_text (codes "rbr''") ≡ false
+  pub value_of_plain_bytes : value_of_bytes (codes "b'a~'") ≡ Some (codes "a~")
+  pub value_of_no_bytes : value_of_bytes (codes "B\"\"") ≡ Some []
+  pub value_of_escaped_bytes : value_of_bytes (codes "b'\\x00\\xff\\377\\0\\n\\\r\n'") ≡ Some (0 ∷ 255 ∷ 255 ∷ 0 ∷ 10 ∷ [])
+  pub texts_escapes_stay_in_bytes : value_of_bytes (codes "b'\\u0041\\U\\N{a}\\q'") ≡ Some (codes "\\u0041\\U\\N{a}\\q")
+  pub value_of_raw_bytes : value_of_bytes (codes "bR'\\x00\\''") ≡ Some (codes "\\x00\\'")
+  pub bytes_past_ascii : value_of_bytes (98 ∷ 39 ∷ 195 ∷ 169 ∷ 39 ∷ []) ≡ None
+  pub octal_too_large_in_bytes : value_of_bytes (codes "b'\\400'") ≡ None
+  pub no_digit_behind_x_in_bytes : value_of_bytes (codes "b'\\x4'") ≡ None
+  pub bytes_may_stand : may_stand (codes "rb'\\400'") ≡ true
+  pub bytes_past_ascii_refused : may_stand (114 ∷ 98 ∷ 39 ∷ 195 ∷ 169 ∷ 39 ∷ []) ≡ false
+  pub bytes_with_a_bad_escape : may_stand (codes "b'\\x4'") ≡ false
+  pub bytes_with_an_escape_of_texts : may_stand (codes "b'\\u12'") ≡ true

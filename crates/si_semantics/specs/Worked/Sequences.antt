@@ -1,11 +1,11 @@
 -- Worked cases of `in` and of subscriptions: what scripts print and how they end, computed from the definitions.
-use Rattle.std.specs.Prelude.{◌≡◌, codes, ℕ, List, [], ◌∷◌, ◌++◌, true, false}
-use Rattle.si_semantics.specs.Value.{Text, Nothing, Truth}
+use Rattle.std.specs.Prelude.{◌≡◌, codes, [], ◌∷◌}
+use Rattle.si_semantics.specs.Value.{Text, Nothing}
 use Rattle.si_semantics.specs.Tree as tree
 use Rattle.si_semantics.specs.Tree.{Expr}
 use Rattle.si_semantics.specs.Worked.Straight.{int, str, minus, compared}
-use Rattle.si_semantics.specs.Worked.Functions.{called, prints}
-use Rattle.si_semantics.specs.Worked.Scripts.{a, a_range, says, ends}
+use Rattle.si_semantics.specs.Worked.Functions.{called}
+use Rattle.si_semantics.specs.Worked.Scripts.{a_range, ends}
 use Rattle.si_semantics.specs.Worked.BuiltIns.{true_value, printed, wrong_type, least_integer}
 
 -- ---- scripts

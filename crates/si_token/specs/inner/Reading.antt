@@ -1,7 +1,7 @@
 -- The word at the front as a function on lists, which the code computes.
 use Rattle.std.specs.Prelude.{ℕ, suc, ◌+◌, ◌==◌, ◌&&◌, ◌||◌, List, [], ◌∷◌, Bool, false, Option, Some, None, take, drop, if◌then◌else◌}
 use Rattle.std.specs.List.{prefix_len}
-use Rattle.si_semantics.specs.Literals.{is_quote, is_prefix, quotes_at}
+use Rattle.si_semantics.specs.Literals.{is_quote, prefix_at, unprefixed, quotes_at}
 use Rattle.si_semantics.specs.Words.{Sort, Name, Int, Text, Operator, Spaces, Tabs, Comment, LineEnd, is_digit, begins_name, continues_name, is_space, is_tab, is_hash, is_plain, in_comment, symbols, spelled, is_allowed}
 
 abbrev pub then_read : {A B : Type 0} → Option A → (A → Option B) → Option B
@@ -20,11 +20,15 @@ sort_of_byte b =
     else (if (b == 10) || (b == 13) then LineEnd
     else Operator))))))
 
--- what sort of word stands at the front
+-- a quote stands at the front
+abbrev pub begins_quoted : List ℕ → Bool
+begins_quoted [] = false
+begins_quoted (b ∷ bs) = is_quote b
+
+-- what sort of word stands at the front: a literal where a quote does, behind a prefix or without
 abbrev pub sort_at : List ℕ → Sort
 sort_at [] = Operator
-sort_at (b ∷ []) = sort_of_byte b
-sort_at (b ∷ (c ∷ bs)) = if is_prefix b && is_quote c then Text else sort_of_byte b
+sort_at (b ∷ bs) = if begins_quoted (unprefixed (b ∷ bs)) then Text else sort_of_byte b
 
 abbrev pub add_one : Option ℕ → Option ℕ
 add_one None = None
@@ -55,8 +59,7 @@ quoted_length (quote ∷ bs) =
     if is_quote quote then plus (quotes_at (quote ∷ bs)) (body_length (quotes_at (quote ∷ bs)) quote 0 false (drop (quotes_at (quote ∷ bs)) (quote ∷ bs))) else None
 
 abbrev pub text_length : List ℕ → Option ℕ
-text_length [] = None
-text_length (b ∷ bs) = if is_prefix b then plus 1 (quoted_length bs) else quoted_length (b ∷ bs)
+text_length bs = plus (prefix_at bs) (quoted_length (unprefixed bs))
 
 abbrev pub some_if : {A : Type 0} → Option A → ℕ → Option ℕ → Option ℕ
 some_if None n o = o

@@ -5,6 +5,8 @@ use Rattle.si_arena.specs.Texts.{text_of}
 use Rattle.si_arena.specs.Bytes.{bytes_of}
 use Rattle.si_ops.proofs.Running.{stood, goes_at, ints_go, int_truth_go, truth_int_go, truths_go, text_int_go, text_truth_go, int_text_go, truth_text_go, count_fits}
 use Rattle.si_ops.proofs.RunningBytes.{bytes_int_go, bytes_truth_go, int_bytes_go, truth_bytes_go}
+use Rattle.si_ops.specs.Operands.{members_of}
+use Rattle.si_ops.proofs.RunningTuples.{tuple_int_go, tuple_truth_go, int_tuple_go, truth_tuple_go}
 use Rattle.si_ops.proofs.arithmetic.operands.Goals as goal
 
 pub returns-in-Integer-Integer : goal.returns-in-Integer-Integer
@@ -199,4 +201,73 @@ returns-in-Bytes-Bytes c =
     let q = stood m c.args.right _ _ c.of-second.ensures k.is-1 in
     let e = c.joined_bytes in
     let g = goes_at o c.args.left c.args.right m e.new.arena e.result u v (pure.Bytes (bytes_of m.texts c.args.left)) (pure.Bytes (bytes_of m.texts c.args.right)) p q (record { runs = e.ensures.runs; memory = e.ensures.memory }) in
+    record { runs = g.runs; memory = g.memory }
+
+pub returns-in-Tuple-Integer : goal.returns-in-Tuple-Integer
+returns-in-Tuple-Integer c =
+    let m = c.args.arena.now in
+    let o = c.args.operator in
+    let k = c.in-Tuple-Integer in
+    let u = value_of m c.args.left in
+    let v = value_of m c.args.right in
+    let p = stood m c.args.left _ _ c.of-first.ensures k.is-0 in
+    let q = stood m c.args.right _ _ c.of-second.ensures k.is-1 in
+    let b : k.n ≡ to_z w64 (of_z w64 k.n) = search rules in
+    let e = c.tuple_copies-in-Tuple-Integer in
+    let g = tuple_int_go o c.args.left c.args.right m e.new.arena e.result u v (members_of u) (to_z w64 (of_z w64 k.n)) (record { runs = e.ensures.runs; memory = e.ensures.memory }) p (q ∙ ap pure.Int b) in
+    record { runs = g.runs; memory = g.memory }
+
+pub returns-in-Tuple-Truth : goal.returns-in-Tuple-Truth
+returns-in-Tuple-Truth c =
+    let m = c.args.arena.now in
+    let o = c.args.operator in
+    let k = c.in-Tuple-Truth in
+    let u = value_of m c.args.left in
+    let v = value_of m c.args.right in
+    let p = stood m c.args.left _ _ c.of-first.ensures k.is-0 in
+    let q = stood m c.args.right _ _ c.of-second.ensures k.is-1 in
+    let e = c.tuple_copies-in-Tuple-Truth in
+    let n = c.int_of_truth-in-Tuple-Truth in
+    let g = tuple_truth_go o c.args.left c.args.right m e.new.arena e.result u v (members_of u) (to_z w64 (of_z w64 n.result)) k.b (record { runs = e.ensures.runs; memory = e.ensures.memory }) p q (count_fits k.b n.result n.ensures) in
+    record { runs = g.runs; memory = g.memory }
+
+pub returns-in-Integer-Tuple : goal.returns-in-Integer-Tuple
+returns-in-Integer-Tuple c =
+    let m = c.args.arena.now in
+    let o = c.args.operator in
+    let k = c.in-Integer-Tuple in
+    let u = value_of m c.args.left in
+    let v = value_of m c.args.right in
+    let p = stood m c.args.left _ _ c.of-first.ensures k.is-0 in
+    let q = stood m c.args.right _ _ c.of-second.ensures k.is-1 in
+    let a : k.n ≡ to_z w64 (of_z w64 k.n) = search rules in
+    let e = c.tuple_copies in
+    let g = int_tuple_go o c.args.left c.args.right m e.new.arena e.result u v (members_of v) (to_z w64 (of_z w64 k.n)) (record { runs = e.ensures.runs; memory = e.ensures.memory }) (p ∙ ap pure.Int a) q in
+    record { runs = g.runs; memory = g.memory }
+
+pub returns-in-Truth-Tuple : goal.returns-in-Truth-Tuple
+returns-in-Truth-Tuple c =
+    let m = c.args.arena.now in
+    let o = c.args.operator in
+    let k = c.in-Truth-Tuple in
+    let u = value_of m c.args.left in
+    let v = value_of m c.args.right in
+    let p = stood m c.args.left _ _ c.of-first.ensures k.is-0 in
+    let q = stood m c.args.right _ _ c.of-second.ensures k.is-1 in
+    let e = c.tuple_copies-in-Truth-Tuple in
+    let n = c.int_of_truth-in-Truth-Tuple in
+    let g = truth_tuple_go o c.args.left c.args.right m e.new.arena e.result u v (members_of v) (to_z w64 (of_z w64 n.result)) k.b (record { runs = e.ensures.runs; memory = e.ensures.memory }) p q (count_fits k.b n.result n.ensures) in
+    record { runs = g.runs; memory = g.memory }
+
+pub returns-in-Tuple-Tuple : goal.returns-in-Tuple-Tuple
+returns-in-Tuple-Tuple c =
+    let m = c.args.arena.now in
+    let o = c.args.operator in
+    let k = c.in-Tuple-Tuple in
+    let u = value_of m c.args.left in
+    let v = value_of m c.args.right in
+    let p = stood m c.args.left _ _ c.of-first.ensures k.is-0 in
+    let q = stood m c.args.right _ _ c.of-second.ensures k.is-1 in
+    let e = c.joined_tuples in
+    let g = goes_at o c.args.left c.args.right m e.new.arena e.result u v (pure.tuple_of (members_of u)) (pure.tuple_of (members_of v)) p q (record { runs = e.ensures.runs; memory = e.ensures.memory }) in
     record { runs = g.runs; memory = g.memory }

@@ -193,3 +193,29 @@ returns-in_err-bytes-in-Bytes-clause-memory c =
     let m = c.args.arena.now in
     let P : BuiltIn → Type 0 = λ b. NeedsNone m c.args.line.now (pure.Provided (built_in_of b)) (all_of m c.args.arguments.now) → IsSaid c.from_residual-in_err-bytes-in-Bytes.result in
     subst P (sym c.in-Bytes.is) (λ h. absurd h)
+
+pub returns-in_err-tuple-in-Tuple-clause-calls : goal.returns-in_err-tuple-in-Tuple-clause-calls
+returns-in_err-tuple-in-Tuple-clause-calls c =
+    let m = c.args.arena.now in
+    let vs = all_of m c.args.arguments.now in
+    let f = c.in_err-tuple-in-Tuple.field-0.0 in
+    let P : BuiltIn → Type 0 = λ b. Calls (λ w. call_built_in (built_in_of b) vs w) m c.call_tuple.new.arena c.args.line.now c.args.line.now c.from_residual-in_err-tuple-in-Tuple.result in
+    let Q : Result Called Fault → Type 0 = λ r. Calls (λ w. call_built_in pure.MakeTuple vs w) m c.call_tuple.new.arena c.args.line.now c.args.line.now r in
+    subst P (sym c.in-Tuple.is)
+    (passed c.from_residual-in_err-tuple-in-Tuple.result Q f c.from_residual-in_err-tuple-in-Tuple.ensures.1 (calls_err (λ w. call_built_in pure.MakeTuple vs w) m c.call_tuple.new.arena c.args.line.now c.args.line.now f c.in_err-tuple-in-Tuple.ensures.runs refl))
+
+pub returns-in_ok-tuple-in-Tuple-clause-calls : goal.returns-in_ok-tuple-in-Tuple-clause-calls
+returns-in_ok-tuple-in-Tuple-clause-calls c =
+    let m = c.args.arena.now in
+    let vs = all_of m c.args.arguments.now in
+    let r = c.in_ok-tuple-in-Tuple.tuple in
+    let P : BuiltIn → Type 0 = λ b. Calls (λ w. call_built_in (built_in_of b) vs w) m c.call_tuple.new.arena c.args.line.now c.args.line.now (Ok (Value r)) in
+    subst P (sym c.in-Tuple.is) (calls_ok (λ w. call_built_in pure.MakeTuple vs w) m c.call_tuple.new.arena c.args.line.now c.args.line.now r c.in_ok-tuple-in-Tuple.ensures.runs refl)
+
+pub returns-in_err-tuple-in-Tuple-clause-memory : goal.returns-in_err-tuple-in-Tuple-clause-memory
+returns-in_err-tuple-in-Tuple-clause-memory c =
+    let m = c.args.arena.now in
+    let vs = all_of m c.args.arguments.now in
+    let f = c.in_err-tuple-in-Tuple.field-0.0 in
+    let P : BuiltIn → Type 0 = λ b. NeedsNone m c.args.line.now (pure.Provided (built_in_of b)) vs → IsSaid c.from_residual-in_err-tuple-in-Tuple.result in
+    subst P (sym c.in-Tuple.is) (λ h. passed c.from_residual-in_err-tuple-in-Tuple.result IsSaid f c.from_residual-in_err-tuple-in-Tuple.ensures.1 (said_of f (c.in_err-tuple-in-Tuple.ensures.memory h)))

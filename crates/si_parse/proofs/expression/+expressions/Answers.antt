@@ -1,13 +1,13 @@
 use Rattle.std.proofs.Common.{◌≡◌, ◌+◌, ◌-◌, ◌<◌, ◌≤◌, [], length, sym, ◌∙◌, ap, subst, Some, map, arith}
 use Rattle.std.proofs.lemmas.Result.{err_from_is_err_and}
 use Rattle.std.proofs.lemmas.List.{map-append}
-use Rattle.std.specs.Prelude.{option_map, ◌∷◌, ◌++◌, max}
-use Rattle.si_semantics.specs.Tokens as token
-use Rattle.si_semantics.specs.Grammar.{item_level, Sign}
+use Rattle.std.specs.Prelude.{option_map, ◌∷◌}
+use Rattle.si_semantics.specs.Grammar.{item_level}
 use Rattle.si_syntax.specs.Trees.{expr_of, link_of}
-use Rattle.si_parse.specs.inner.Reading.{with_word, after_boolean, comparison_at, compared_by, separated_by, with_argument, argument_by, expression_at, strength_of, after}
+use Rattle.si_parse.specs.inner.Reading.{with_word, after_boolean, comparison_at, compared_by, argument_by, expression_at, strength_of}
 use Rattle.si_parse.specs.inner.Gives.{Fails, from, continuation_view, argument_of}
-use Rattle.si_parse.proofs.Turns.{continued_on, continued_stops, continued_fails, separated_fails, separated_last, separated_on, separated_stuck, chain_ends, chain_next, chain_fails}
+use Rattle.si_parse.proofs.Enclosed.{enclosed_fails, enclosed_last, enclosed_on, enclosed_stuck}
+use Rattle.si_parse.proofs.Turns.{continued_on, continued_stops, continued_fails, chain_ends, chain_next, chain_fails}
 use Rattle.si_parse.proofs.expression.+expressions.Goals as goal
 
 pub continued-returns-then-strength-level-clause-reads : goal.continued-returns-then-strength-level-clause-reads
@@ -34,40 +34,71 @@ continued-returns-in_err-longer-clause-reads t c =
 
 pub arguments-returns-in_err-next-clause-reads : goal.arguments-returns-in_err-next-clause-reads
 arguments-returns-in_err-next-clause-reads t c =
-    let fails = separated_fails with_argument (λ r. r.2) (argument_by (expression_at c.args.parts)) (after (Sign token.Comma)) (after (Sign token.RightParenthesis)) (length c.args.tokens.now - c.loop-turn._turn) (length c.args.tokens.now - (c.loop-turn._turn + 1)) (map argument_of c.loop-turn.arguments.items, c.loop-turn.depth) (from c.args.tokens.now c.loop-turn.at)
+    let fails = enclosed_fails (argument_by (expression_at c.args.parts)) (length c.args.tokens.now - c.loop-turn._turn) (length c.args.tokens.now - (c.loop-turn._turn + 1)) (map argument_of c.loop-turn.arguments.items, c.loop-turn.depth) (from c.args.tokens.now c.loop-turn.at)
     (omega arith) _ c.in_err-next.ensures.reads in
     let p = err_from_is_err_and c.from_residual.result c.from_residual.ensures.1 in
     rw (p.1, p.2) (subst (Fails _) c.loop-turn.invariant.reads fails)
 
-pub arguments-returns-in-Some-after_arguments-clause-reads : goal.arguments-returns-in-Some-after_arguments-clause-reads
-arguments-returns-in-Some-after_arguments-clause-reads t c =
-    let behind = sym c.after_arguments.ensures ∙ ap (option_map (from c.args.tokens.now)) c.in-Some-after_arguments.is in
+pub arguments-returns-in-Some-after_items-clause-reads : goal.arguments-returns-in-Some-after_items-clause-reads
+arguments-returns-in-Some-after_items-clause-reads t c =
+    let behind = sym c.after_items.ensures ∙ ap (option_map (from c.args.tokens.now)) c.in-Some-after_items.is in
     let pushed = ap (map argument_of) c.in_ok-push.ensures.items ∙ map-append argument_of c.loop-turn.arguments.items (c.in_ok-next.next ∷ []) in
     sym c.loop-turn.invariant.reads
-    ∙ separated_last with_argument (λ r. r.2) (argument_by (expression_at c.args.parts)) (after (Sign token.Comma)) (after (Sign token.RightParenthesis)) (length c.args.tokens.now - c.loop-turn._turn) (length c.args.tokens.now - (c.loop-turn._turn + 1)) (map argument_of c.loop-turn.arguments.items, c.loop-turn.depth) (from c.args.tokens.now c.loop-turn.at)
-    (omega arith) _ c.in_ok-next.ensures.reads _ behind
-    ∙ ap (λ items. Some ((items, max c.loop-turn.depth c.in_ok-next.next_depth), from c.args.tokens.now c.in-Some-after_arguments.end)) (sym pushed)
-    ∙ ap (λ d. Some ((map argument_of c.push.new.self.items, d), from c.args.tokens.now c.in-Some-after_arguments.end)) (sym c.max-depth.ensures)
+    ∙ enclosed_last (argument_by (expression_at c.args.parts)) (length c.args.tokens.now - c.loop-turn._turn) (length c.args.tokens.now - (c.loop-turn._turn + 1)) (map argument_of c.loop-turn.arguments.items, c.loop-turn.depth) (from c.args.tokens.now c.loop-turn.at)
+    (omega arith) _ _ _ c.in_ok-next.ensures.reads _ _ pushed c.max-depth.ensures _ behind
 
 pub arguments-returns-in_default-after-clause-reads : goal.arguments-returns-in_default-after-clause-reads
 arguments-returns-in_default-after-clause-reads t c =
-    let behind = sym c.after_arguments.ensures ∙ ap (option_map (from c.args.tokens.now)) c.in_default-after_arguments.is in
+    let behind = sym c.after_items.ensures ∙ ap (option_map (from c.args.tokens.now)) c.in_default-after_items.is in
     let next = sym c.after-in-loop-turn.ensures ∙ ap (option_map (from c.args.tokens.now)) c.in_default-after.is in
     sym c.loop-turn.invariant.reads
-    ∙ separated_stuck with_argument (λ r. r.2) (argument_by (expression_at c.args.parts)) (after (Sign token.Comma)) (after (Sign token.RightParenthesis)) (length c.args.tokens.now - c.loop-turn._turn) (length c.args.tokens.now - (c.loop-turn._turn + 1)) (map argument_of c.loop-turn.arguments.items, c.loop-turn.depth) (from c.args.tokens.now c.loop-turn.at)
-    (omega arith) _ c.in_ok-next.ensures.reads behind next
+    ∙ enclosed_stuck (argument_by (expression_at c.args.parts)) (length c.args.tokens.now - c.loop-turn._turn) (length c.args.tokens.now - (c.loop-turn._turn + 1)) (map argument_of c.loop-turn.arguments.items, c.loop-turn.depth) (from c.args.tokens.now c.loop-turn.at)
+    (omega arith) _ _ _ c.in_ok-next.ensures.reads behind next
 
 pub arguments-loop-turn-preserved : goal.arguments-loop-turn-preserved
 arguments-loop-turn-preserved t c =
-    let behind = sym c.after_arguments.ensures ∙ ap (option_map (from c.args.tokens.now)) c.in_default-after_arguments.is in
+    let behind = sym c.after_items.ensures ∙ ap (option_map (from c.args.tokens.now)) c.in_default-after_items.is in
     let next = sym c.after-in-loop-turn.ensures ∙ ap (option_map (from c.args.tokens.now)) c.in-Some-after.is in
     let pushed = ap (map argument_of) c.in_ok-push.ensures.items ∙ map-append argument_of c.loop-turn.arguments.items (c.in_ok-next.next ∷ []) in
     record {
       shallow = omega (arith, c.in_ok-next.ensures.shallow);
-      reads = ap (λ items. separated_by with_argument (λ r. r.2) (argument_by (expression_at c.args.parts)) (after (Sign token.Comma)) (after (Sign token.RightParenthesis)) (length c.args.tokens.now - (c.loop-turn._turn + 1)) (items, c.max-depth.result) (from c.args.tokens.now c.in-Some-after.more)) pushed
-          ∙ ap (λ d. separated_by with_argument (λ r. r.2) (argument_by (expression_at c.args.parts)) (after (Sign token.Comma)) (after (Sign token.RightParenthesis)) (length c.args.tokens.now - (c.loop-turn._turn + 1)) (map argument_of c.loop-turn.arguments.items ++ argument_of c.in_ok-next.next ∷ [], d) (from c.args.tokens.now c.in-Some-after.more)) c.max-depth.ensures
-          ∙ sym (separated_on with_argument (λ r. r.2) (argument_by (expression_at c.args.parts)) (after (Sign token.Comma)) (after (Sign token.RightParenthesis)) (length c.args.tokens.now - c.loop-turn._turn) (length c.args.tokens.now - (c.loop-turn._turn + 1)) (map argument_of c.loop-turn.arguments.items, c.loop-turn.depth) (from c.args.tokens.now c.loop-turn.at)
-          (omega arith) _ c.in_ok-next.ensures.reads _ behind next)
+      reads = enclosed_on (argument_by (expression_at c.args.parts)) (length c.args.tokens.now - c.loop-turn._turn) (length c.args.tokens.now - (c.loop-turn._turn + 1)) (map argument_of c.loop-turn.arguments.items, c.loop-turn.depth) (from c.args.tokens.now c.loop-turn.at)
+          (omega arith) _ _ _ c.in_ok-next.ensures.reads _ _ pushed c.max-depth.ensures _ behind next
+          ∙ c.loop-turn.invariant.reads;
+    }
+
+pub items-returns-in_err-next-clause-reads : goal.items-returns-in_err-next-clause-reads
+items-returns-in_err-next-clause-reads t c =
+    let fails = enclosed_fails (expression_at c.args.parts 1) (length c.args.tokens.now - c.loop-turn._turn) (length c.args.tokens.now - (c.loop-turn._turn + 1)) (map expr_of c.loop-turn.values.items, c.loop-turn.depth) (from c.args.tokens.now c.loop-turn.at)
+    (omega arith) _ c.in_err-next.ensures.reads in
+    let p = err_from_is_err_and c.from_residual-in_err-next.result c.from_residual-in_err-next.ensures.1 in
+    rw (p.1, p.2) (subst (Fails _) c.loop-turn.invariant.reads fails)
+
+pub items-returns-in-Some-after_items-clause-reads : goal.items-returns-in-Some-after_items-clause-reads
+items-returns-in-Some-after_items-clause-reads t c =
+    let behind = sym c.after_items.ensures ∙ ap (option_map (from c.args.tokens.now)) c.in-Some-after_items.is in
+    let pushed = ap (map expr_of) c.in_ok-push-2.ensures.items ∙ map-append expr_of c.loop-turn.values.items (c.in_ok-next.next ∷ []) in
+    sym c.loop-turn.invariant.reads
+    ∙ enclosed_last (expression_at c.args.parts 1) (length c.args.tokens.now - c.loop-turn._turn) (length c.args.tokens.now - (c.loop-turn._turn + 1)) (map expr_of c.loop-turn.values.items, c.loop-turn.depth) (from c.args.tokens.now c.loop-turn.at)
+    (omega arith) _ _ _ c.in_ok-next.ensures.reads _ _ pushed c.max-depth.ensures _ behind
+
+pub items-returns-in_default-after-clause-reads : goal.items-returns-in_default-after-clause-reads
+items-returns-in_default-after-clause-reads t c =
+    let behind = sym c.after_items.ensures ∙ ap (option_map (from c.args.tokens.now)) c.in_default-after_items.is in
+    let next = sym c.after-in-loop-turn.ensures ∙ ap (option_map (from c.args.tokens.now)) c.in_default-after.is in
+    sym c.loop-turn.invariant.reads
+    ∙ enclosed_stuck (expression_at c.args.parts 1) (length c.args.tokens.now - c.loop-turn._turn) (length c.args.tokens.now - (c.loop-turn._turn + 1)) (map expr_of c.loop-turn.values.items, c.loop-turn.depth) (from c.args.tokens.now c.loop-turn.at)
+    (omega arith) _ _ _ c.in_ok-next.ensures.reads behind next
+
+pub items-loop-turn-preserved : goal.items-loop-turn-preserved
+items-loop-turn-preserved t c =
+    let behind = sym c.after_items.ensures ∙ ap (option_map (from c.args.tokens.now)) c.in_default-after_items.is in
+    let next = sym c.after-in-loop-turn.ensures ∙ ap (option_map (from c.args.tokens.now)) c.in-Some-after.is in
+    let pushed = ap (map expr_of) c.in_ok-push-2.ensures.items ∙ map-append expr_of c.loop-turn.values.items (c.in_ok-next.next ∷ []) in
+    record {
+      shallow = omega (arith, c.in_ok-next.ensures.shallow);
+      reads = enclosed_on (expression_at c.args.parts 1) (length c.args.tokens.now - c.loop-turn._turn) (length c.args.tokens.now - (c.loop-turn._turn + 1)) (map expr_of c.loop-turn.values.items, c.loop-turn.depth) (from c.args.tokens.now c.loop-turn.at)
+          (omega arith) _ _ _ c.in_ok-next.ensures.reads _ _ pushed c.max-depth.ensures _ behind next
           ∙ c.loop-turn.invariant.reads;
     }
 

@@ -1,8 +1,7 @@
 use Rattle.std.proofs.Common.{◌≡◌, ◌+◌, ◌-◌, ◌*◌, ◌≤◌, length, map}
-use Rattle.si_semantics.specs.Tokens as token
-use Rattle.si_semantics.specs.Grammar.{item_level, Sign}
+use Rattle.si_semantics.specs.Grammar.{item_level}
 use Rattle.si_syntax.specs.Trees.{expr_of, link_of}
-use Rattle.si_parse.specs.inner.Reading.{continued_by, arguments_by, operands_by, links_by, separated_by, chain_by, with_word, after_boolean, comparison_at, compared_by, with_argument, argument_by, expression_at, after}
+use Rattle.si_parse.specs.inner.Reading.{continued_by, arguments_by, items_by, operands_by, links_by, enclosed_by, chain_by, with_word, after_boolean, comparison_at, compared_by, argument_by, expression_at}
 use Rattle.si_parse.specs.inner.Gives.{from, argument_of}
 use Rattle.si_parse.proofs.expression.+expressions.Given as goal
 
@@ -49,16 +48,19 @@ abbrev pub decreases-compared : goal.decreases-compared
 decreases-compared l = 8 * l.parts + 3
 
 abbrev pub decreases-operand : goal.decreases-operand
-decreases-operand l = 8 * l.parts + 3
+decreases-operand l = 8 * l.parts + 4
 
 abbrev pub decreases-atom : goal.decreases-atom
-decreases-atom l = 8 * l.parts + 2
+decreases-atom l = 8 * l.parts + 3
 
 abbrev pub decreases-unary : goal.decreases-unary
-decreases-unary l = 8 * l.parts + 1
+decreases-unary l = 8 * l.parts + 2
 
 abbrev pub decreases-bracketed : goal.decreases-bracketed
-decreases-bracketed l = 8 * l.parts + 1
+decreases-bracketed l = 8 * l.parts + 2
+
+abbrev pub decreases-items : goal.decreases-items
+decreases-items l = 8 * l.parts + 1
 
 abbrev pub invariant-continued-loop-turn : goal.invariant-continued-loop-turn
 invariant-continued-loop-turn l = record {
@@ -70,8 +72,15 @@ invariant-continued-loop-turn l = record {
 abbrev pub invariant-arguments-loop-turn : goal.invariant-arguments-loop-turn
 invariant-arguments-loop-turn l = record {
   shallow : l.depth ≤ l.parts;
-  reads : separated_by with_argument (λ r. r.2) (argument_by (expression_at l.parts)) (after (Sign token.Comma)) (after (Sign token.RightParenthesis)) (length l.tokens - l._turn) (map argument_of l.arguments.items, l.depth) (from l.tokens l.at)
+  reads : enclosed_by (argument_by (expression_at l.parts)) (length l.tokens - l._turn) (map argument_of l.arguments.items, l.depth) (from l.tokens l.at)
       ≡ arguments_by (expression_at l.parts) (from l.tokens l.start);
+}
+
+abbrev pub invariant-items-loop-turn : goal.invariant-items-loop-turn
+invariant-items-loop-turn l = record {
+  shallow : l.depth ≤ l.parts;
+  reads : enclosed_by (expression_at l.parts 1) (length l.tokens - l._turn) (map expr_of l.values.items, l.depth) (from l.tokens l.at)
+      ≡ items_by (expression_at l.parts) (expr_of l.fn.first) l.first_depth (from l.tokens l.start);
 }
 
 abbrev pub invariant-operands-loop-turn : goal.invariant-operands-loop-turn

@@ -12,3 +12,8 @@ returns-in_err-text c =
     let p = err_from_is_err_and c.from_residual.result c.from_residual.ensures.1 in
     let few : length (characters_in c.args.characters) ≤ 1048576 = omega arith in
     rw (p.1, p.2) (str_refused (characters_in c.args.characters) few)
+
+pub returns : goal.returns
+returns c =
+    let few : length (characters_in c.args.characters) ≤ 1048576 = omega arith in
+    str_refused (characters_in c.args.characters) few

@@ -4,4 +4,4 @@ use Rattle.si_arena.proofs.Growing.{object_kept}
 use Rattle.si_arena.proofs.arena.Arena.make.Goals as goal
 
 pub invariant_of-self-2 : goal.invariant_of-self-2
-invariant_of-self-2 c = rw c.in_ok-push.ensures.items (object_kept _ _ _ _ c.args.object c.self.invariant (subst (λ m. ObjectLies m c.args.object) (sym c.self.view_is) c.requires))
+invariant_of-self-2 c = rw c.in_ok-push.ensures.items (object_kept _ _ _ _ _ _ c.args.object c.self.invariant (subst (λ m. ObjectLies m c.args.object) (sym c.self.view_is) c.requires))

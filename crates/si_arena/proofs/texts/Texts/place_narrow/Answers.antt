@@ -1,4 +1,4 @@
-use Rattle.std.proofs.Common.{◌≡◌, ◌≤◌, ◌++◌, length, refl, ap, arith, List, ℕ}
+use Rattle.std.proofs.Common.{◌≡◌, ◌≤◌, length, refl, ap, arith, List, ℕ}
 use Rattle.si_semantics.specs.Text.{max_length}
 use Rattle.si_arena.specs.Texts.{Rows}
 use Rattle.si_arena.specs.declared.value.Width.TheVariants as width

@@ -5,4 +5,4 @@ abbrev pub decreases-same : goal.decreases-same
 decreases-same l = goal.size-same l
 
 abbrev pub invariant-items : goal.invariant-items
-invariant-items l = take l.i l.items.items ≡ take l.i l.others.items
+invariant-items l = take l.i l.parts ≡ take l.i l.others

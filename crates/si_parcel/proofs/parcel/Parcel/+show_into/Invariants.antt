@@ -4,4 +4,4 @@ use Rattle.si_parcel.proofs.parcel.Parcel.+show_into.Given as goal
 
 abbrev pub invariant-items : goal.invariant-items
 invariant-items l =
-    string_bytes l.out ++ encode_utf8_all (shown_items l.at (trees_of (drop l.at l.items.items))) ≡ string_bytes l.initial.out ++ encode_utf8_all (shown_items 0 (trees_of l.items.items))
+    string_bytes l.out ++ encode_utf8_all (shown_items l.at (trees_of (drop l.at l.parts))) ≡ string_bytes l.initial.out ++ encode_utf8_all (shown_items 0 (trees_of l.parts))

@@ -1,0 +1,7 @@
+use Rattle.std.proofs.Common.{sym, ap, ◌∙◌}
+use Rattle.std.proofs.lemmas.Str.{chars-nil}
+use Rattle.si_slots.specs.Literals.{name_in}
+use Rattle.si_slots.proofs.literal.Literal.name.Goals as goal
+
+pub returns-in-Bytes : goal.returns-in-Bytes
+returns-in-Bytes c = chars-nil ∙ sym (ap name_in c.in-Bytes.is)
