@@ -1,0 +1,4 @@
+pub mod Adds
+pub mod KindNames
+pub mod LineEnds
+pub mod Worked

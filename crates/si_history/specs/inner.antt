@@ -1,0 +1,2 @@
+-- Devices of proofs.
+pub mod Adding
