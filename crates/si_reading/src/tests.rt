@@ -1,0 +1,40 @@
+// A text that is read, and texts that are refused, each in its line.
+
+use crate::read;
+use si_parse::ParseFault;
+use std::alloc::Global;
+use std::test::Fail;
+
+// The fault of a text that is refused.
+fn fault(alloc: Global, text: &str) -> Option<ParseFault> {
+    match read(alloc, text) {
+        Ok(_) => None,
+        Err(fault) => Some(fault),
+    }
+}
+
+#[test]
+fn a_text_is_read(rt: HostRuntime) -> Result<(), Fail> {
+    let alloc = rt.alloc();
+    let script = read(alloc, "while f(1):\n    break\n")?;
+    let body = script.body();
+    let shown = format!(in alloc; "{body:?}")?;
+    assert_eq!(rt;
+        shown.as_str(),
+        "[While(While { test: Call(Name(\"f\"), [Int(1)], []), body: [Break(2)], last: [] })]"
+    );
+    Ok(())
+}
+
+#[test]
+fn others_are_refused_in_a_line(rt: HostRuntime) {
+    let alloc = rt.alloc();
+    assert_eq!(rt;
+        fault(alloc, "x = 1\nx = = 2\n"),
+        Some(ParseFault::Syntax(2))
+    );
+    assert_eq!(rt;
+        fault(alloc, "x = 1\nif x:\n    break\n"),
+        Some(ParseFault::Syntax(3))
+    );
+}
