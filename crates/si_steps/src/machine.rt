@@ -2,14 +2,14 @@
 ghost use Rattle.std.specs.Prelude.{◌≡◌, ◌↔◌, ◌<◌, [], length, IsTrue, IfOk, IfErr, OnOk, OnErr, string_bytes};
 ghost use Rattle.si_semantics.specs.Value.{Address};
 ghost use Rattle.si_semantics.specs.Text as semantics;
-ghost use Rattle.si_semantics.specs.World.{first_world};
+ghost use Rattle.si_semantics.specs.World.{World, first_world};
+ghost use Rattle.si_slots.specs.Contents.{no_code};
 ghost use Rattle.si_slots.specs.Machine.{Course, Ending};
 ghost use Rattle.si_slots.specs.Running.{NeverCloses, run_at};
 ghost use Rattle.si_slots.specs.Views.{table_of};
-ghost use Rattle.si_steps.specs.Machines.{Stands, IsRunning, HasEnded, Steps, printed_of};
+ghost use Rattle.si_steps.specs.Machines.{Stands, IsRunning, HasEnded, Steps, Awaits, Waits, printed_of};
 ghost use Rattle.si_steps.specs.Outcomes.{told};
 
-use crate::begin::first_known;
 use crate::state::{Standing, State};
 use crate::step::{Exit, Outcome, Step};
 use si_arena::{Arena, Fault, Ref};
@@ -41,6 +41,8 @@ impl Model for Machine {
 impl Machine {
     /// A machine with no code, that has printed nothing.
     pub fn new(alloc: Global) -> Machine
+        ensures waits { Waits first_world result }
+        ensures table { result.table ≡ no_code }
         ensures idle { result.standing ≡ Standing.Idle }
         ensures printed { printed_of result ≡ [] }
         ensures outcome { result.outcome ≡ Exit.Returned }
@@ -67,13 +69,56 @@ impl Machine {
         if table.len() >= 1 << 63 {
             return Err(AllocFailed { value: table });
         }
-        let alloc = table.allocator();
-        match first_known(alloc, &table) {
-            Ok(known) => {
-                self.state = State::begun(alloc, table, at, known);
+        let mut state = State::new(table.allocator());
+        state.table = table;
+        match state.learn() {
+            Ok(()) => {
+                state.begin_run(at);
+                self.state = state;
                 Ok(())
             }
-            Err(_) => Err(AllocFailed { value: table }),
+            Err(_) => Err(AllocFailed { value: state.table }),
+        }
+    }
+
+    /// The table, handed out so that a text can be added to it; `resume` takes it back. Meanwhile the machine has one of
+    /// no code.
+    pub fn lend_table(&mut self) -> CodeTable
+        ensures lent { result ≡ self.old.table }
+        ensures rest { self.new ≡ record self.old { table = no_code } }
+    {
+        let alloc = self.state.table.allocator();
+        mem::replace(&mut self.state.table, CodeTable::new(alloc))
+    }
+
+    /// Takes the table back, to which texts were added, and begins a run at a place of it, in the namespace that the runs
+    /// before have left. What was printed stays. Where memory is refused the machine stands still from then on. Code of
+    /// 2^63 instructions, for which no memory is large enough, counts as memory refused.
+    ///
+    /// As in `load`, the run from there may never come to be closed.
+    pub fn resume(&mut self, table: CodeTable, at: usize) -> Result<(), NoMemory>
+        ghost w: { World }
+        requires awaits { Awaits w table self.old }
+        requires never { NeverCloses (run_at (table_of table, at) w) }
+        ensures stands { OnOk result (Stands (run_at (table_of table, at) w) self.new) }
+        ensures running { OnOk result (IsRunning self.new) }
+        ensures starved { OnErr result (self.new.standing ≡ Standing.Starved) }
+        ensures printed { printed_of self.new ≡ printed_of self.old }
+    {
+        if table.len() >= 1 << 63 {
+            self.state.starve();
+            return Err(AllocError);
+        }
+        self.state.table = table;
+        match self.state.learn() {
+            Ok(()) => {
+                self.state.begin_run(at);
+                Ok(())
+            }
+            Err(_) => {
+                self.state.starve();
+                Err(AllocError)
+            }
         }
     }
 
@@ -85,6 +130,17 @@ impl Machine {
             Standing::Running => true,
             Standing::Idle => false,
             Standing::Starved => false,
+        }
+    }
+
+    /// Whether memory was refused: it stands still from then on.
+    pub fn is_starved(&self) -> bool
+        ensures { IsTrue result ↔ (self.now.standing ≡ Standing.Starved) }
+    {
+        match self.state.standing {
+            Standing::Starved => true,
+            Standing::Running => false,
+            Standing::Idle => false,
         }
     }
 
