@@ -1,0 +1,4 @@
+pub mod Counting
+pub mod Firsts
+pub mod Serving
+pub mod Stretches
