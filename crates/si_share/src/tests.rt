@@ -233,11 +233,23 @@ fn refused_copy_into_an_arena(rt: HostRuntime) -> Result<(), Fail> {
 }
 
 #[test]
-fn refused_copies_of_a_tuple(rt: HostRuntime) -> Result<(), Fail> {
+fn refused_copy_of_a_tuple_into_an_arena(rt: HostRuntime) -> Result<(), Fail> {
     let parcel = nested(rt.alloc())?;
     let mut arena = Arena::new(rt.alloc());
     let first = copy_in(&mut arena, &parcel);
     assert!(rt; first.is_ok() || matches!(first, Err(ReceiveFault::NoMemory)));
+    let Ok(copy) = copy_in(&mut arena, &parcel) else {
+        return Err(AllocError)?;
+    };
+    let again = copy_out(rt.alloc(), &arena, copy).or(Err(AllocError))?;
+    assert!(rt; again == parcel);
+    Ok(())
+}
+
+#[test]
+fn refused_copy_of_a_tuple_out_of_an_arena(rt: HostRuntime) -> Result<(), Fail> {
+    let parcel = nested(rt.alloc())?;
+    let mut arena = Arena::new(rt.alloc());
     let Ok(copy) = copy_in(&mut arena, &parcel) else {
         return Err(AllocError)?;
     };
