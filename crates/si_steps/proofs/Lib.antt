@@ -5,6 +5,7 @@ pub mod Operands
 pub mod Left
 pub mod Given
 pub mod Begun
+pub mod Bound
 pub mod Alike
 pub mod Sources
 pub mod Operated

@@ -12,10 +12,11 @@
 // loops), `tries` (those of `try` and of unbinding), `values` (those of operands and operations), `subscripts`,
 // `displays`, `names` (those of globals), `calls` (calls of functions and of other values), `leaving` (`break`,
 // `continue`, `return` and the end of a finally suite), `short` and `short_values` (instructions as they stand in 8
-// bytes), `execute` (one instruction), `begin` (how a run begins), `machine`.
+// bytes), `execute` (one instruction), `begin` (how a run begins), `bind` (globals bound between runs), `machine`.
 #![tactic(auto)]
 
 mod begin;
+mod bind;
 mod calls;
 mod displays;
 mod execute;

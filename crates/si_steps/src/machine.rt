@@ -3,17 +3,19 @@ ghost use Rattle.std.specs.Prelude.{◌≡◌, ◌↔◌, ◌<◌, [], length, I
 ghost use Rattle.si_semantics.specs.Value.{Address};
 ghost use Rattle.si_semantics.specs.Text as semantics;
 ghost use Rattle.si_semantics.specs.World.{World, first_world};
-ghost use Rattle.si_slots.specs.Contents.{no_code};
+ghost use Rattle.si_slots.specs.Contents.{Extends, no_code};
 ghost use Rattle.si_slots.specs.Machine.{Course, Ending};
 ghost use Rattle.si_slots.specs.Running.{NeverCloses, run_at};
 ghost use Rattle.si_slots.specs.Views.{table_of};
-ghost use Rattle.si_steps.specs.Machines.{Stands, IsRunning, HasEnded, Steps, Awaits, Waits, printed_of};
+ghost use Rattle.si_steps.specs.Machines.{Stands, IsRunning, HasEnded, Steps, Awaits, Waits, bound_to, printed_of};
+ghost use Rattle.si_semantics.specs.Shareable.{value_of_parcel};
 ghost use Rattle.si_steps.specs.Outcomes.{told};
 
 use crate::state::{Standing, State};
 use crate::step::{Exit, Outcome, Step};
 use si_arena::{Arena, Fault, Ref};
 use si_ops::push_str;
+use si_parcel::Parcel;
 use si_plain::{NoMemory, Text};
 use si_slots::CodeTable;
 use std::alloc::{AllocError, AllocFailed, Global};
@@ -115,6 +117,26 @@ impl Machine {
                 self.state.begin_run(at);
                 Ok(())
             }
+            Err(_) => {
+                self.state.starve();
+                Err(AllocError)
+            }
+        }
+    }
+
+    /// Binds a global name to the value of a parcel, between runs; where scripts have no value for the parcel, nothing is
+    /// bound. The name is bound by its bytes, which are its characters where it is ASCII, as each name of a script is. A
+    /// name that no text has spoken of gets a slot in the table, whose code stays the same. Where memory is refused the
+    /// machine stands still from then on.
+    pub fn bind(&mut self, name: &str, parcel: &Parcel) -> Result<(), NoMemory>
+        ensures bound { OnOk result ((w : World) → Waits w self.old → Waits (bound_to name.now (value_of_parcel parcel.now) w) self.new) }
+        ensures starved { OnErr result (self.new.standing ≡ Standing.Starved) }
+        ensures code { table_of self.new.table ≡ table_of self.old.table }
+        ensures grown { Extends self.old.table self.new.table }
+        ensures printed { printed_of self.new ≡ printed_of self.old }
+    {
+        match self.state.bind_parcel(name, parcel) {
+            Ok(()) => Ok(()),
             Err(_) => {
                 self.state.starve();
                 Err(AllocError)
