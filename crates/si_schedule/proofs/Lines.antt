@@ -6,15 +6,15 @@ use Rattle.std.specs.Fmt.{decimal}
 use Rattle.std.proofs.lemmas.List.{map-append, length-replicate}
 use Rattle.std.proofs.lemmas.Bool.Decides.{eqb_tells}
 use Rattle.std.proofs.lemmas.Grind.{flat_map-append}
-use Rattle.si_schedule.specs.Schedules.{Schedule, IsSchedule, version_line, width_line, count_line, end_line, head_lines, lines_of, ended}
+use Rattle.si_schedule.specs.Schedules.{Schedule, IsSchedule, version_line, interpreters_line, count_line, end_line, head_lines, lines_of, ended}
 use Rattle.si_schedule.specs.BadLines.{IsLine, CanGoOn, IsBadLine}
 use Rattle.si_schedule.proofs.Numbers.{decimal_is_line}
 
 pub ended-append : (xs ys : List (List ℕ)) → ended (xs ++ ys) ≡ ended xs ++ ended ys
 ended-append xs ys = flat_map-append (λ (l : List ℕ). l ++ 10 ∷ []) xs ys
 
-abbrev pub width_word : List ℕ
-width_word = codes "interpreters "
+abbrev pub interpreters_word : List ℕ
+interpreters_word = codes "interpreters "
 
 abbrev pub count_word : List ℕ
 count_word = codes "turns "
@@ -76,9 +76,9 @@ version_is_line : IsLine version_line
 unfolding has_feed
 version_is_line = line_test version_line refl
 
-pub width_is_line : (w : ℕ) → w < 2 ^ 64 → IsLine (width_line w)
+pub interpreters_is_line : (w : ℕ) → w < 2 ^ 64 → IsLine (interpreters_line w)
 unfolding has_feed
-width_is_line w h = line-append width_word (decimal w) (line_test width_word refl) (decimal_is_line w h)
+interpreters_is_line w h = line-append interpreters_word (decimal w) (line_test interpreters_word refl) (decimal_is_line w h)
 
 pub count_is_line : (n : ℕ) → n < 2 ^ 64 → IsLine (count_line n)
 unfolding has_feed
@@ -97,7 +97,7 @@ callers_are_lines w [] h k = tt
 callers_are_lines w (x ∷ xs) h k = let a = k.0 in (decimal_is_line x (omega arith), callers_are_lines w xs h k.1)
 
 pub head_are_lines : (w n : ℕ) → w ≤ 64 → n < 2 ^ 64 → AllByRecursion IsLine (head_lines w n)
-head_are_lines w n h k = (version_is_line, (width_is_line w (omega arith), (count_is_line n k, tt)))
+head_are_lines w n h k = (version_is_line, (interpreters_is_line w (omega arith), (count_is_line n k, tt)))
 
 -- the lines that were read
 abbrev pub first_lines : ℕ → ℕ → List ℕ → List (List ℕ)
@@ -107,8 +107,8 @@ pub first_are_lines : (w n : ℕ) (xs : List ℕ) → w ≤ 64 → n < 2 ^ 64 �
 first_are_lines w n xs h k e = all-append (head_lines w n) (map decimal xs) (head_are_lines w n h k) (callers_are_lines w xs h e)
 
 pub all_are_lines : (s : Schedule) → IsSchedule s → AllByRecursion IsLine (lines_of s)
-all_are_lines s h = all-append (head_lines s.width (length s.callers)) _ (head_are_lines s.width (length s.callers) h.most h.count)
-    (all-append (map decimal s.callers) (end_line ∷ []) (callers_are_lines s.width s.callers h.most h.each) (end_is_line, tt))
+all_are_lines s h = all-append (head_lines s.interpreters (length s.callers)) _ (head_are_lines s.interpreters (length s.callers) h.most h.count)
+    (all-append (map decimal s.callers) (end_line ∷ []) (callers_are_lines s.interpreters s.callers h.most h.each) (end_is_line, tt))
 
 -- with what a schedule's text begins
 pub lines_go_on : (s : Schedule) → IsSchedule s → (ls more : List (List ℕ)) → lines_of s ≡ ls ++ more → CanGoOn ls
@@ -126,7 +126,7 @@ below-append w [] ys h k = k
 below-append w (x ∷ xs) ys h k = (h.0, below-append w xs ys h.1 k)
 
 abbrev filled : ℕ → ℕ → List ℕ → Schedule
-filled w n xs = record { width = w; callers = xs ++ replicate (n - length xs) 0 }
+filled w n xs = record { interpreters = w; callers = xs ++ replicate (n - length xs) 0 }
 
 filled_count : (n : ℕ) (xs : List ℕ) → length xs ≤ n → length (xs ++ replicate (n - length xs) 0) ≡ n
 filled_count n xs h = let b : length (replicate {A = ℕ} (n - length xs) 0) ≡ n - length xs = length-replicate {A = ℕ} (n - length xs) 0 in
@@ -146,7 +146,7 @@ first_go_on w n xs h k m e l =
 
 pub all_go_on : (w : ℕ) (xs : List ℕ) → 1 ≤ w → w ≤ 64 → length xs < 2 ^ 64 → AllByRecursion (λ i. i < w) xs → CanGoOn (first_lines w (length xs) xs ++ end_line ∷ [])
 all_go_on w xs h k m e =
-    let s : Schedule = record { width = w; callers = xs } in
+    let s : Schedule = record { interpreters = w; callers = xs } in
     lines_go_on s (record { least = h; most = k; each = e; count = m }) _ []
     (sym (append_assoc (head_lines w (length xs)) (map decimal xs) (end_line ∷ [])) ∙ sym (append-nil (first_lines w (length xs) xs ++ end_line ∷ [])))
 

@@ -4,26 +4,26 @@ use Rattle.std.specs.List.{AllByRecursion}
 use Rattle.std.specs.Fmt.{decimal}
 use Rattle.std.proofs.lemmas.Fmt.{decimal_injective}
 use Rattle.std.proofs.lemmas.List.{append_cancel_left, map-append, length-map}
-use Rattle.si_schedule.specs.Schedules.{Schedule, IsSchedule, version_line, width_line, count_line, end_line, head_lines, lines_of, ended, text_of}
+use Rattle.si_schedule.specs.Schedules.{Schedule, IsSchedule, version_line, interpreters_line, count_line, end_line, head_lines, lines_of, ended, text_of}
 use Rattle.si_schedule.specs.inner.Reading.{HasRead}
-use Rattle.si_schedule.proofs.Lines.{width_word, count_word, cut_lines, first_lines, first_are_lines, all_are_lines, first_go_on, front_goes_on, head_are_lines, width_is_line, NoneHas, Reading, line_more}
+use Rattle.si_schedule.proofs.Lines.{interpreters_word, count_word, cut_lines, first_lines, first_are_lines, all_are_lines, first_go_on, front_goes_on, head_are_lines, interpreters_is_line, NoneHas, Reading, line_more}
 
 -- a number of interpreters, a number of callers, and callers, as lines name them
-width_is : (w v : ℕ) → w ≤ 64 → v ≤ 64 → width_line w ≡ width_line v → w ≡ v
-width_is w v h k e = decimal_injective w v (omega arith) (omega arith) (append_cancel_left {A = ℕ} width_word (decimal w) (decimal v) e)
+interpreters_is : (w v : ℕ) → w ≤ 64 → v ≤ 64 → interpreters_line w ≡ interpreters_line v → w ≡ v
+interpreters_is w v h k e = decimal_injective w v (omega arith) (omega arith) (append_cancel_left {A = ℕ} interpreters_word (decimal w) (decimal v) e)
 
 count_is : (m n : ℕ) → m < 2 ^ 64 → n < 2 ^ 64 → count_line m ≡ count_line n → m ≡ n
 count_is m n h k e = decimal_injective m n h k (append_cancel_left {A = ℕ} count_word (decimal m) (decimal n) e)
 
 -- a schedule with this head
 pub record HasHead (s : Schedule) (w n : ℕ) (ls : List (List ℕ)) : Type 0 where
-  pub width : s.width ≡ w
+  pub interpreters : s.interpreters ≡ w
   pub count : length s.callers ≡ n
   pub rest : map decimal s.callers ++ end_line ∷ [] ≡ ls
 
 pub has_head : (s : Schedule) (w n : ℕ) (ls : List (List ℕ)) → IsSchedule s → w ≤ 64 → n < 2 ^ 64 → lines_of s ≡ head_lines w n ++ ls → HasHead s w n ls
 has_head s w n ls h k m e = record {
-  width = width_is s.width w h.most k (cc e);
+  interpreters = interpreters_is s.interpreters w h.most k (cc e);
   count = count_is (length s.callers) n h.count m (cc e);
   rest = cc e;
 }
@@ -57,19 +57,19 @@ pub version_reading : (t rest : List ℕ) → t ≡ version_line ++ 10 ∷ rest 
 version_reading t rest e = record {
   split = line_more t [] t version_line rest refl e;
   each = ((head_are_lines 1 0 (omega arith) (omega arith)).0, tt);
-  begins = front_goes_on (version_line ∷ []) (width_line 1 ∷ (count_line 0 ∷ [])) (first_go_on 1 0 [] (omega arith) (omega arith) (omega arith) tt (omega arith));
+  begins = front_goes_on (version_line ∷ []) (interpreters_line 1 ∷ (count_line 0 ∷ [])) (first_go_on 1 0 [] (omega arith) (omega arith) (omega arith) tt (omega arith));
 }
 
-pub width_reading : (t rest after : List ℕ) (w : ℕ) → 1 ≤ w → w ≤ 64 → Reading t (version_line ∷ []) rest → rest ≡ width_line w ++ 10 ∷ after → Reading t (version_line ∷ (width_line w ∷ [])) after
-width_reading t rest after w h k r e = record {
-  split = line_more t (version_line ∷ []) rest (width_line w) after r.split e;
-  each = (r.each.0, (width_is_line w (omega arith), tt));
-  begins = front_goes_on (version_line ∷ (width_line w ∷ [])) (count_line 0 ∷ []) (first_go_on w 0 [] h k (omega arith) tt (omega arith));
+pub interpreters_reading : (t rest after : List ℕ) (w : ℕ) → 1 ≤ w → w ≤ 64 → Reading t (version_line ∷ []) rest → rest ≡ interpreters_line w ++ 10 ∷ after → Reading t (version_line ∷ (interpreters_line w ∷ [])) after
+interpreters_reading t rest after w h k r e = record {
+  split = line_more t (version_line ∷ []) rest (interpreters_line w) after r.split e;
+  each = (r.each.0, (interpreters_is_line w (omega arith), tt));
+  begins = front_goes_on (version_line ∷ (interpreters_line w ∷ [])) (count_line 0 ∷ []) (first_go_on w 0 [] h k (omega arith) tt (omega arith));
 }
 
-pub count_reading : (t rest after : List ℕ) (w n : ℕ) → 1 ≤ w → w ≤ 64 → n < 2 ^ 64 → Reading t (version_line ∷ (width_line w ∷ [])) rest → rest ≡ count_line n ++ 10 ∷ after → Reading t (first_lines w n []) after
+pub count_reading : (t rest after : List ℕ) (w n : ℕ) → 1 ≤ w → w ≤ 64 → n < 2 ^ 64 → Reading t (version_line ∷ (interpreters_line w ∷ [])) rest → rest ≡ count_line n ++ 10 ∷ after → Reading t (first_lines w n []) after
 count_reading t rest after w n h k m r e = record {
-  split = line_more t (version_line ∷ (width_line w ∷ [])) rest (count_line n) after r.split e;
+  split = line_more t (version_line ∷ (interpreters_line w ∷ [])) rest (count_line n) after r.split e;
   each = first_are_lines w n [] k m tt;
   begins = first_go_on w n [] h k m tt (omega arith);
 }
@@ -100,18 +100,18 @@ head_of s w n xs ls h k m e = has_head s w n (map decimal xs ++ ls) h k m (e ∙
 pub bad_version : (line : List ℕ) → line ≢ version_line → NoneHas [] line
 bad_version line ne = λ s more is e. let k : version_line ≡ line = cc e in ne (sym k)
 
-pub bad_width : (line : List ℕ) → ((w : ℕ) → 1 ≤ w → w ≤ 64 → line ≢ width_line w) → NoneHas (version_line ∷ []) line
-bad_width line ne = λ s more is e. let k : width_line s.width ≡ line = cc e in ne s.width is.least is.most (sym k)
+pub bad_interpreters : (line : List ℕ) → ((w : ℕ) → 1 ≤ w → w ≤ 64 → line ≢ interpreters_line w) → NoneHas (version_line ∷ []) line
+bad_interpreters line ne = λ s more is e. let k : interpreters_line s.interpreters ≡ line = cc e in ne s.interpreters is.least is.most (sym k)
 
-pub bad_count : (w : ℕ) (line : List ℕ) → ((n : ℕ) → n < 2 ^ 64 → line ≢ count_line n) → NoneHas (version_line ∷ (width_line w ∷ [])) line
+pub bad_count : (w : ℕ) (line : List ℕ) → ((n : ℕ) → n < 2 ^ 64 → line ≢ count_line n) → NoneHas (version_line ∷ (interpreters_line w ∷ [])) line
 bad_count w line ne = λ s more is e. let k : count_line (length s.callers) ≡ line = cc e in ne (length s.callers) is.count (sym k)
 
 pub bad_caller : (w n : ℕ) (xs : List ℕ) (line : List ℕ) → w ≤ 64 → n < 2 ^ 64 → length xs < n → ((i : ℕ) → i < w → line ≢ decimal i) → NoneHas (first_lines w n xs) line
 bad_caller w n xs line k m l ne = λ s more is e.
     let h = head_of s w n xs (line ∷ more) is k m e in
     let lt : length xs < length s.callers = (let c = h.count in omega arith) in
-    let y = caller_line s.width s.callers xs line more lt is.each h.rest in
-    let b : y.0 < w = (let c = h.width in let d = y.1 in omega arith) in
+    let y = caller_line s.interpreters s.callers xs line more lt is.each h.rest in
+    let b : y.0 < w = (let c = h.interpreters in let d = y.1 in omega arith) in
     ne y.0 b y.2
 
 pub bad_end : (w n : ℕ) (xs : List ℕ) (line : List ℕ) → w ≤ 64 → n < 2 ^ 64 → length xs ≡ n → line ≢ end_line → NoneHas (first_lines w n xs) line
@@ -142,7 +142,7 @@ not_all w n xs s k m l is e =
 pub text_is : (t : List ℕ) (w n : ℕ) (xs : List ℕ) (rest after : List ℕ) → HasRead t w n xs rest → length xs ≡ n → rest ≡ end_line ++ 10 ∷ after → t ≡ ended (first_lines w n xs ++ end_line ∷ []) ++ after
 text_is t w n xs rest after h l e = line_more t (first_lines w n xs) rest end_line after h.split e
 
-pub all_lines : (w : ℕ) (xs : List ℕ) → (let s : Schedule = record { width = w; callers = xs } in first_lines w (length xs) xs ++ end_line ∷ [] ≡ lines_of s)
+pub all_lines : (w : ℕ) (xs : List ℕ) → (let s : Schedule = record { interpreters = w; callers = xs } in first_lines w (length xs) xs ++ end_line ∷ [] ≡ lines_of s)
 all_lines w xs = append_assoc (head_lines w (length xs)) (map decimal xs) (end_line ∷ [])
 
 map_one : (xs ys : List ℕ) (w : ℕ) → w ≤ 64 → AllByRecursion (λ i. i < w) xs → AllByRecursion (λ i. i < w) ys → map decimal xs ++ end_line ∷ [] ≡ map decimal ys ++ end_line ∷ [] → length xs ≡ length ys → xs ≡ ys
@@ -170,10 +170,10 @@ no_rest (l ∷ ls) e = absurd (not_empty l (ended ls) e)
 pub one_schedule : (s r : Schedule) → IsSchedule s → IsSchedule r → text_of s ≡ text_of r → s ≡ r
 one_schedule s r h k e =
     let c = cut_lines (lines_of s) (lines_of r) [] (all_are_lines s h) (all_are_lines r k) (e ∙ sym (append-nil (text_of r))) in
-    let f : lines_of s ≡ head_lines r.width (length r.callers) ++ ((map decimal r.callers ++ end_line ∷ []) ++ c.rest) = c.split ∙ append_assoc (head_lines r.width (length r.callers)) (map decimal r.callers ++ end_line ∷ []) c.rest in
-    let g = has_head s r.width (length r.callers) _ h k.most k.count f in
+    let f : lines_of s ≡ head_lines r.interpreters (length r.callers) ++ ((map decimal r.callers ++ end_line ∷ []) ++ c.rest) = c.split ∙ append_assoc (head_lines r.interpreters (length r.callers)) (map decimal r.callers ++ end_line ∷ []) c.rest in
+    let g = has_head s r.interpreters (length r.callers) _ h k.most k.count f in
     let z : (c.rest ≡ []) = no_rest c.rest c.left in
     let m : map decimal s.callers ++ end_line ∷ [] ≡ map decimal r.callers ++ end_line ∷ [] = g.rest ∙ ap (λ (x : List (List ℕ)). (map decimal r.callers ++ end_line ∷ []) ++ x) z ∙ append-nil (map decimal r.callers ++ end_line ∷ []) in
-    let each : AllByRecursion (λ i. i < r.width) s.callers = subst (λ (w : ℕ). AllByRecursion (λ i. i < w) s.callers) g.width h.each in
-    let d = map_one s.callers r.callers r.width k.most each k.each m g.count in
-    ap (λ (w : ℕ). let x : Schedule = record { width = w; callers = s.callers } in x) g.width ∙ ap (λ (xs : List ℕ). let x : Schedule = record { width = r.width; callers = xs } in x) d
+    let each : AllByRecursion (λ i. i < r.interpreters) s.callers = subst (λ (w : ℕ). AllByRecursion (λ i. i < w) s.callers) g.interpreters h.each in
+    let d = map_one s.callers r.callers r.interpreters k.most each k.each m g.count in
+    ap (λ (w : ℕ). let x : Schedule = record { interpreters = w; callers = s.callers } in x) g.interpreters ∙ ap (λ (xs : List ℕ). let x : Schedule = record { interpreters = r.interpreters; callers = xs } in x) d

@@ -5,19 +5,19 @@ use Rattle.std.specs.Fmt.{decimal, digits}
 use Rattle.std.specs.Str.Parse.{digits_value}
 use Rattle.std.proofs.lemmas.Fmt.{decimal_injective, decimal_digit, digits_value-decimal}
 use Rattle.std.proofs.lemmas.List.{append_cancel_left}
-use Rattle.si_schedule.specs.Schedules.{version_line, width_line, count_line, end_line}
+use Rattle.si_schedule.specs.Schedules.{version_line, interpreters_line, count_line, end_line}
 use Rattle.si_schedule.specs.BadLines.{IsBadLine}
 use Rattle.si_schedule.specs.inner.Reading.{HasRead}
 use Rattle.si_schedule.specs.Worked.{WorkedCases, eight}
 use Rattle.si_schedule.proofs.Numbers.{own, canonical_of}
-use Rattle.si_schedule.proofs.Lines.{width_word, count_word, has_feed, line_test, Reading}
-use Rattle.si_schedule.proofs.Schedules.{version_reading, width_reading}
-use Rattle.si_schedule.proofs.BadLines.{no_version, no_width, no_count, no_caller, no_end, goes_on}
+use Rattle.si_schedule.proofs.Lines.{interpreters_word, count_word, has_feed, line_test, Reading}
+use Rattle.si_schedule.proofs.Schedules.{version_reading, interpreters_reading}
+use Rattle.si_schedule.proofs.BadLines.{no_version, no_interpreters, no_count, no_caller, no_end, goes_on}
 
 -- numbers that are not written so
-not_wide : (w : ℕ) → w ≤ 64 → width_word ++ decimal 65 ≢ width_line w
+not_wide : (w : ℕ) → w ≤ 64 → interpreters_word ++ decimal 65 ≢ interpreters_line w
 not_wide w m e =
-    let k : 65 ≡ w = decimal_injective 65 w (omega arith) (omega arith) (append_cancel_left {A = ℕ} width_word (decimal 65) (decimal w) e) in
+    let k : 65 ≡ w = decimal_injective 65 w (omega arith) (omega arith) (append_cancel_left {A = ℕ} interpreters_word (decimal 65) (decimal w) e) in
     omega arith
 
 no_zero : (n : ℕ) → n < 2 ^ 64 → count_word ++ codes "01" ≢ count_line n
@@ -51,9 +51,9 @@ at_first left = version_line ++ 10 ∷ left
 read_version : (left : List ℕ) → Reading (at_first left) (version_line ∷ []) left
 read_version left = version_reading (at_first left) left refl
 
-read_width : (left : List ℕ) → Reading (eight left) (version_line ∷ width_line 8 ∷ []) left
+read_interpreters : (left : List ℕ) → Reading (eight left) (version_line ∷ interpreters_line 8 ∷ []) left
 unfolding digits
-read_width left = width_reading (eight left) (width_line 8 ++ 10 ∷ left) left 8 (omega arith) (omega arith) (read_version (width_line 8 ++ 10 ∷ left)) refl
+read_interpreters left = interpreters_reading (eight left) (interpreters_line 8 ++ 10 ∷ left) left 8 (omega arith) (omega arith) (read_version (interpreters_line 8 ++ 10 ∷ left)) refl
 
 -- how they go on behind a line
 abbrev behind : List ℕ → List ℕ → List ℕ
@@ -63,26 +63,26 @@ is_65 : IsBadLine (at_first (behind (codes "interpreters 65") (codes "turns 0\ne
 unfolding digits has_feed
 is_65 =
     let left = behind (codes "interpreters 65") (codes "turns 0\nend\n") in
-    no_width (at_first left) left (read_version left) (inr (codes "interpreters 65", codes "turns 0\nend\n", refl, line_test (codes "interpreters 65") refl, λ w l m. not_wide w m))
+    no_interpreters (at_first left) left (read_version left) (inr (codes "interpreters 65", codes "turns 0\nend\n", refl, line_test (codes "interpreters 65") refl, λ w l m. not_wide w m))
 
 not_ended : IsBadLine (at_first (codes "interpreters 8")) 2
 unfolding has_feed
 not_ended =
     let left = codes "interpreters 8" in
-    no_width (at_first left) left (read_version left) (inl (line_test left refl))
+    no_interpreters (at_first left) left (read_version left) (inl (line_test left refl))
 
 leads_zero : IsBadLine (eight (behind (codes "turns 01") (codes "0\nend\n"))) 3
 unfolding has_feed
 leads_zero =
     let left = behind (codes "turns 01") (codes "0\nend\n") in
-    no_count (eight left) left 8 (read_width left) (inr (codes "turns 01", codes "0\nend\n", refl, line_test (codes "turns 01") refl, no_zero))
+    no_count (eight left) left 8 (read_interpreters left) (inr (codes "turns 01", codes "0\nend\n", refl, line_test (codes "turns 01") refl, no_zero))
 
 past_64 : IsBadLine (eight (behind (codes "turns 18446744073709551616") (codes "end\n"))) 3
 unfolding has_feed
 past_64 =
     let line = codes "turns 18446744073709551616" in
     let left = behind line (codes "end\n") in
-    no_count (eight left) left 8 (read_width left) (inr (line, codes "end\n", refl, line_test line refl, not_held))
+    no_count (eight left) left 8 (read_interpreters left) (inr (line, codes "end\n", refl, line_test line refl, not_held))
 
 has_read : (left : List ℕ) → HasRead (eight (behind (codes "turns 1") left)) 8 1 [] left
 unfolding digits

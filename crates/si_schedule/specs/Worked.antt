@@ -4,7 +4,7 @@ use Rattle.si_schedule.specs.Schedules.{Schedule, text_of}
 use Rattle.si_schedule.specs.BadLines.{IsBadLine}
 
 abbrev pub schedule : ℕ → List ℕ → Schedule
-schedule w callers = record { width = w; callers = callers }
+schedule w callers = record { interpreters = w; callers = callers }
 
 -- the first lines, for 8 interpreters and this third line
 abbrev pub eight : List ℕ → List ℕ

@@ -2,9 +2,9 @@
 
 ghost use Rattle.std.specs.Prelude.{◌≡◌, ◌≢◌, ◌<◌, ◌≤◌, ◌^◌, ℕ, [], ◌++◌, ◌∷◌, IfOk, IfErr, IfSome, IfNone};
 ghost use Rattle.std.specs.Fmt.{decimal};
-ghost use Rattle.si_schedule.specs.Schedules.{Schedule as Value, IsSchedule, version_line, width_line, count_line, text_of};
+ghost use Rattle.si_schedule.specs.Schedules.{Schedule as Value, IsSchedule, version_line, interpreters_line, count_line, text_of};
 ghost use Rattle.si_schedule.specs.BadLines.{IsBadLine, IsReadFault, IsNoMemory};
-ghost use Rattle.si_schedule.specs.inner.Reading.{HasRead, IsNoVersion, IsNoWidth, IsNoCount, IsNoCaller, IsEnding};
+ghost use Rattle.si_schedule.specs.inner.Reading.{HasRead, IsNoVersion, IsNoInterpreters, IsNoCount, IsNoCaller, IsEnding};
 
 use crate::fault::ReadFault;
 use crate::line::{is_word, next_line, number, number_after};
@@ -37,14 +37,14 @@ fn read_text(alloc: Global, text: &str) -> Result<Schedule, ReadFault>
     ensures is { IfOk result (λ s. IsSchedule s) }
     ensures err { IfErr result (IsReadFault text.now) }
 {
-    let (width, count, start) = match read_head(text) {
+    let (interpreters, count, start) = match read_head(text) {
         Err(line) => return Err(ReadFault::BadLine(line)),
         Ok(head) => head,
     };
     let mut callers = Vec::new(alloc);
     let mut left = start;
     for _read in 0..count {
-        match next_caller(left, width) {
+        match next_caller(left, interpreters) {
             None => return Err(ReadFault::BadLine(callers.len() as u64 + 4)),
             Some((by, after)) => {
                 match callers.push(by) {
@@ -56,7 +56,7 @@ fn read_text(alloc: Global, text: &str) -> Result<Schedule, ReadFault>
         }
     }
     match last_line(left) {
-        Ending::Ended => Ok(Schedule::within(width, callers)),
+        Ending::Ended => Ok(Schedule::within(interpreters, callers)),
         Ending::NotEnded => Err(ReadFault::BadLine(callers.len() as u64 + 4)),
         Ending::GoesOn => Err(ReadFault::BadLine(callers.len() as u64 + 5)),
     }
@@ -69,11 +69,11 @@ fn read_head(text: &str) -> Result<(u32, u64, &str), u64>
 {
     match next_version(text) {
         None => Err(1),
-        Some(behind_version) => match next_width(behind_version) {
+        Some(behind_version) => match next_interpreters(behind_version) {
             None => Err(2),
-            Some((width, behind_width)) => match next_count(behind_width) {
+            Some((interpreters, behind_interpreters)) => match next_count(behind_interpreters) {
                 None => Err(3),
-                Some((count, left)) => Ok((width, count, left)),
+                Some((count, left)) => Ok((interpreters, count, left)),
             },
         },
     }
@@ -97,22 +97,22 @@ fn next_version(text: &str) -> Option<&str>
 }
 
 // How many interpreters the next line names, and what follows it.
-fn next_width(text: &str) -> Option<(u32, &str)>
-    ensures some { IfSome result (λ x. (1 ≤ x.0) × (x.0 ≤ 64) × (text.now ≡ width_line x.0 ++ 10 ∷ x.1.now)) }
-    ensures none { IfNone result (IsNoWidth text.now) }
+fn next_interpreters(text: &str) -> Option<(u32, &str)>
+    ensures some { IfSome result (λ x. (1 ≤ x.0) × (x.0 ≤ 64) × (text.now ≡ interpreters_line x.0 ++ 10 ∷ x.1.now)) }
+    ensures none { IfNone result (IsNoInterpreters text.now) }
 {
     match next_line(text) {
         None => None,
-        Some((line, left)) => match width_in(line) {
+        Some((line, left)) => match interpreters_in(line) {
             None => None,
-            Some(width) => Some((width, left)),
+            Some(interpreters) => Some((interpreters, left)),
         },
     }
 }
 
-fn width_in(line: &str) -> Option<u32>
-    ensures some { IfSome result (λ w. (1 ≤ w) × (w ≤ 64) × (line.now ≡ width_line w)) }
-    ensures none { IfNone result ((w : ℕ) → 1 ≤ w → w ≤ 64 → line.now ≢ width_line w) }
+fn interpreters_in(line: &str) -> Option<u32>
+    ensures some { IfSome result (λ w. (1 ≤ w) × (w ≤ 64) × (line.now ≡ interpreters_line w)) }
+    ensures none { IfNone result ((w : ℕ) → 1 ≤ w → w ≤ 64 → line.now ≢ interpreters_line w) }
 {
     match number_after(line, "interpreters ") {
         None => None,
@@ -141,27 +141,27 @@ fn next_count(text: &str) -> Option<(u64, &str)>
 }
 
 // The caller that the next line names, and what follows it.
-fn next_caller(text: &str, width: u32) -> Option<(u32, &str)>
-    ensures some { IfSome result (λ x. (x.0 < width) × (text.now ≡ decimal x.0 ++ 10 ∷ x.1.now)) }
-    ensures none { IfNone result (IsNoCaller text.now width) }
+fn next_caller(text: &str, interpreters: u32) -> Option<(u32, &str)>
+    ensures some { IfSome result (λ x. (x.0 < interpreters) × (text.now ≡ decimal x.0 ++ 10 ∷ x.1.now)) }
+    ensures none { IfNone result (IsNoCaller text.now interpreters) }
 {
     match next_line(text) {
         None => None,
-        Some((line, left)) => match caller_in(line, width) {
+        Some((line, left)) => match caller_in(line, interpreters) {
             None => None,
             Some(by) => Some((by, left)),
         },
     }
 }
 
-fn caller_in(line: &str, width: u32) -> Option<u32>
-    ensures some { IfSome result (λ i. (i < width) × (line.now ≡ decimal i)) }
-    ensures none { IfNone result ((i : ℕ) → i < width → line.now ≢ decimal i) }
+fn caller_in(line: &str, interpreters: u32) -> Option<u32>
+    ensures some { IfSome result (λ i. (i < interpreters) × (line.now ≡ decimal i)) }
+    ensures none { IfNone result ((i : ℕ) → i < interpreters → line.now ≢ decimal i) }
 {
     match number(line) {
         None => None,
         Some(number) => {
-            if number < u64::from(width) {
+            if number < u64::from(interpreters) {
                 Some(number as u32)
             } else {
                 None

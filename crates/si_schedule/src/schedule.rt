@@ -10,7 +10,7 @@ use std::marker::Model;
 /// by their numbers, each below that. The limits are this project's own.
 #[derive(Drop)]
 pub struct Schedule {
-    width: u32,
+    interpreters: u32,
     callers: Vec<u32>,
 }
 
@@ -19,38 +19,41 @@ impl Model for Schedule {
 
     ghost Value = { Schedule };
 
-    ghost view = { λ s. record { width = s.width; callers = s.callers.items } };
+    ghost view = { λ s. record { interpreters = s.interpreters; callers = s.callers.items } };
 
-    ghost invariant = { λ s. IsSchedule (record { width = s.width; callers = s.callers.items }) };
+    ghost invariant = { λ s. IsSchedule (record { interpreters = s.interpreters; callers = s.callers.items }) };
 }
 
 impl Schedule {
-    /// The schedule of these callers, in order; none where `width` is not from 1 to 64, or a caller is not below it.
-    pub fn new(width: u32, callers: Vec<u32>) -> Option<Schedule>
-        ensures { SomeIff result (IsSchedule (record { width = width; callers = callers.items })) (record { width = width; callers = callers.items }) }
+    /// The schedule of these callers, in order; none where `interpreters` is not from 1 to 64, or a caller is not below it.
+    pub fn new(interpreters: u32, callers: Vec<u32>) -> Option<Schedule>
+        ensures { SomeIff result (IsSchedule (record { interpreters = interpreters; callers = callers.items })) (record { interpreters = interpreters; callers = callers.items }) }
     {
-        if (1..=MAX_INTERPRETERS).contains(&width) && are_below(&callers, width) {
-            Some(Schedule::within(width, callers))
+        if (1..=MAX_INTERPRETERS).contains(&interpreters) && are_below(&callers, interpreters) {
+            Some(Schedule::within(interpreters, callers))
         } else {
             None
         }
     }
 
     // The schedule of numbers that are within their limits.
-    pub(crate) fn within(width: u32, callers: Vec<u32>) -> Schedule
-        requires { IsSchedule (record { width = width; callers = callers.items }) }
-        ensures { result ≡ record { width = width; callers = callers.items } }
+    pub(crate) fn within(interpreters: u32, callers: Vec<u32>) -> Schedule
+        requires { IsSchedule (record { interpreters = interpreters; callers = callers.items }) }
+        ensures { result ≡ record { interpreters = interpreters; callers = callers.items } }
     {
-        Schedule { width, callers }
+        Schedule {
+            interpreters,
+            callers,
+        }
     }
 
     /// How many interpreters the run may create, closed ones counted: from 1 to 64.
-    pub fn width(&self) -> u32
-        ensures value { result ≡ self.now.width }
+    pub fn interpreters(&self) -> u32
+        ensures value { result ≡ self.now.interpreters }
         ensures least { 1 ≤ result }
         ensures most { result ≤ 64 }
     {
-        self.width
+        self.interpreters
     }
 
     /// The interpreters whose shared actions were taken, in order.
@@ -68,9 +71,9 @@ impl Schedule {
     }
 }
 
-// Whether each of these is below `width`.
-fn are_below(callers: &[u32], width: u32) -> bool
-    ensures { IsTrue result ↔ All (λ i. i < width) callers.now }
+// Whether each of these is one of so many interpreters.
+fn are_below(callers: &[u32], interpreters: u32) -> bool
+    ensures { IsTrue result ↔ All (λ i. i < interpreters) callers.now }
 {
-    callers.iter().all(|&by| by < width)
+    callers.iter().all(|&by| by < interpreters)
 }

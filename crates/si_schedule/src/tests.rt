@@ -27,7 +27,7 @@ fn written_and_read_again(rt: HostRuntime) -> Result<(), Fail> {
     let text = write(alloc, &schedule)?;
     assert_eq!(rt; text.as_str(), THREE_CALLERS);
     let again = read(alloc, text.as_str()).map_err(|_| "not read")?;
-    assert_eq!(rt; again.width(), 8);
+    assert_eq!(rt; again.interpreters(), 8);
     assert_eq!(rt; again.callers(), [0, 1, 0].as_slice());
     Ok(())
 }
@@ -35,15 +35,15 @@ fn written_and_read_again(rt: HostRuntime) -> Result<(), Fail> {
 #[test]
 fn numbers_past_their_limits(rt: HostRuntime) -> Result<(), Fail> {
     let alloc = rt.alloc();
-    for (width, caller, is_some) in [
+    for (interpreters, caller, is_some) in [
         (1, 0, true),
         (64, 63, true),
         (0, 0, false),
         (65, 0, false),
         (8, 8, false),
     ] {
-        let schedule = Schedule::new(width, vec![in alloc; caller]?);
-        assert_eq!(rt; schedule.is_some(), is_some, "{caller} of {width}");
+        let schedule = Schedule::new(interpreters, vec![in alloc; caller]?);
+        assert_eq!(rt; schedule.is_some(), is_some, "{caller} of {interpreters}");
     }
     Ok(())
 }

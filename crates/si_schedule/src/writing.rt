@@ -19,7 +19,11 @@ pub fn write(alloc: Global, schedule: &Schedule) -> Result<String, NoMemory>
 {
     let mut text = String::new(alloc);
     text.push_str("schedule 1\n")?;
-    push_line(&mut text, "interpreters ", u64::from(schedule.width()))?;
+    push_line(
+        &mut text,
+        "interpreters ",
+        u64::from(schedule.interpreters()),
+    )?;
     push_line(&mut text, "turns ", schedule.callers().len() as u64)?;
     for by in schedule.callers() {
         push_line(&mut text, "", u64::from(*by))?;

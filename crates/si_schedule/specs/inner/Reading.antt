@@ -4,7 +4,7 @@ use Rattle.std.specs.List.{AllByRecursion}
 use Rattle.std.specs.Fmt.{decimal}
 use Rattle.si_schedule.specs.declared.reading.Ending.{Ending}
 use Rattle.si_schedule.specs.declared.reading.Ending.TheVariants as endings
-use Rattle.si_schedule.specs.Schedules.{version_line, width_line, count_line, end_line, head_lines, ended}
+use Rattle.si_schedule.specs.Schedules.{version_line, interpreters_line, count_line, end_line, head_lines, ended}
 use Rattle.si_schedule.specs.BadLines.{IsLine}
 
 -- not empty, no plus, and a zero at its front only alone
@@ -25,8 +25,8 @@ pub record HasRead (text : List ℕ) (w n : ℕ) (callers left : List ℕ) : Typ
 abbrev pub IsNoVersion : List ℕ → Type 0
 IsNoVersion left = IsLine left ⊎ ((line : List ℕ) × (after : List ℕ) × (left ≡ line ++ 10 ∷ after) × IsLine line × (line ≢ version_line))
 
-abbrev pub IsNoWidth : List ℕ → Type 0
-IsNoWidth left = IsLine left ⊎ ((line : List ℕ) × (after : List ℕ) × (left ≡ line ++ 10 ∷ after) × IsLine line × ((w : ℕ) → 1 ≤ w → w ≤ 64 → line ≢ width_line w))
+abbrev pub IsNoInterpreters : List ℕ → Type 0
+IsNoInterpreters left = IsLine left ⊎ ((line : List ℕ) × (after : List ℕ) × (left ≡ line ++ 10 ∷ after) × IsLine line × ((w : ℕ) → 1 ≤ w → w ≤ 64 → line ≢ interpreters_line w))
 
 abbrev pub IsNoCount : List ℕ → Type 0
 IsNoCount left = IsLine left ⊎ ((line : List ℕ) × (after : List ℕ) × (left ≡ line ++ 10 ∷ after) × IsLine line × ((n : ℕ) → n < 2 ^ 64 → line ≢ count_line n))
