@@ -49,6 +49,9 @@ def put_and_get():
 
     least("put and get: interpreters.Queue", call)
     least("size: interpreters.Queue", queue.qsize)
+    interp = interpreters.create()
+    least("exec: Interpreter.exec", lambda: interp.exec("x = 1"))
+    least("make and close: interpreters.create", lambda: interpreters.create().close())
 
 
 times_of("int", 1000, 1000)

@@ -1,0 +1,5 @@
+pub mod Going
+pub mod Living
+pub mod Logs
+pub mod Answering
+pub mod Keeping

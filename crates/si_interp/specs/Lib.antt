@@ -1,0 +1,6 @@
+pub mod Life
+pub mod Course
+pub mod Meaning
+pub mod View
+pub mod InterpCode
+pub mod inner

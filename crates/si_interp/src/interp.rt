@@ -1,0 +1,300 @@
+// One interpreter.
+
+ghost use Rattle.std.specs.Prelude.{◌≡◌, ◌≢◌, ◌<◌, ◌+◌, ◌-◌, ◌^◌, [], ◌∷◌, ◌++◌, true, false, None, Some, IfOk, IfSome, IfNone, MatchOption, vec_len, vec_capacity};
+ghost use Rattle.std.specs.Option.{IsSomeAnd};
+ghost use Rattle.si_plain.specs.Characters.{characters_of};
+ghost use Rattle.si_semantics.specs.Actions as shared;
+ghost use Rattle.si_parcel.specs.Shared.{action_of, answer_of};
+ghost use Rattle.si_steps.specs.Machines.{Steps};
+ghost use Rattle.si_interp.specs.Meaning.{At, Ready, Shows};
+ghost use Rattle.si_interp.specs.View.{view_of, action_at, FitsStand, Answers, Stepped, step_at, state_at, starved_view, taken_view};
+ghost use Rattle.si_slots.specs.Machine.{Course};
+ghost use Rattle.si_interp.specs.inner.Keeps.{IsUnderWay};
+
+use crate::arriving::{arrive, come_to_end, note, put};
+use crate::taking::answered;
+use si_parcel::{Action, Answer};
+use si_plain::NoMemory;
+use si_steps::{Machine, Step as Line};
+use std::alloc::Global;
+use std::marker::Model;
+
+/// An action that was answered, and how many lines the interpreter had run before its answer.
+#[derive(Drop)]
+pub struct Logged {
+    pub action: Action,
+    pub answer: Answer,
+    pub at: u64,
+}
+
+impl Model for Logged {
+    ghost use Rattle.si_interp.specs.Meaning.{Logged};
+    ghost use Rattle.si_interp.specs.InterpCode.{logged_code};
+    ghost use Rattle.si_parcel.specs.Shared.{action_of, answer_of};
+
+    ghost Value = { Logged };
+
+    ghost coded = { logged_code };
+
+    ghost view = { λ l. record { action = action_of l.action; answer = answer_of l.answer; at = l.at } };
+}
+
+/// What a step did.
+#[derive(Clone, Copy, Debug, Drop, PartialEq, Eq)]
+pub enum Step {
+    /// A line was run, and there is another.
+    Local,
+    /// It stands at an action. Where it did so before, nothing was done.
+    Asks,
+    /// It is gone; nothing was done.
+    Gone,
+    /// It stands still for good. No line was run.
+    Starved,
+}
+
+/// How an interpreter stands.
+#[derive(Clone, Copy, Debug, Drop, PartialEq, Eq)]
+pub enum State {
+    /// It has a line to run.
+    Ready,
+    /// It stands at an action, and goes on with its answer.
+    AtAction,
+    /// It is gone.
+    Gone,
+    /// It stands still for good: memory was refused, or it was told to.
+    Starved,
+}
+
+/// One interpreter, with all that it has printed and the answers that it was given.
+#[derive(Drop)]
+pub struct Interp {
+    id: u32,
+    machine: Machine,
+    log: Vec<Logged>,
+    locals: u64,
+    state: State,
+    kept: Option<Action>,
+    offered: Option<Action>,
+    alloc: Global,
+}
+
+// One line of a machine that is at the moment of this log and these lines, of which the contract speaks alone.
+#[inline(always)]
+fn line(machine: &mut Machine, log: &[Logged], locals: u64) -> Line
+    ghost c: { Course }
+    requires { IsUnderWay c machine.old }
+    ensures { Steps c machine.old machine.new result }
+{
+    let _ = log;
+    let _ = locals;
+    machine.step()
+}
+
+impl Model for Interp {
+    ghost use Rattle.std.specs.Prelude.{◌-◌, vec_len, vec_capacity};
+    ghost use Rattle.si_plain.specs.Characters.{characters_of};
+    ghost use Rattle.si_steps.specs.Machines.{printed_of};
+    ghost use Rattle.si_interp.specs.Meaning.{InterpView};
+    ghost use Rattle.si_interp.specs.InterpCode.{view_code};
+
+    ghost Value = { InterpView };
+
+    ghost coded = { view_code };
+
+    ghost use Rattle.si_interp.specs.View.{view_of};
+    ghost use Rattle.si_interp.specs.inner.Keeps.{stand_in, taken_in, Keeps};
+
+    ghost view = { λ a. view_of a.id (characters_of (printed_of a.machine)) a.log.items a.locals (stand_in a.state a.kept) (taken_in a.state a.offered) };
+
+    ghost invariant = { λ a. Keeps a.id a.machine a.log.items a.locals (vec_capacity a.log - vec_len a.log) a.state a.kept a.offered };
+}
+
+impl Interp {
+    /// A new interpreter of this number: it waits for a job.
+    ///
+    /// # Errors
+    ///
+    /// `NoMemory` where memory was refused.
+    pub fn new(alloc: Global, id: u32) -> Result<Interp, NoMemory>
+        ensures { IfOk result (λ i. i ≡ view_of id [] [] 0 (At shared.Take) false) }
+    {
+        let mut log = Vec::new(alloc);
+        log.reserve(1)?;
+        Ok(Interp {
+            id,
+            machine: Machine::new(alloc),
+            log,
+            locals: 0,
+            state: State::AtAction,
+            kept: Some(Action::Take),
+            offered: Some(Action::Take),
+            alloc,
+        })
+    }
+
+    /// It shows its meaning. Costs nothing.
+    pub fn facts(&self)
+        ensures { Shows self.now }
+    {
+        let _ = &self.locals;
+    }
+
+    /// Its number.
+    pub fn id(&self) -> u32
+        ensures { result ≡ self.now.id }
+    {
+        self.id
+    }
+
+    /// All that it has printed.
+    pub fn printed(&self) -> &str
+        ensures { characters_of result.now ≡ self.now.printed }
+    {
+        self.machine.printed()
+    }
+
+    /// The actions that were answered, in order.
+    pub fn log(&self) -> &[Logged]
+        ensures { result.now ≡ self.now.log }
+    {
+        self.log.as_slice()
+    }
+
+    /// How many lines it has run.
+    pub fn locals(&self) -> u64
+        ensures { result ≡ self.now.locals }
+    {
+        self.locals
+    }
+
+    /// How it stands.
+    pub fn state(&self) -> State
+        ensures { result ≡ state_at self.now.stand }
+    {
+        self.state
+    }
+
+    /// The action at which it stands, until it is answered.
+    pub fn pending(&self) -> Option<&Action>
+        ensures { MatchOption result (action_at self.now.stand ≡ None) (λ a. action_at self.now.stand ≡ Some (action_of a.now)) }
+    {
+        match self.state {
+            State::AtAction => self.kept.as_ref(),
+            _ => None,
+        }
+    }
+
+    /// Whether the action at which it stands was handed out.
+    pub fn is_taken(&self) -> bool
+        ensures { result ≡ self.now.taken }
+    {
+        match self.state {
+            State::AtAction => self.offered.is_none(),
+            _ => false,
+        }
+    }
+
+    /// Hands out the action at which it stands, once.
+    pub fn take_action(&mut self) -> Option<Action>
+        ensures some { IfSome result (λ a. (self.old.stand ≡ At (action_of a)) × (self.old.taken ≡ false) × (self.new ≡ taken_view self.old true)) }
+        ensures none { IfNone result (self.new ≡ self.old) }
+        ensures hands { (a : shared.Action) → self.old.stand ≡ At a → self.old.taken ≡ false → IsSomeAnd result (λ b. action_of b ≡ a) }
+    {
+        match self.state {
+            State::AtAction => self.offered.take(),
+            _ => None,
+        }
+    }
+
+    /// Takes back the action that it handed out.
+    pub fn give_back(&mut self, action: Action)
+        requires taken { self.old.taken ≡ true }
+        requires same { self.old.stand ≡ At (action_of action) }
+        ensures { self.new ≡ taken_view self.old false }
+    {
+        put(&mut self.offered, Some(action));
+    }
+
+    /// Stops it for good.
+    pub fn starve(&mut self)
+        ensures { self.new ≡ starved_view self.old }
+    {
+        self.state = State::Starved;
+    }
+
+    /// Runs one line, where it has one. With that it may come to the end of its run, at which it then stands. Where memory is
+    /// refused, also that to tell how the run ended, it stands still for good, and the line doesn't count.
+    pub fn step(&mut self) -> Step
+        requires { self.old.locals < 2 ^ 40 }
+        ensures still { self.old.stand ≢ Ready → (self.new ≡ self.old) × (result ≡ step_at self.old.stand) }
+        ensures ready { self.old.stand ≡ Ready → Stepped self.old result self.new }
+        ensures told { result ≡ step_at self.new.stand }
+    {
+        match self.state {
+            State::Starved => Step::Starved,
+            State::AtAction => Step::Asks,
+            State::Gone => Step::Gone,
+            State::Ready => match line(&mut self.machine, self.log.as_slice(), self.locals) {
+                Line::Local => {
+                    self.locals += 1;
+                    Step::Local
+                }
+                Line::Starved => {
+                    self.state = State::Starved;
+                    Step::Starved
+                }
+                Line::Ended => match come_to_end(
+                    self.alloc,
+                    &self.machine,
+                    self.locals,
+                    &mut self.log,
+                    &mut self.kept,
+                    &mut self.offered,
+                ) {
+                    Err(_) => {
+                        self.state = State::Starved;
+                        Step::Starved
+                    }
+                    Ok(state) => {
+                        self.state = state;
+                        self.locals += 1;
+                        Step::Asks
+                    }
+                },
+            },
+        }
+    }
+
+    /// Answers the action that it handed out, which then is the last of its log. It goes on with the job that it is given, or
+    /// waits for the next. Where memory is refused it stands still for good.
+    pub fn answer(&mut self, answer: Answer)
+        requires taken { self.old.taken ≡ true }
+        requires fits { FitsStand (answer_of answer) self.old.stand }
+        ensures { Answers self.old (answer_of answer) self.new }
+    {
+        let Some(action) = self.kept.take() else {
+            unreachable!()
+        };
+        let at = self.locals;
+        match answered(
+            self.alloc,
+            &mut self.machine,
+            self.log.as_slice(),
+            at,
+            &action,
+            &answer,
+        ) {
+            Err(_) => {
+                note(&mut self.log, Logged { action, answer, at });
+                self.state = State::Starved;
+            }
+            Ok(next) => {
+                note(&mut self.log, Logged { action, answer, at });
+                match arrive(next, &mut self.log, &mut self.kept, &mut self.offered) {
+                    Err(_) => self.state = State::Starved,
+                    Ok(state) => self.state = state,
+                }
+            }
+        }
+    }
+}

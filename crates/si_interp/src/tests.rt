@@ -1,0 +1,130 @@
+// One interpreter, with a test as its host.
+
+use crate::{Interp, State, Step};
+use si_parcel::{Action, Answer, Binds, BoxedText, Job, Outcome, Parcel};
+use si_plain::{Kind, Text};
+use std::alloc::{AllocError, Global};
+use std::test::Fail;
+
+// Gives an answer to the action at which it stands, if it fits.
+fn give(interp: &mut Interp, answer: Answer) -> bool {
+    match interp.take_action() {
+        None => false,
+        Some(action) => {
+            if answer.fits(&action) {
+                interp.answer(answer);
+                true
+            } else {
+                interp.give_back(action);
+                false
+            }
+        }
+    }
+}
+
+// That a text is to be run.
+fn to_run(alloc: Global, text: &str) -> Result<Answer, AllocError> {
+    let text = BoxedText::new(alloc, Text::from_str(alloc, text)?)?;
+    Ok(Answer::Given(Job::Run(0, text)))
+}
+
+// Gives it a text to run.
+fn give_text(alloc: Global, interp: &mut Interp, text: &str) -> Result<bool, AllocError> {
+    Ok(give(interp, to_run(alloc, text)?))
+}
+
+// Runs lines, until none is left or there were a hundred.
+fn go_on(interp: &mut Interp) -> Step {
+    for _ in 0..100 {
+        if interp.locals() >= 1000 {
+            return Step::Local;
+        }
+        match interp.step() {
+            Step::Local => {}
+            step => return step,
+        }
+    }
+    Step::Local
+}
+
+// Whether it stands at the end of a run that has returned.
+fn has_returned(interp: &Interp) -> bool {
+    matches!(interp.pending(), Some(Action::End(Outcome::Returned)))
+}
+
+#[test]
+fn second_run_sees_the_names_of_the_first(rt: HostRuntime) -> Result<(), Fail> {
+    let alloc = rt.alloc();
+    let mut interp = Interp::new(alloc, 0)?;
+    assert!(rt; give_text(alloc, &mut interp, "x = 6\nprint(x * 7)\n")?);
+    assert_eq!(rt; go_on(&mut interp), Step::Asks);
+    assert!(rt; interp.printed() == "42\n");
+    assert!(rt; has_returned(&interp));
+    assert!(rt; give(&mut interp, Answer::Done));
+    assert!(rt; give_text(alloc, &mut interp, "print(x + 1)\n")?);
+    assert_eq!(rt; go_on(&mut interp), Step::Asks);
+    assert!(rt; interp.printed() == "42\n7\n");
+    assert_eq!(rt; interp.log().len(), 3);
+    Ok(())
+}
+
+#[test]
+fn text_that_is_not_read_is_left_at_once(rt: HostRuntime) -> Result<(), Fail> {
+    let alloc = rt.alloc();
+    let mut interp = Interp::new(alloc, 0)?;
+    assert!(rt; give_text(alloc, &mut interp, "x = = 6\n")?);
+    assert_eq!(rt; interp.locals(), 0);
+    match interp.pending() {
+        Some(Action::End(Outcome::Raised(kind, message))) => {
+            assert_eq!(rt; *kind, Kind::SyntaxError);
+            assert!(rt; message.as_text().as_str() == "invalid syntax");
+        }
+        _ => assert!(rt; false),
+    }
+    assert!(rt; give(&mut interp, Answer::Done));
+    assert!(rt; give(&mut interp, Answer::Given(Job::Closing)));
+    assert_eq!(rt; go_on(&mut interp), Step::Gone);
+    Ok(())
+}
+
+#[test]
+fn names_are_bound_before_a_run(rt: HostRuntime) -> Result<(), Fail> {
+    let alloc = rt.alloc();
+    let mut interp = Interp::new(alloc, 0)?;
+    let mut pairs = Vec::new(alloc);
+    pairs.push((Text::from_str(alloc, "n")?, Parcel::int(5)))?;
+    let binds = Job::Bind(Binds::new(alloc, pairs)?);
+    assert!(rt; give(&mut interp, Answer::Given(binds)));
+    assert!(rt; give_text(alloc, &mut interp, "print(n)\n")?);
+    assert_eq!(rt; go_on(&mut interp), Step::Asks);
+    assert!(rt; interp.printed() == "5\n");
+    Ok(())
+}
+
+#[test]
+fn refused_text(rt: HostRuntime) -> Result<(), Fail> {
+    let alloc = rt.alloc();
+    let mut interp = Interp::new(alloc, 0)?;
+    let mut other = Interp::new(alloc, 0)?;
+    let text = to_run(alloc, "x = 'seven' * 7\n")?;
+    let again = to_run(alloc, "x = 'seven' * 7\n")?;
+    assert!(rt; give(&mut interp, text));
+    assert_eq!(rt; interp.log().len(), 1);
+    if interp.state() == State::Starved {
+        assert!(rt; give(&mut other, again));
+        interp = other;
+    }
+    assert_eq!(rt; interp.state(), State::Ready);
+    Ok(())
+}
+
+#[test]
+fn refused_interpreter(rt: HostRuntime) -> Result<(), Fail> {
+    let interp = match Interp::new(rt.alloc(), 3) {
+        Ok(interp) => interp,
+        Err(_) => Interp::new(rt.alloc(), 3)?,
+    };
+    assert_eq!(rt; interp.id(), 3);
+    assert!(rt; !interp.is_taken());
+    Ok(())
+}
