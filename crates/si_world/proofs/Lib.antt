@@ -1,0 +1,11 @@
+pub mod Lists
+pub mod Legality
+pub mod Counting
+pub mod Firsts
+pub mod Turning
+pub mod Coring
+pub mod Serving
+pub mod Resting
+pub mod Stretching
+pub mod Copying
+pub mod Ends

@@ -1,0 +1,131 @@
+-- Turns of one interpreter while nothing is asked of what all share.
+use Rattle.std.proofs.Common.{◌≡◌, ℕ, zero, suc, ◌+◌, ◌<◌, ◌≤◌, List, [], ◌∷◌, ◌++◌, length, length-append, set, replicate, refl, ap, sym, ◌∙◌, subst, arith, inl, inr, Bool, true, false, slice_get, Some}
+use Rattle.std.proofs.lemmas.Bool.Decides.{eqb_tells}
+use Rattle.std.proofs.lemmas.List.{length-set}
+use Rattle.si_hub.specs.HubCode.{Past}
+use Rattle.si_interp.specs.Meaning.{InterpView, Stand, Ready, At, Gone, Starved, Shows}
+use Rattle.si_interp.specs.View.{Counts, step_at, starved_view}
+use Rattle.si_interp.specs.declared.interp.Step.TheVariants as steps
+use Rattle.si_world.specs.declared.mark.Mark.{Mark}
+use Rattle.si_world.specs.declared.mark.Mark.TheVariants as marks
+use Rattle.si_world.specs.Legal.{exchanges}
+use Rattle.si_world.specs.Worlds.{WorldView, world, created, IsMember, IsWorld}
+use Rattle.si_world.specs.Marks.{Moves, Ran}
+use Rattle.si_world.specs.Rounds.{IdleWithin}
+use Rattle.si_world.specs.inner.Serving.{idle_after, Gives}
+use Rattle.si_world.specs.inner.Stretches.{Goes, last_idle, Stretched}
+use Rattle.si_world.proofs.Lists.{get-set_same, get-set_other}
+use Rattle.si_world.proofs.Turning.{turned_by}
+use Rattle.si_world.proofs.Coring.{set-same}
+use Rattle.si_world.proofs.Serving.{idle-append, after-append}
+
+Goes-more : (p : Past) (i : ℕ) (v : InterpView) (ms : List Mark) (u : InterpView) (m : Mark) (w : InterpView) → Goes p i v ms u → Moves p i u m p w → Goes p i v (ms ++ m ∷ []) w
+Goes-more p i v [] u m w g h = (w, subst (λ (x : InterpView). Moves p i x m p w) g h, refl)
+Goes-more p i v (k ∷ ms) u m w g h = (g.0, g.1, Goes-more p i g.0 ms u m w g.2 h)
+
+pub stretched_none : (turns : ℕ) (v : InterpView) → Stretched turns v 0 false v
+stretched_none turns v = record { marks = []; count = refl; goes = λ p i e. refl; id = refl; log = refl; taken = λ e. e; locals = λ l. l; idle_within = omega arith; idle_end = refl }
+
+-- what one line leaves as it was
+record IsLine (turns : ℕ) (u w : InterpView) : Type 0 where
+  pub id : w.id ≡ u.id
+  pub log : w.log ≡ u.log
+  pub taken : w.taken ≡ false
+  pub locals : w.locals ≤ turns
+
+-- one turn more after lines
+stretched_more : (turns : ℕ) (v u w : InterpView) (n : ℕ) (m : Mark) (b : Bool) → Stretched turns v n false u → ((p : Past) (i : ℕ) → p.limits.turns ≡ turns → Moves p i u m p w)
+    → IsLine turns u w → IdleWithin 128 0 (m ∷ []) → idle_after 0 (m ∷ []) ≡ last_idle b → Stretched turns v (n + 1) b w
+stretched_more turns v u w n m b s h x k e = record {
+  marks = s.marks ++ m ∷ [];
+  count = length-append s.marks (m ∷ []) ∙ ap (λ (x : ℕ). x + 1) s.count;
+  goes = λ p i t. Goes-more p i v s.marks u m w (s.goes p i t) (h p i t);
+  id = x.id ∙ s.id;
+  log = x.log ∙ s.log;
+  taken = λ t. x.taken;
+  locals = λ l. x.locals;
+  idle_within = idle-append 128 0 s.marks (m ∷ []) s.idle_within (subst (λ (x : ℕ). IdleWithin 128 x (m ∷ [])) (sym s.idle_end) k);
+  idle_end = after-append 0 s.marks (m ∷ []) ∙ ap (λ (x : ℕ). idle_after x (m ∷ [])) s.idle_end ∙ e;
+}
+
+-- a line that counts
+pub stretched_line : (turns : ℕ) (v u w : InterpView) (n : ℕ) → Stretched turns v n false u → u.stand ≡ Ready → u.locals < turns → Counts u w → Stretched turns v (n + 1) false w
+stretched_line turns v u w n s r l c =
+    stretched_more turns v u w n marks.Local false s (λ p i t. (r, (let e = t in omega arith), refl, c)) (record { id = c.id; log = c.log; taken = c.taken; locals = let e = c.locals in omega arith }) (omega arith, omega arith) refl
+
+-- a line for which memory is refused
+pub stretched_starved : (turns : ℕ) (v u w : InterpView) (n : ℕ) → Stretched turns v n false u → u.stand ≡ Ready → u.locals < turns → w ≡ starved_view u → Stretched turns v (n + 1) true w
+stretched_starved turns v u w n s r l c =
+    stretched_more turns v u w n marks.Starved true s (λ p i t. (inl (r, (let e = t in omega arith)), refl, c))
+    (record { id = ap (λ (x : InterpView). x.id) c; log = ap (λ (x : InterpView). x.log) c; taken = ap (λ (x : InterpView). x.taken) c; locals = let e = ap (λ (x : InterpView). x.locals) c in omega arith })
+    (omega arith, omega arith) refl
+
+pub is_ready : (s : Stand) → steps.Local ≡ step_at s → s ≡ Ready
+is_ready Ready e = refl
+is_ready (At a) e = cc
+is_ready Gone e = cc
+is_ready Starved e = cc
+
+-- ---- in the world
+
+set_twice : {X : Type 0} (xs : List X) (i : ℕ) (x y : X) → set (set xs i x) i y ≡ set xs i y
+set_twice [] i x y = refl
+set_twice (z ∷ xs) zero x y = refl
+set_twice (z ∷ xs) (suc i) x y = ap (λ (ys : List _). z ∷ ys) (set_twice xs i x y)
+
+goes_ran : (p : Past) (vs : List InterpView) (i : ℕ) (v : InterpView) (ms : List Mark) (w : InterpView) → slice_get vs i ≡ Some v → i < created p → Goes p i v ms w
+    → Ran (world p vs) (replicate (length ms) i) ms (world p (set vs i w))
+goes_ran p vs i v [] w at lt g = ap (world p) (ap (set vs i) g ∙ set-same vs i v at)
+goes_ran p vs i v (m ∷ ms) w at lt g =
+    let u = g.0 in (
+      world p (set vs i u),
+      turned_by p p vs i v u m (world p vs) refl at g.1 lt,
+      subst (λ (us : List InterpView). Ran (world p (set vs i u)) (replicate (length ms) i) ms (world p us)) (set_twice vs i u w)
+          (goes_ran p (set vs i u) i u ms w (get-set_same vs i v u at) lt g.2),
+    )
+
+length_replicate : (n i : ℕ) → length (replicate n i) ≡ n
+length_replicate zero i = refl
+length_replicate (suc n) i = ap suc (length_replicate n i)
+
+pub stretched_gives : (p : Past) (vs : List InterpView) (i : ℕ) (v w : InterpView) (n : ℕ) (b : Bool) (old : WorldView) → world p vs ≡ old → slice_get vs i ≡ Some v → i < created p
+    → Stretched p.limits.turns v n b w → Gives 0 old n (world p (set vs i w)) (last_idle b)
+stretched_gives p vs i v w n b old e at lt s = subst (λ (o : WorldView). Gives 0 o n (world p (set vs i w)) (last_idle b)) e (record {
+  turns = replicate (length s.marks) i;
+  marks = s.marks;
+  ran = goes_ran p vs i v s.marks w at lt (s.goes p i refl);
+  count = length_replicate (length s.marks) i ∙ s.count;
+  idle_within = s.idle_within;
+  idle_end = let k = s.idle_end in omega arith;
+})
+
+pub stretched_member : (p : Past) (i : ℕ) (v w : InterpView) (n : ℕ) (b : Bool) → IsMember p i v → Stretched p.limits.turns v n b w → Shows w → IsMember p i w
+stretched_member p i v w n b h s x = record {
+  id = s.id ∙ h.id;
+  shows = x;
+  log = h.log ∙ ap exchanges (sym s.log);
+  taken = s.taken h.taken;
+  locals = s.locals h.locals;
+}
+
+member_set : (p : Past) (vs : List InterpView) (i : ℕ) (v w : InterpView) (k : ℕ) (u : InterpView) → IsWorld (world p vs) → slice_get vs i ≡ Some v → IsMember p i w → slice_get (set vs i w) k ≡ Some u → IsMember p k u
+member_set p vs i v w k u h at x g =
+    let two = eqb_tells k i in
+    elim two [
+      | inl y ↦ (
+          let a : Some w ≡ Some u = sym (get-set_same vs i v w at) ∙ ap (slice_get (set vs i w)) (sym y.1) ∙ g in
+          let b : w ≡ u = cc in
+          subst (λ (n : ℕ). IsMember p n u) (sym y.1) (subst (λ (z : InterpView). IsMember p i z) b x))
+      | inr y ↦ h.each k u (sym (get-set_other vs i k w y.1) ∙ g)
+    ]
+
+pub stretched_world : (p : Past) (vs : List InterpView) (i : ℕ) (v w : InterpView) (n : ℕ) (b : Bool) → IsWorld (world p vs) → slice_get vs i ≡ Some v → Stretched p.limits.turns v n b w → Shows w
+    → IsWorld (world p (set vs i w))
+stretched_world p vs i v w n b h at s x = record {
+  told = h.told;
+  count = length-set vs i w ∙ h.count;
+  some = h.some;
+  few = h.few;
+  each = λ k u g. member_set p vs i v w k u h at (stretched_member p i v w n b (h.each i v at) s x) g;
+  others = λ k past. h.others k (let e = length-set vs i w in omega arith);
+}

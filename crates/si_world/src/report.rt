@@ -1,0 +1,132 @@
+// What is seen of one interpreter, by copy.
+
+ghost use Rattle.std.specs.Prelude.{◌≡◌, IfOk, false};
+ghost use Rattle.si_interp.specs.View.{taken_view};
+ghost use Rattle.si_world.specs.Reports.{stand_of};
+
+use si_interp::{Interp, Logged, State};
+use si_parcel::Action;
+use si_plain::{NoMemory, Text};
+use std::alloc::Global;
+use std::marker::Model;
+
+/// How an interpreter stands.
+#[derive(Drop)]
+pub enum Standing {
+    /// It has a line to run.
+    Ready,
+    /// It stands at an action.
+    AtAction(Action),
+    /// It is gone.
+    Gone,
+    /// It stands still for good.
+    Starved,
+}
+
+/// What is seen of an interpreter: its number, all that it has printed, its actions with their answers in order, the lines
+/// that it has run, and how it stands.
+#[derive(Drop)]
+pub struct Report {
+    id: u32,
+    printed: Text,
+    log: Vec<Logged>,
+    locals: u64,
+    standing: Standing,
+}
+
+impl Model for Report {
+    ghost use Rattle.std.specs.Prelude.{false};
+    ghost use Rattle.si_interp.specs.Meaning.{InterpView};
+    ghost use Rattle.si_interp.specs.InterpCode.{view_code};
+    ghost use Rattle.si_interp.specs.View.{view_of};
+    ghost use Rattle.si_world.specs.Reports.{stand_of};
+
+    ghost Value = { InterpView };
+
+    ghost coded = { view_code };
+
+    ghost view = { λ r. view_of r.id r.printed r.log.items r.locals (stand_of r.standing) false };
+}
+
+// The same entries again.
+fn copy_log(alloc: Global, log: &[Logged]) -> Result<Vec<Logged>, NoMemory>
+    ensures { IfOk result (λ copy. copy.items ≡ log.now) }
+{
+    let mut copy = Vec::with_capacity(alloc, log.len())?;
+    for entry in log {
+        let action = entry.action.clone_action(alloc)?;
+        let answer = entry.answer.clone_answer(alloc)?;
+        let at = entry.at;
+        copy.push(Logged { action, answer, at })?;
+    }
+    Ok(copy)
+}
+
+// How an interpreter stands.
+fn standing_of(alloc: Global, interp: &Interp) -> Result<Standing, NoMemory>
+    ensures { IfOk result (λ s. stand_of s ≡ interp.now.stand) }
+{
+    Ok(match interp.state() {
+        State::Ready => Standing::Ready,
+        State::AtAction => match interp.pending() {
+            None => unreachable!(),
+            Some(action) => Standing::AtAction(action.clone_action(alloc)?),
+        },
+        State::Gone => Standing::Gone,
+        State::Starved => Standing::Starved,
+    })
+}
+
+impl Report {
+    /// What is seen of an interpreter.
+    ///
+    /// # Errors
+    ///
+    /// `NoMemory` where memory was refused.
+    pub fn of(alloc: Global, interp: &Interp) -> Result<Report, NoMemory>
+        ensures { IfOk result (λ r. r ≡ taken_view interp.now false) }
+    {
+        Ok(Report {
+            id: interp.id(),
+            printed: Text::from_str(alloc, interp.printed())?,
+            log: copy_log(alloc, interp.log())?,
+            locals: interp.locals(),
+            standing: standing_of(alloc, interp)?,
+        })
+    }
+
+    /// The interpreter's number.
+    pub fn id(&self) -> u32
+        ensures { result ≡ self.now.id }
+    {
+        self.id
+    }
+
+    /// All that it has printed.
+    pub fn printed(&self) -> &Text
+        ensures { result.now ≡ self.now.printed }
+    {
+        &self.printed
+    }
+
+    /// Its actions, each with its answer, in order.
+    pub fn log(&self) -> &[Logged]
+        ensures { result.now ≡ self.now.log }
+    {
+        self.log.as_slice()
+    }
+
+    /// How many lines it has run.
+    pub fn locals(&self) -> u64
+        ensures { result ≡ self.now.locals }
+    {
+        self.locals
+    }
+
+    /// How it stands.
+    pub fn standing(&self) -> &Standing
+        ensures { stand_of result.now ≡ self.now.stand }
+    {
+        &self.standing
+    }
+}

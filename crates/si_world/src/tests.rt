@@ -1,0 +1,173 @@
+// A world whose turns are given by hand, in a list and in rounds.
+
+use crate::{End, Mark, Recording, Standing, World};
+use si_interp::State;
+use si_parcel::{Action, Outcome};
+use si_plain::{Kind, Limits};
+use std::alloc::{AllocError, Global};
+use std::test::Fail;
+
+fn world(alloc: Global, script: &str, interpreters: u32, turns: u64) -> Result<World, Fail> {
+    let limits = Limits::new(interpreters, turns).map_err(|_| "the limits")?;
+    Ok(World::new(alloc, script, limits)?)
+}
+
+// How many of the first marks are as wanted.
+fn agreeing(marks: &[Mark], wanted: &[Mark]) -> usize {
+    let mut count = 0;
+    for (mark, wanted) in marks.iter().zip(wanted.iter()) {
+        if *mark == *wanted {
+            count += 1;
+        }
+    }
+    count
+}
+
+#[test]
+fn marks_of_a_list(rt: HostRuntime) -> Result<(), Fail> {
+    let mut world = world(rt.alloc(), "print(1); print(2)\n", 2, 1_000)?;
+    let marks = world.run(&[0, 0, 1, 0, 1])?;
+    let wanted = [
+        Mark::Acted,
+        Mark::Local,
+        Mark::Nobody,
+        Mark::Local,
+        Mark::Nobody,
+    ];
+    assert_eq!(rt; marks.len(), 5);
+    assert_eq!(rt; agreeing(marks.as_slice(), &wanted), 5);
+    Ok(())
+}
+
+#[test]
+fn spent_after_one_turn(rt: HostRuntime) -> Result<(), Fail> {
+    let mut world = world(rt.alloc(), "print(1); print(2); print(3)\n", 1, 1)?;
+    let marks = world.run(&[0, 0, 0, 0])?;
+    let wanted = [Mark::Acted, Mark::Local, Mark::Spent, Mark::Spent];
+    assert_eq!(rt; agreeing(marks.as_slice(), &wanted), 4);
+    assert_eq!(rt; world.run(&[])?.len(), 0);
+    assert_eq!(rt; world.end(), End::Spent);
+    match world.report(0)? {
+        Some(report) => assert_eq!(rt; report.locals(), 1),
+        None => assert!(rt; false),
+    }
+    assert!(rt; world.report(1)?.is_none());
+    Ok(())
+}
+
+#[test]
+fn before_any_turn(rt: HostRuntime) -> Result<(), Fail> {
+    let mut world = world(rt.alloc(), "print(1)\n", 2, 1_000)?;
+    assert_eq!(rt; world.created(), 1);
+    assert!(rt; world.journal().is_empty());
+    assert!(rt; world.script() == "print(1)\n");
+    assert_eq!(rt; world.limits().turns(), 1_000);
+    assert!(rt; world.queue(0).is_none());
+    assert_eq!(rt; world.end(), End::Open);
+    assert_eq!(rt; world.serial(0), 0);
+    match world.interp(0) {
+        Some(interp) => assert_eq!(rt; interp.state(), State::AtAction),
+        None => assert!(rt; false),
+    }
+    assert!(rt; world.interp(1).is_some());
+    assert!(rt; world.interp(2).is_none());
+    assert_eq!(rt; world.turn(0), Mark::Acted);
+    assert_eq!(rt; world.journal().len(), 1);
+    Ok(())
+}
+
+// What is recorded of a world in which nothing can move.
+fn recorded(world: &mut World) -> Result<Recording, Fail> {
+    if world.serial(u64::MAX) == u64::MAX {
+        return Err("turns without end")?;
+    }
+    if world.end() == End::Starved {
+        return Err(AllocError)?;
+    }
+    Ok(world.recording()?)
+}
+
+#[test]
+fn rounds_until_nothing_moves(rt: HostRuntime) -> Result<(), Fail> {
+    let mut world = world(rt.alloc(), "print(6 * 7)\n", 8, 1_000)?;
+    let recording = recorded(&mut world)?;
+    assert!(rt; recording.script() == "print(6 * 7)\n");
+    assert_eq!(rt; recording.limits(), world.limits());
+    assert_eq!(rt; recording.journal().len(), 2);
+    assert_eq!(rt; recording.queues().len(), 0);
+    assert_eq!(rt; recording.end(), End::Finished);
+    assert_eq!(rt; recording.reports().len(), 1);
+    let report = &recording.reports()[0];
+    assert_eq!(rt; report.id(), 0);
+    assert!(rt; report.printed().as_str() == "42\n");
+    assert_eq!(rt; report.log().len(), 2);
+    assert!(rt; matches!(report.standing(), Standing::AtAction(Action::Take)));
+    Ok(())
+}
+
+#[test]
+fn turns_used_up(rt: HostRuntime) -> Result<(), Fail> {
+    let mut world = world(rt.alloc(), "while True:\n    pass\n", 1, 50)?;
+    let recording = recorded(&mut world)?;
+    assert_eq!(rt; recording.end(), End::Spent);
+    assert_eq!(rt; recording.reports()[0].locals(), 50);
+    assert!(rt; matches!(recording.reports()[0].standing(), Standing::Ready));
+    Ok(())
+}
+
+#[test]
+fn text_that_is_not_read(rt: HostRuntime) -> Result<(), Fail> {
+    let mut world = world(rt.alloc(), "x = = 6\n", 1, 1_000)?;
+    let recording = recorded(&mut world)?;
+    assert_eq!(rt; recording.end(), End::Finished);
+    match &recording.reports()[0].log()[1].action {
+        Action::End(Outcome::Raised(kind, _)) => assert_eq!(rt; *kind, Kind::SyntaxError),
+        _ => assert!(rt; false),
+    }
+    Ok(())
+}
+
+#[test]
+fn refused_world(rt: HostRuntime) -> Result<(), Fail> {
+    let limits = Limits::new(3, 1_000).map_err(|_| "the limits")?;
+    let world = match World::new(rt.alloc(), "print(1)\n", limits) {
+        Ok(world) => world,
+        Err(_) => World::new(rt.alloc(), "print(1)\n", limits)?,
+    };
+    assert_eq!(rt; world.created(), 1);
+    assert!(rt; world.interp(2).is_some());
+    Ok(())
+}
+
+#[test]
+fn refused_marks(rt: HostRuntime) -> Result<(), Fail> {
+    let mut world = world(rt.alloc(), "", 1, 1_000)?;
+    let marks = match world.run(&[1, 1, 1]) {
+        Ok(marks) => marks,
+        Err(_) => world.run(&[1, 1, 1])?,
+    };
+    assert_eq!(rt;
+        agreeing(
+            marks.as_slice(),
+            &[Mark::Nobody, Mark::Nobody, Mark::Nobody]
+        ),
+        3
+    );
+    Ok(())
+}
+
+#[test]
+fn refused_recording(rt: HostRuntime) -> Result<(), Fail> {
+    let mut world = world(rt.alloc(), "raise ValueError('seven')\n", 1, 1_000)?;
+    let given = world.serial(u64::MAX);
+    if world.end() == End::Starved {
+        return Err(AllocError)?;
+    }
+    assert!(rt; given > 0);
+    let recording = match world.recording() {
+        Ok(recording) => recording,
+        Err(_) => world.recording()?,
+    };
+    assert_eq!(rt; recording.end(), End::Finished);
+    Ok(())
+}
