@@ -7,7 +7,7 @@ use Rattle.clap.specs.Words.{App, Rule, Text, fault_of, new_app, new_rule, with_
 use Rattle.clap.specs.declared.builder.action.ArgAction.TheVariants.{Set}
 use Rattle.clap.specs.declared.error.kind.ErrorKind.{ErrorKind}
 use Rattle.clap.specs.declared.error.kind.ErrorKind.TheVariants.{DisplayHelp, DisplayVersion}
-use Rattle.si_plain.specs.Ranges.{is_turn_count}
+use Rattle.si_plain.specs.Ranges.{Numbers, is_interpreter_count, is_turn_count}
 use Rattle.si_cli.specs.declared.asked.Request.{Request}
 use Rattle.si_cli.specs.declared.asked.Request.TheVariants.{Serial, Check}
 use Rattle.si_cli.specs.declared.words.WordsFault.{WordsFault}
@@ -21,13 +21,17 @@ texts words = map (λ w. w.now) words
 abbrev pub script : Rule
 script = record (new_rule (codes "SCRIPT")) { action = Some Set }
 
+-- the option `--interpreters N`, which may be left out
+abbrev pub interpreters : Rule
+interpreters = record (new_rule (codes "interpreters")) { long = Some (codes "interpreters"); value_names = 1; action = Some Set }
+
 -- the option `--turns N`, which may be left out
 abbrev pub turns : Rule
 turns = record (new_rule (codes "turns")) { long = Some (codes "turns"); value_names = 1; action = Some Set }
 
--- the command `serial [SCRIPT] [--turns N]`
+-- the command `serial [SCRIPT] [--interpreters N] [--turns N]`
 abbrev pub serial : App
-serial = with_rule (with_rule (new_app (codes "serial")) script) turns
+serial = with_rule (with_rule (with_rule (new_app (codes "serial")) script) interpreters) turns
 
 -- the command `check [SCRIPT]`
 abbrev pub check : App
@@ -51,6 +55,10 @@ abbrev pub path_of : Request → Option Text
 path_of (Serial path limits) = option_map (λ p. p.now) path
 path_of (Check path) = option_map (λ p. p.now) path
 
+-- the value of `--interpreters` among the words of a command
+abbrev pub interpreters_among : App → List Text → Option Text
+interpreters_among command words = first_of (codes "interpreters") (matches_of command words)
+
 -- the value of `--turns` among the words of a command
 abbrev pub turns_among : App → List Text → Option Text
 turns_among command words = first_of (codes "turns") (matches_of command words)
@@ -59,15 +67,24 @@ turns_among command words = first_of (codes "turns") (matches_of command words)
 abbrev pub Writes : Text → ℕ → Type 0
 Writes text n = IsNumeral 10 (without_leading_plus text) × (digits_value 10 (without_leading_plus text) ≡ n)
 
+-- the value of `--interpreters` allows so many interpreters: those that it writes, from 1 to 64; else 8
+abbrev pub AllowsInterpreters : Option Text → ℕ → Type 0
+AllowsInterpreters None n = n ≡ 8
+AllowsInterpreters (Some text) n = Writes text n × (is_interpreter_count n ≡ true)
+
 -- the value of `--turns` allows so many turns: those that it writes, from 1 to 1,099,511,627,776; else 1,000,000
-abbrev pub Allows : Option Text → ℕ → Type 0
-Allows None n = n ≡ 1000000
-Allows (Some text) n = Writes text n × (is_turn_count n ≡ true)
+abbrev pub AllowsTurns : Option Text → ℕ → Type 0
+AllowsTurns None n = n ≡ 1000000
+AllowsTurns (Some text) n = Writes text n × (is_turn_count n ≡ true)
+
+-- the values of the two options allow these limits
+abbrev pub Allows : (interpreters turns : Option Text) → Numbers → Type 0
+Allows i t limits = AllowsInterpreters i limits.interpreters × AllowsTurns t limits.turns
 
 -- a request is what the words from the command's name on say
 abbrev pub IsReadFrom : List Text → Request → Type 0
-IsReadFrom words (Serial path limits) = (path_of (Serial path limits) ≡ path_among serial words) × (limits.interpreters ≡ 8)
-    × Allows (turns_among serial words) limits.turns
+IsReadFrom words (Serial path limits) = (path_of (Serial path limits) ≡ path_among serial words)
+    × Allows (interpreters_among serial words) (turns_among serial words) limits
 IsReadFrom words (Check path) = path_of (Check path) ≡ path_among check words
 
 -- a request is what the words say: the second names its command, which reads the words from there on
@@ -78,9 +95,9 @@ IsSaidBy words request = Names words (name_of request) × IsReadFrom (drop 1 wor
 abbrev pub Takes : App → List Text → Type 0
 Takes command words = fault_of command words ≡ []
 
--- `serial` takes the words from its name on, and they allow a number of turns
+-- `serial` takes the words from its name on, and they allow limits
 abbrev pub AreRead : List Text → Type 0
-AreRead words = Takes serial words × ((n : ℕ) × Allows (turns_among serial words) n)
+AreRead words = Takes serial words × ((limits : Numbers) × Allows (interpreters_among serial words) (turns_among serial words) limits)
 
 -- the words name a command that takes the words from its name on, with numbers within their limits
 abbrev pub AreTaken : List Text → Type 0

@@ -4,7 +4,8 @@
 ghost use Rattle.std.specs.Prelude.{◌≡◌, ℕ, IfNone, IfOk, IfErr, IfSome, codes, option_map, slice_get, true, false};
 ghost use Rattle.clap.specs.Words.{app_of, kind_of, rule_of};
 ghost use Rattle.si_cli.specs.Status.{status_of_words};
-ghost use Rattle.si_cli.specs.Words.{Allows, AreRead, AreTaken, IsReadFrom, IsSaidBy, Takes, TellsHelp, asks_help, check, helps, is_help, is_topic, name_of, script, serial, texts, turns};
+ghost use Rattle.si_plain.specs.Ranges.{Numbers};
+ghost use Rattle.si_cli.specs.Words.{Allows, AllowsInterpreters, AllowsTurns, AreRead, AreTaken, IsReadFrom, IsSaidBy, Takes, TellsHelp, asks_help, check, helps, interpreters, is_help, is_topic, name_of, script, serial, texts, turns};
 
 use crate::asked::Request;
 use clap::error::ErrorKind;
@@ -17,9 +18,10 @@ const HELP: &str = "Runs Python scripts in isolated interpreters and reports wha
 Usage: subpy COMMAND [ARGUMENTS]
 
 Commands:
-  serial [SCRIPT] [--turns N]  Runs a script, one turn after another, and prints its report
-  check [SCRIPT]               Prints 'ok' where a script is well formed, and runs nothing of it
-  help [COMMAND]               Prints this text, or that of a command
+  serial [SCRIPT] [--interpreters N] [--turns N]
+                  Runs a script, one turn after another, and prints its report
+  check [SCRIPT]  Prints 'ok' where a script is well formed, and runs nothing of it
+  help [COMMAND]  Prints this text, or that of a command
 
 Statuses:
   0  the script has run to its end, 'ok' was printed, or help was asked for
@@ -73,8 +75,9 @@ impl WordsFault {
 
 /// What the words ask for. The first is the program's name, the second that of a command.
 ///
-/// `WordsFault::Words` where no command is named, its definition doesn't take the words after it, the value of `--turns`
-/// is no number from 1 to 1,099,511,627,776, or help is asked for; `WordsFault::NoMemory` where memory was refused.
+/// `WordsFault::Words` where no command is named, its definition doesn't take the words after it, the value of
+/// `--interpreters` is no number from 1 to 64, that of `--turns` none from 1 to 1,099,511,627,776, or help is asked for;
+/// `WordsFault::NoMemory` where memory was refused.
 pub fn request<'a>(alloc: Global, words: &'a [&'a str]) -> Result<Request<'a>, WordsFault>
     ensures said { IfOk result (IsSaidBy (texts words.entry.now)) }
     // Words that no command takes are refused.
@@ -111,13 +114,14 @@ fn serial_request<'a>(alloc: Global, words: &'a [&'a str]) -> Result<Request<'a>
     let command = serial_command(alloc)?;
     match command.try_get_matches_from(words) {
         Ok(matches) => {
+            let interpreters = matches.get_str("interpreters");
             let turns = matches.get_str("turns");
-            match limits_of(turns) {
-                Some(limits) => Ok(Request::Serial {
+            match limits_of(alloc, interpreters, turns) {
+                Ok(limits) => Ok(Request::Serial {
                     script: matches.get_str("SCRIPT"),
                     limits,
                 }),
-                None => Err(no_turns(alloc, turns)),
+                Err(fault) => Err(fault),
             }
         }
         Err(error) => Err(words_fault(alloc, &error)),
@@ -141,18 +145,54 @@ fn check_request<'a>(alloc: Global, words: &'a [&'a str]) -> Result<Request<'a>,
     }
 }
 
-/// The limits under this value of `--turns`, if it is a number of turns that may be allowed.
-fn limits_of(turns: Option<&str>) -> Option<Limits>
-    ensures some { IfSome result (λ limits. (limits.interpreters ≡ 8)
-        × Allows (option_map (λ text. text.now) turns.entry) limits.turns) }
-    ensures none { IfNone result ((n : ℕ) → Allows (option_map (λ text. text.now) turns.entry) n → ⊥) }
+/// The limits under these values of `--interpreters` and `--turns`, or why there are none.
+fn limits_of(
+    alloc: Global,
+    interpreters: Option<&str>,
+    turns: Option<&str>,
+) -> Result<Limits, WordsFault>
+    ensures some { IfOk result (Allows (option_map (λ text. text.now) interpreters.entry) (option_map (λ text. text.now) turns.entry)) }
+    ensures none { IfErr result (λ _. (limits : Numbers) → Allows (option_map (λ text. text.now) interpreters.entry) (option_map (λ text. text.now) turns.entry) limits → ⊥) }
+    ensures help { IfErr result (TellsHelp false) }
+{
+    let Some(limits) = with_interpreters(interpreters) else {
+        return Err(no_interpreters(alloc, interpreters));
+    };
+    match with_turns(limits, turns) {
+        Some(limits) => Ok(limits),
+        None => Err(no_turns(alloc, turns)),
+    }
+}
+
+/// The limits under this value of `--interpreters` with the standard number of turns, if it is a number of interpreters
+/// that may be allowed.
+fn with_interpreters(interpreters: Option<&str>) -> Option<Limits>
+    ensures some { IfSome result (λ limits. AllowsInterpreters (option_map (λ text. text.now) interpreters.entry) limits.interpreters
+        × (limits.turns ≡ 1000000)) }
+    ensures none { IfNone result ((n : ℕ) → AllowsInterpreters (option_map (λ text. text.now) interpreters.entry) n → ⊥) }
 {
     let standard = Limits::standard();
-    let Some(text) = turns else {
+    let Some(text) = interpreters else {
         return Some(standard);
     };
+    match text.parse::<u32>() {
+        Ok(number) => Limits::new(number, standard.turns()).ok(),
+        Err(_) => None,
+    }
+}
+
+/// These limits with the number of turns under this value of `--turns`, if it is one that may be allowed.
+fn with_turns(limits: Limits, turns: Option<&str>) -> Option<Limits>
+    requires { limits.turns ≡ 1000000 }
+    ensures some { IfSome result (λ new. (new.interpreters ≡ limits.interpreters)
+        × AllowsTurns (option_map (λ text. text.now) turns.entry) new.turns) }
+    ensures none { IfNone result ((n : ℕ) → AllowsTurns (option_map (λ text. text.now) turns.entry) n → ⊥) }
+{
+    let Some(text) = turns else {
+        return Some(limits);
+    };
     match text.parse::<u64>() {
-        Ok(number) => Limits::new(standard.interpreters(), number).ok(),
+        Ok(number) => Limits::new(limits.interpreters(), number).ok(),
         Err(_) => None,
     }
 }
@@ -163,9 +203,10 @@ fn serial_command<'a>(alloc: Global) -> Result<Command<'a>, AllocError>
 {
     Command::new(alloc, "serial")
         .about("Runs a script in interpreter 0, one turn after another, and prints its report.")
-        .override_usage("subpy serial [SCRIPT] [--turns N]")
+        .override_usage("subpy serial [SCRIPT] [--interpreters N] [--turns N]")
         .after_help(SERIAL_HELP)
         .arg(script_argument(alloc))?
+        .arg(interpreters_argument(alloc))?
         .arg(turns_argument(alloc))
 }
 
@@ -190,6 +231,18 @@ fn script_argument<'a>(alloc: Global) -> Arg<'a>
         .action(ArgAction::Set)
 }
 
+/// The number of interpreters, which may be left out.
+fn interpreters_argument<'a>(alloc: Global) -> Arg<'a>
+    ensures rule { rule_of result ≡ interpreters }
+    ensures local { result.global ≡ false }
+{
+    Arg::new(alloc, "interpreters")
+        .long("interpreters")
+        .value_name("N")
+        .help("How many interpreters there may be, closed ones counted: 1 to 64, by default 8")
+        .action(ArgAction::Set)
+}
+
 /// The number of turns, which may be left out.
 fn turns_argument<'a>(alloc: Global) -> Arg<'a>
     ensures rule { rule_of result ≡ turns }
@@ -198,7 +251,7 @@ fn turns_argument<'a>(alloc: Global) -> Arg<'a>
     Arg::new(alloc, "turns")
         .long("turns")
         .value_name("N")
-        .help("How many local turns the interpreter has: 1 to 1099511627776, by default 1000000")
+        .help("How many local turns each interpreter has: 1 to 1099511627776, by default 1000000")
         .action(ArgAction::Set)
 }
 
@@ -244,6 +297,17 @@ fn refused(alloc: Global, why: &str) -> WordsFault
     ensures { TellsHelp false result }
 {
     match format!(in alloc; "{why}; 'subpy --help' lists the commands") {
+        Ok(text) => WordsFault::Words { help: false, text },
+        Err(_) => WordsFault::NoMemory,
+    }
+}
+
+/// The fault of a value of `--interpreters` that is no number of interpreters.
+fn no_interpreters(alloc: Global, interpreters: Option<&str>) -> WordsFault
+    ensures { TellsHelp false result }
+{
+    let value = interpreters.unwrap_or("");
+    match format!(in alloc; "--interpreters takes a whole number from 1 to 64, not {value:?}") {
         Ok(text) => WordsFault::Words { help: false, text },
         Err(_) => WordsFault::NoMemory,
     }
