@@ -1,5 +1,4 @@
 mod Answered
-mod CourseLemmas
 mod OneFault
 mod ReportLemmas
 mod SecondWord

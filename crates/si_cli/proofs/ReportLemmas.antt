@@ -1,16 +1,23 @@
 -- The bytes of a report, part by part.
-use Rattle.std.proofs.Common.{◌≡◌, ◌∙◌, ◌++◌, ◌&&◌, Bool, true, false, nat_lt, List, ℕ, zero, suc, Option, None, Some, [], ◌∷◌, ap, ap₂, append_assoc, append-nil, chars, codes, IsUtf8, lit<, encode_utf8_all, refl, sym}
+use Rattle.std.proofs.Common.{◌≡◌, ◌∙◌, ◌++◌, ◌+◌, ◌<◌, ◌&&◌, Bool, true, false, nat_lt, List, ℕ, Option, None, Some, [], ◌∷◌, ap, ap₂, append_assoc, append-nil, codes, flat_map, get_or, length, slice_get, take, IsUtf8, encode_utf8_all, refl, subst, sym}
 use Rattle.std.proofs.lemmas.Bool.{ltb-true}
-use Rattle.std.proofs.lemmas.Fmt.{decimal_digit}
-use Rattle.std.proofs.lemmas.Str.{chars-IsAscii, encode_ascii, encodes-append, encodes-chars}
+use Rattle.std.proofs.lemmas.List.{take_more}
+use Rattle.std.proofs.lemmas.List.Concat.{flat_map-append}
+use Rattle.std.proofs.lemmas.Option.{get_or_from_slice_get, slice_get_within}
+use Rattle.std.proofs.lemmas.Str.{IsUtf8-from_ascii, chars-IsAscii, encode_ascii, encodes-append, encodes-chars}
+use Rattle.std.specs.Fmt.{decimal}
 use Rattle.std.specs.Str.{IsAscii}
 use Rattle.std.specs.Io.KnownBytes.{Appends, Keeps}
 use Rattle.si_plain.specs.declared.kind.Kind.{Kind}
 use Rattle.si_plain.specs.Kinds.{name_of}
 use Rattle.si_plain.specs.declared.kind.Kind.TheVariants.{BaseException, Exception, ArithmeticError, OverflowError, ZeroDivisionError, AttributeError, LookupError, IndexError, KeyError, NameError, UnboundLocalError, RuntimeError, RecursionError, SyntaxError, TypeError, NotShareableError, ValueError, InterpreterError, InterpreterNotFoundError, ExecutionFailed, QueueEmpty, QueueFull}
 use Rattle.si_semantics.specs.Life as life
-use Rattle.si_semantics.specs.Report.{Standing, end_line, heading, kind_and_message, line, outcome_line, raised_line, report}
-use Rattle.si_cli.specs.Views.{after_kind}
+use Rattle.si_semantics.specs.Report.{heading, kind_and_message, outcome_line}
+use Rattle.si_semantics.specs.Value.{Text}
+use Rattle.si_plain.specs.Characters.{characters_of}
+use Rattle.si_interp.specs.Meaning.{InterpView}
+use Rattle.si_cli.specs.Report.{part_of, raised_lines}
+use Rattle.si_cli.specs.inner.Parts.{after_kind}
 
 -- what is appended in two steps
 pub appended : (x y z : Option (List ℕ)) (a b : List ℕ) → Appends x y a → Appends y z b → Appends x z (a ++ b)
@@ -34,15 +41,6 @@ ascii [] e = refl
 ascii (c ∷ cs) e =
     let h = both (nat_lt c 128) (all_ascii cs) e in
     ap₂ (λ x y. x ++ y) (encode_ascii c (ltb-true c 128 h.0)) (ascii cs h.1)
-
-is_ascii : (cs : List ℕ) → all_ascii cs ≡ true → IsAscii cs
-is_ascii [] e i = lit< tt
-is_ascii (c ∷ cs) e zero = ltb-true c 128 (both (nat_lt c 128) (all_ascii cs) e).0
-is_ascii (c ∷ cs) e (suc i) = is_ascii cs (both (nat_lt c 128) (all_ascii cs) e).1 i
-
--- and are what their bytes spell
-pub spelled : (cs : List ℕ) → all_ascii cs ≡ true → chars cs ≡ cs
-spelled cs e = chars-IsAscii cs (is_ascii cs e)
 
 -- a kind and its message, in two parts
 pub kind_and_after : (k : Kind) (message : List ℕ) → kind_and_message k message ≡ name_of k ++ after_kind message
@@ -86,17 +84,44 @@ raised_bytes k message =
     ∙ append_assoc (codes "raised ") (name_of k ++ after) (codes "\n")
     ∙ ap (λ l. codes "raised " ++ l) (append_assoc (name_of k) after (codes "\n")))
 
--- the heading of interpreter 0
-pub heading_bytes : encode_utf8_all (heading 0) ≡ codes "== interpreter 0 ==\n"
-heading_bytes = ap (λ digits. encode_utf8_all (line (codes "== interpreter " ++ (digits ++ codes " ==")))) (decimal_digit 0 (lit< tt)) ∙ ascii (codes "== interpreter 0 ==\n") refl
+-- decimal digits are their own bytes
+pub own_bytes : (bs : List ℕ) → IsAscii bs → encode_utf8_all bs ≡ bs
+own_bytes bs h = ap encode_utf8_all (sym (chars-IsAscii bs h)) ∙ encodes-chars bs (IsUtf8-from_ascii bs h)
 
--- the bytes of a report, in the parts in which they are written
-pub report_bytes : (printed : List ℕ) (s : Standing) → IsUtf8 printed → codes "== interpreter 0 ==\n" ++ (printed ++ (encode_utf8_all (raised_line s) ++ encode_utf8_all (end_line s))) ≡ encode_utf8_all (report (chars printed) s)
-report_bytes printed s text =
-    sym (encodes-append (heading 0) (chars printed ++ (raised_line s ++ end_line s))
-    ∙ ap₂ (λ x y. x ++ y) heading_bytes
-    (encodes-append (chars printed) (raised_line s ++ end_line s)
-    ∙ ap₂ (λ x y. x ++ y) (encodes-chars printed text) (encodes-append (raised_line s) (end_line s))))
+-- the bytes of a heading, in the parts in which they are written
+pub heading_bytes : (id : ℕ) → IsAscii (decimal id) → codes "== interpreter " ++ (decimal id ++ codes " ==\n") ≡ encode_utf8_all (heading id)
+heading_bytes id h =
+    let digits : List ℕ = decimal id in
+    let ending : encode_utf8_all (codes " ==" ++ codes "\n") ≡ codes " ==\n" = ascii (codes " ==\n") refl in
+    sym (ap encode_utf8_all (append_assoc (codes "== interpreter ") (digits ++ codes " ==") (codes "\n") ∙ ap (λ l. codes "== interpreter " ++ l) (append_assoc digits (codes " ==") (codes "\n")))
+    ∙ encodes-append (codes "== interpreter ") (digits ++ (codes " ==" ++ codes "\n"))
+    ∙ ap₂ (λ x y. x ++ y) (ascii (codes "== interpreter ") refl)
+    (encodes-append digits (codes " ==" ++ codes "\n") ∙ ap₂ (λ x y. x ++ y) (own_bytes digits h) ending))
+
+-- the bytes of an interpreter's part, in the parts in which they are written
+pub part_bytes : (v : InterpView) (printed : List ℕ) → IsUtf8 printed → characters_of printed ≡ v.printed → encode_utf8_all (heading v.id) ++ (printed ++ encode_utf8_all (raised_lines v.log)) ≡ encode_utf8_all (part_of v)
+part_bytes v printed text is =
+    sym (encodes-append (heading v.id) (v.printed ++ raised_lines v.log)
+    ∙ ap (λ l. encode_utf8_all (heading v.id) ++ l)
+    (encodes-append v.printed (raised_lines v.log)
+    ∙ ap (λ l. l ++ encode_utf8_all (raised_lines v.log)) (ap encode_utf8_all (sym is) ∙ encodes-chars printed text)))
+
+-- the bytes of one item more
+piece_bytes :
+    {X : Type 0} (f : X → Text) (xs : List X) (i : ℕ) (x : X) → slice_get xs i ≡ Some x
+    → encode_utf8_all (flat_map f (take i xs)) ++ encode_utf8_all (f x) ≡ encode_utf8_all (flat_map f (take (i + 1) xs))
+piece_bytes f xs i x is =
+    let within : i < length xs = slice_get_within xs i x is in
+    let last : get_or xs i x ≡ x = get_or_from_slice_get xs i x x is in
+    sym (ap (λ l. encode_utf8_all (flat_map f l)) (take_more xs i x within ∙ ap (λ y. take i xs ++ y ∷ []) last)
+    ∙ ap encode_utf8_all (flat_map-append f (take i xs) (x ∷ []) ∙ ap (λ l. flat_map f (take i xs) ++ l) (append-nil (f x)))
+    ∙ encodes-append (flat_map f (take i xs)) (f x))
+
+-- one item more is appended
+pub appended_piece :
+    {X : Type 0} (f : X → Text) (xs : List X) (i : ℕ) (x : X) (a b c : Option (List ℕ)) → slice_get xs i ≡ Some x
+    → Appends a b (encode_utf8_all (flat_map f (take i xs))) → Appends b c (encode_utf8_all (f x)) → Appends a c (encode_utf8_all (flat_map f (take (i + 1) xs)))
+appended_piece f xs i x a b c is g h = subst (Appends a c) (piece_bytes f xs i x is) (appended a b c _ _ g h)
 
 -- what was appended stays
 pub appended_kept : (x y z : Option (List ℕ)) (a : List ℕ) → Appends x y a → Keeps y z → Appends x z a

@@ -1,6 +1,7 @@
+pub mod Laws
+pub mod Report
 pub mod Runs
 pub mod Service
 pub mod Status
-pub mod Views
 pub mod Words
 pub mod inner

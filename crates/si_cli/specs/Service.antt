@@ -1,15 +1,17 @@
 -- What it means to carry out a command (this project's own).
-use Rattle.std.specs.Prelude.{◌≡◌, ℕ, List, [], ◌∷◌, IsUtf8, Option, Some, bytes_eq, codes, drop, if◌then◌else◌, take}
+use Rattle.std.specs.Prelude.{◌≡◌, ℕ, List, [], ◌∷◌, IsUtf8, Option, bytes_eq, codes, drop, encode_utf8_all, if◌then◌else◌, take}
 use Rattle.std.specs.Io.KnownBytes.{Appends, Keeps}
-use Rattle.si_semantics.specs.Report.{status}
+use Rattle.si_plain.specs.Characters.{characters_of}
+use Rattle.si_plain.specs.Ranges.{Numbers}
 use Rattle.si_semantics.specs.Tree.{Stmts}
+use Rattle.si_reading.specs.Taken.{IsTaken}
+use Rattle.si_world.specs.Worlds.{WorldView}
 use Rattle.si_cli.specs.declared.fault.CliFault.{CliFault}
 use Rattle.si_cli.specs.declared.fault.CliFault.TheVariants.{Write, Script, NoMemory, Input}
 use Rattle.si_cli.specs.declared.asked.Request.{Request}
 use Rattle.si_cli.specs.declared.asked.Request.TheVariants.{Serial, Check}
-use Rattle.si_cli.specs.declared.interpreter.Solo.{Solo}
-use Rattle.si_cli.specs.Runs.{IsTaken, ShowsLife, one_run}
-use Rattle.si_cli.specs.Views.{HasUsed, report_of, standing_of}
+use Rattle.si_cli.specs.Report.{report_of, status_of}
+use Rattle.si_cli.specs.Runs.{IsRunOf}
 
 -- a byte order mark in UTF-8
 abbrev pub mark : List ℕ
@@ -28,16 +30,19 @@ abbrev pub IsRefusal : CliFault → Type 0
 IsRefusal (Script line) = Unit {0}
 IsRefusal _ = ⊥
 
--- the run of a script that is read, of so many turns at most, is reported: the writer grew by its report, and the
--- status is the run's
-pub record Reports (turns : ℕ) (script : List ℕ) (old new : Option (List ℕ)) (answer : ℕ) : Type 0 where
+-- a script is read as some tree
+abbrev pub IsReadable : List ℕ → Type 0
+IsReadable script = (body : Stmts) × IsScript script body
+
+-- the run of a script that is read, within these limits, is reported: the writer grew by the report of a world of this
+-- script after all turns that `serial` gives, and the status is that world's
+pub record Reports (limits : Numbers) (script : List ℕ) (old new : Option (List ℕ)) (answer : ℕ) : Type 0 where
   pub body : Stmts
   pub read : IsScript script body
-  pub run : Solo
-  pub shows : ShowsLife (one_run (Some (record { body = body }))) run
-  pub used : HasUsed turns run
-  pub report : Appends old new (report_of run)
-  pub status_is : answer ≡ status (standing_of run.standing)
+  pub world : WorldView
+  pub run : IsRunOf (characters_of (without_mark script)) limits world
+  pub report : Appends old new (encode_utf8_all (report_of world))
+  pub status_is : answer ≡ status_of world
 
 -- a script is told to be well formed: it is read, the writer grew by the line `ok` and by nothing else, and the status is 0
 pub record SaysOk (script : List ℕ) (old new : Option (List ℕ)) (answer : ℕ) : Type 0 where
@@ -48,7 +53,7 @@ pub record SaysOk (script : List ℕ) (old new : Option (List ℕ)) (answer : �
 
 -- a request is carried out: `serial` reports the run of the script, `check` tells that it is well formed, and runs nothing of it
 abbrev pub Answers : Request → List ℕ → Option (List ℕ) → Option (List ℕ) → ℕ → Type 0
-Answers (Serial path limits) script old new answer = Reports limits.turns script old new answer
+Answers (Serial path limits) script old new answer = Reports limits script old new answer
 Answers (Check path) script old new answer = SaysOk script old new answer
 
 -- a fault of reading the script

@@ -1,2 +1,2 @@
 -- What stands between code and definitions: devices of the proofs, which a reader need not believe.
-pub mod Courses
+pub mod Parts

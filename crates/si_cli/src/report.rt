@@ -3,35 +3,103 @@
 ghost use Rattle.std.specs.Prelude.{◌≡◌, IsOkUnless, OnOk, encode_utf8_all};
 ghost use Rattle.std.specs.Io.KnownBytes.{Appends};
 ghost use Rattle.si_semantics.specs.Life as life;
-ghost use Rattle.si_semantics.specs.Report.{end_line, outcome_line, raised_line};
-ghost use Rattle.si_cli.specs.Views.{after_kind, report_of, standing_of};
+ghost use Rattle.si_semantics.specs.Report.{heading, outcome_line};
+ghost use Rattle.si_parcel.specs.Shared.{action_of, outcome_of};
+ghost use Rattle.si_world.specs.Reports.{members};
+ghost use Rattle.si_cli.specs.Report.{action_line, end_line, part_of, parts_of, raised_lines, report_of};
+ghost use Rattle.si_cli.specs.inner.Parts.{after_kind};
 
 use crate::fault::CliFault;
-use crate::interpreter::{Outcome, Solo, Standing};
+use itoa::Buffer;
+use si_interp::{Interp, Logged};
+use si_parcel::{Action, Outcome};
 use si_plain::{Kind, Text};
+use si_world::{End, World};
 use std::io::Write;
 
-/// Appends the report of a run of interpreter 0: its heading, what it printed, the exception that left it, and how
-/// it ended. `CliFault::Write` where a write failed; a part of the report may then be written.
-pub fn write_report<W: Write>(out: &mut W, solo: &Solo) -> Result<(), CliFault>
-    ensures report { OnOk result (Appends (W.contents out.old) (W.contents out.new) (report_of solo.now)) }
+/// Appends the report of a world: of each interpreter that was created, by number, its heading, what it printed, and a
+/// line for each of its runs that an exception left; and last how the turns came to their end. `CliFault::Write` where a
+/// write failed; a part of the report may then be written.
+pub(crate) fn write_report<W: Write>(out: &mut W, world: &World) -> Result<(), CliFault>
+    ensures report { OnOk result (Appends (W.contents out.old) (W.contents out.new) (encode_utf8_all (report_of world.now))) }
     ensures fault { IsOkUnless result CliFault.Write }
 {
-    write_text(out, "== interpreter 0 ==\n")?;
-    write_text(out, solo.printed.as_str())?;
-    write_exception(out, &solo.standing)?;
-    write_text(out, end_text(&solo.standing))
+    write_parts(out, world)?;
+    write_text(out, end_text(world.end()))
 }
 
-/// Appends the line of the exception that left the run, if one did.
-fn write_exception<W: Write>(out: &mut W, standing: &Standing) -> Result<(), CliFault>
-    ensures line { OnOk result (Appends (W.contents out.old) (W.contents out.new)
-        (encode_utf8_all (raised_line (standing_of standing.now)))) }
+/// Appends the parts of all interpreters that were created.
+fn write_parts<W: Write>(out: &mut W, world: &World) -> Result<(), CliFault>
+    ensures parts { OnOk result (Appends (W.contents out.old) (W.contents out.new)
+        (encode_utf8_all (parts_of (members world.now)))) }
     ensures fault { IsOkUnless result CliFault.Write }
 {
-    match standing {
-        Standing::AtEnd(Outcome::Raised(kind, message)) => write_raised(out, *kind, message),
-        Standing::AtEnd(Outcome::Returned) | Standing::Ready | Standing::Starved => Ok(()),
+    world.facts();
+    for i in 0..world.created() {
+        match world.interp(i) {
+            None => unreachable!(),
+            Some(interp) => write_part(out, interp)?,
+        }
+    }
+    Ok(())
+}
+
+/// Appends an interpreter's part.
+fn write_part<W: Write>(out: &mut W, interp: &Interp) -> Result<(), CliFault>
+    ensures part { OnOk result (Appends (W.contents out.old) (W.contents out.new)
+        (encode_utf8_all (part_of interp.now))) }
+    ensures fault { IsOkUnless result CliFault.Write }
+{
+    write_heading(out, interp.id())?;
+    write_text(out, interp.printed())?;
+    write_raised_lines(out, interp.log())
+}
+
+/// Appends the line that begins the part of an interpreter with this number.
+fn write_heading<W: Write>(out: &mut W, id: u32) -> Result<(), CliFault>
+    ensures line { OnOk result (Appends (W.contents out.old) (W.contents out.new)
+        (encode_utf8_all (heading id))) }
+    ensures fault { IsOkUnless result CliFault.Write }
+{
+    let mut buffer = Buffer::new();
+    write_text(out, "== interpreter ")?;
+    write_text(out, buffer.format(id))?;
+    write_text(out, " ==\n")
+}
+
+/// Appends the lines of the exceptions that left the runs of an interpreter, by its log.
+fn write_raised_lines<W: Write>(out: &mut W, log: &[Logged]) -> Result<(), CliFault>
+    ensures lines { OnOk result (Appends (W.contents out.old) (W.contents out.new)
+        (encode_utf8_all (raised_lines log.now))) }
+    ensures fault { IsOkUnless result CliFault.Write }
+{
+    'entries: for entry in log {
+        write_action(out, &entry.action)?;
+    }
+    Ok(())
+}
+
+/// Appends the line of an action, if it has one: the end of a run that an exception left.
+fn write_action<W: Write>(out: &mut W, action: &Action) -> Result<(), CliFault>
+    ensures line { OnOk result (Appends (W.contents out.old) (W.contents out.new)
+        (encode_utf8_all (action_line (action_of action.now)))) }
+    ensures fault { IsOkUnless result CliFault.Write }
+{
+    match action {
+        Action::End(outcome) => write_outcome(out, outcome),
+        _ => Ok(()),
+    }
+}
+
+/// Appends the line of the exception that left a run, if one did.
+fn write_outcome<W: Write>(out: &mut W, outcome: &Outcome) -> Result<(), CliFault>
+    ensures line { OnOk result (Appends (W.contents out.old) (W.contents out.new)
+        (encode_utf8_all (outcome_line (outcome_of outcome.now)))) }
+    ensures fault { IsOkUnless result CliFault.Write }
+{
+    match outcome {
+        Outcome::Returned => Ok(()),
+        Outcome::Raised(kind, message) => write_raised(out, *kind, message.as_text()),
     }
 }
 
@@ -61,13 +129,15 @@ fn write_message<W: Write>(out: &mut W, message: &Text) -> Result<(), CliFault>
 }
 
 /// The last line.
-fn end_text(standing: &Standing) -> &'static str
-    ensures { result.now ≡ encode_utf8_all (end_line (standing_of standing.now)) }
+fn end_text(end: End) -> &'static str
+    ensures { result.now ≡ encode_utf8_all (end_line end) }
 {
-    match standing {
-        Standing::AtEnd(_) => "end: finished\n",
-        Standing::Ready => "end: spent\n",
-        Standing::Starved => "end: starved\n",
+    match end {
+        End::Open => "end: open\n",
+        End::Starved => "end: starved\n",
+        End::Spent => "end: spent\n",
+        End::Stuck => "end: stuck\n",
+        End::Finished => "end: finished\n",
     }
 }
 

@@ -1,22 +1,19 @@
 // Carrying out a command.
 
-ghost use Rattle.std.specs.Prelude.{◌≡◌, ◌≤◌, IfErr, IfOk, IsOkUnless, IsUtf8, OnOk};
+ghost use Rattle.std.specs.Prelude.{◌≡◌, IfErr, IfOk, IsOkUnless, IsUtf8, OnOk};
 ghost use Rattle.std.specs.Io.KnownBytes.{Keeps};
 ghost use Rattle.si_semantics.specs.Layout.{line_at};
-ghost use Rattle.si_semantics.specs.Report.{status};
 ghost use Rattle.si_semantics.specs.Tree.{Stmts};
-ghost use Rattle.si_scope.specs.Scripts.{script_of};
-ghost use Rattle.si_cli.specs.Service.{Answers, IsOfScript, IsRefusal, IsScript, LeavesAlone, Reports, SaysOk, without_mark};
-ghost use Rattle.si_cli.specs.Views.{standing_of};
+ghost use Rattle.si_cli.specs.Service.{Answers, IsOfScript, IsReadable, IsRefusal, IsScript, LeavesAlone, Reports, SaysOk, without_mark};
 
-use crate::alone::{read, run_script};
 use crate::asked::Request;
 use crate::fault::CliFault;
-use crate::interpreter::{Outcome, Solo, Standing};
 use crate::report::{write_report, write_text};
+use crate::status::status_of;
 use si_parse::ParseFault;
-use si_plain::line_ends;
-use si_scope::Scoped;
+use si_plain::{Limits, line_ends};
+use si_reading::read;
+use si_world::World;
 use std::alloc::Global;
 use std::io::Write;
 
@@ -25,15 +22,18 @@ const MARK: [u8; 3] = [0xef, 0xbb, 0xbf];
 
 /// Carries out a request, and answers the program's status.
 ///
-/// `Serial` runs the script and appends its report to `out`; the status is 5 where memory was refused in the run, 4 where
-/// its turns were used up, 1 where an exception left it, else 0. `Check` appends the line `ok` where the script is read and
-/// well scoped, and runs nothing of it; the status is 0.
+/// `Serial` runs the script, all interpreters turn by turn in rounds until none can be moved, and appends the report to
+/// `out`; the status is 5 where memory was refused to an interpreter, 3 where a run waits for good, 4 where turns were used
+/// up, 1 where an exception left the main run, else 0. `Check` appends the line `ok` where the script is read and well
+/// scoped, and runs nothing of it; the status is 0.
 ///
 /// `script` is the script's bytes, of which one byte order mark at their front is dropped. No command of this stage
 /// reads `schedule` or writes to `saved`.
 ///
-/// Faults: `Script` where the script isn't UTF-8, isn't read, or is not well scoped, `NoMemory` where
-/// memory was refused before the run, and then nothing was written; `Write` where a write or the last flush failed.
+/// # Errors
+///
+/// `Script` where the script isn't UTF-8, isn't read, or is not well scoped, `NoMemory` where memory was refused before the
+/// first turn, and then nothing was written; `Write` where a write or the last flush failed.
 pub fn serve<A: Write, B: Write>(
     alloc: Global,
     request: &Request,
@@ -51,23 +51,29 @@ pub fn serve<A: Write, B: Write>(
     ensures saved { Keeps (A.contents _saved.old) (A.contents _saved.new) }
 {
     match request {
-        Request::Serial { limits, .. } => serial(alloc, script, limits.turns(), out),
+        Request::Serial { limits, .. } => serial(alloc, script, *limits, out),
         Request::Check { .. } => check(alloc, script, out),
     }
 }
 
-/// Runs a script, and reports its run of at most so many turns.
-fn serial<W: Write>(alloc: Global, script: &[u8], turns: u64, out: &mut W) -> Result<u8, CliFault>
-    requires { turns ≤ 1099511627776 }
-    ensures reports { IfOk result (Reports turns script.now (W.contents out.old) (W.contents out.new)) }
+/// Runs a script within these limits, and reports its run.
+fn serial<W: Write>(
+    alloc: Global,
+    script: &[u8],
+    limits: Limits,
+    out: &mut W,
+) -> Result<u8, CliFault>
+    ensures reports { IfOk result (Reports limits script.now (W.contents out.old) (W.contents out.new)) }
     ensures refused { IfErr result (λ fault. IsRefusal fault → (body : Stmts) → IsScript script.now body → ⊥) }
     ensures alone { IfErr result (LeavesAlone (W.contents out.old) (W.contents out.new)) }
 {
-    let module = read_script(alloc, script)?;
-    let solo = run_script(alloc, &module, turns)?;
-    write_report(out, &solo)?;
+    let text = read_script(alloc, script)?;
+    let mut world = World::new(alloc, text, limits)?;
+    let _turns = world.serial(u64::MAX);
+    world.facts();
+    write_report(out, &world)?;
     flush(out)?;
-    Ok(status_of(&solo))
+    Ok(status_of(&world))
 }
 
 /// Tells that a script is read and well scoped, where it is, by the line `ok`.
@@ -76,21 +82,22 @@ fn check<W: Write>(alloc: Global, script: &[u8], out: &mut W) -> Result<u8, CliF
     ensures refused { IfErr result (λ fault. IsRefusal fault → (body : Stmts) → IsScript script.now body → ⊥) }
     ensures alone { IfErr result (LeavesAlone (W.contents out.old) (W.contents out.new)) }
 {
-    let _module = read_script(alloc, script)?;
+    let _text = read_script(alloc, script)?;
     write_text(out, "ok\n")?;
     flush(out)?;
     Ok(0)
 }
 
-/// The script as which bytes are read.
-fn read_script(alloc: Global, script: &[u8]) -> Result<Scoped, CliFault>
-    ensures read { IfOk result (λ s. IsScript script.now (script_of s)) }
+/// The text of a script that is read.
+fn read_script(alloc: Global, script: &[u8]) -> Result<&str, CliFault>
+    ensures text { IfOk result (λ text. text.now ≡ without_mark script.now) }
+    ensures read { OnOk result (IsReadable script.now) }
     ensures refused { IfErr result (λ fault. IsRefusal fault → (body : Stmts) → IsScript script.now body → ⊥) }
     ensures fault { IfErr result IsOfScript }
 {
     let text = decode(script)?;
     match read(alloc, text) {
-        Ok(module) => Ok(module),
+        Ok(_) => Ok(text),
         Err(ParseFault::Syntax(line)) => Err(CliFault::Script(line)),
         Err(ParseFault::NoMemory) => Err(CliFault::NoMemory),
     }
@@ -124,17 +131,5 @@ fn flush<W: Write>(out: &mut W) -> Result<(), CliFault>
     match out.flush() {
         Ok(()) => Ok(()),
         Err(_) => Err(CliFault::Write),
-    }
-}
-
-/// The program's status after a run.
-fn status_of(solo: &Solo) -> u8
-    ensures { result ≡ status (standing_of solo.now.standing) }
-{
-    match &solo.standing {
-        Standing::Starved => 5,
-        Standing::Ready => 4,
-        Standing::AtEnd(Outcome::Raised(_, _)) => 1,
-        Standing::AtEnd(Outcome::Returned) => 0,
     }
 }

@@ -27,14 +27,16 @@ Statuses:
   0  the script has run to its end, 'ok' was printed, or help was asked for
   1  the script was left by an exception
   2  the words or the script are refused, or a read or a write failed
-  4  the script's turns were used up
+  3  a run waits for what can't come
+  4  turns were used up
   5  memory was refused
 ";
 
 const SERIAL_HELP: &str =
-    "The report is the line '== interpreter 0 ==', what the script printed, the line 'raised KIND: MESSAGE'
-where it was left by an exception, and the line 'end: finished', 'end: spent' where its turns were
-used up, or 'end: starved' where memory was refused.";
+    "The report has for each interpreter the line '== interpreter N ==', what it printed, and the line
+'raised KIND: MESSAGE' for each of its runs that an exception left; and last the line 'end: finished',
+'end: stuck' where a run waits for what can't come, 'end: spent' where an interpreter's turns were
+used up, or 'end: starved' where memory was refused to one.";
 
 const CHECK_HELP: &str =
     "The line 'ok' is printed where the script can be read, and its statements and names stand where they
@@ -202,7 +204,7 @@ fn serial_command<'a>(alloc: Global) -> Result<Command<'a>, AllocError>
     ensures { IfOk result (λ command. app_of command ≡ serial) }
 {
     Command::new(alloc, "serial")
-        .about("Runs a script in interpreter 0, one turn after another, and prints its report.")
+        .about("Runs a script, one turn after another, and prints the report of each interpreter.")
         .override_usage("subpy serial [SCRIPT] [--interpreters N] [--turns N]")
         .after_help(SERIAL_HELP)
         .arg(script_argument(alloc))?

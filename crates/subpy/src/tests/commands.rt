@@ -1,6 +1,6 @@
 // What no clause says: worked cases, the text of help and refusals, and readers and writers that fail.
 
-use si_cli::{CliFault, Outcome, Request, Standing, WordsFault, read_input, request, serve, solo};
+use si_cli::{CliFault, Request, WordsFault, read_input, request, serve};
 use si_plain::Limits;
 use std::alloc::Global;
 use std::io;
@@ -66,9 +66,18 @@ impl Write for Filling {
 }
 
 fn serve_into<W: Write>(alloc: Global, script: &str, out: &mut W) -> Result<u8, CliFault> {
+    serve_within(alloc, script, Limits::standard(), out)
+}
+
+fn serve_within<W: Write>(
+    alloc: Global,
+    script: &str,
+    limits: Limits,
+    out: &mut W,
+) -> Result<u8, CliFault> {
     let asked = Request::Serial {
         script: None,
-        limits: Limits::standard(),
+        limits,
     };
     serve(alloc, &asked, script.as_bytes(), &[], &mut io::sink(), out)
 }
@@ -126,8 +135,8 @@ fn a_script_is_checked_and_not_run(rt: HostRuntime) -> Result<(), Fail> {
 
 #[test]
 fn a_failing_write_is_a_fault(rt: HostRuntime) -> Result<(), Fail> {
-    // eight writes and a flush
-    for (room, is_enough) in [(0, false), (1, false), (5, false), (8, false), (9, true)] {
+    // ten writes and a flush
+    for (room, is_enough) in [(0, false), (1, false), (7, false), (10, false), (11, true)] {
         let mut out = Filling {
             written: Vec::new(rt.alloc()),
             room,
@@ -158,52 +167,68 @@ fn input_is_read_to_its_end_or_not_at_all(rt: HostRuntime) -> Result<(), Fail> {
 }
 
 #[test]
-fn a_run_alone_counts_its_turns(rt: HostRuntime) -> Result<(), Fail> {
+fn turns_are_counted(rt: HostRuntime) -> Result<(), Fail> {
     // four instructions: the callee, its argument, the call, the end
-    let whole = solo(rt.alloc(), "print(1)", 1_000)?;
-    assert!(rt; matches!(whole.standing, Standing::AtEnd(Outcome::Returned)));
-    assert!(rt; whole.locals == 4 && whole.printed.as_str() == "1\n");
-    let spent = solo(rt.alloc(), "print(1)", 3)?;
-    assert!(rt; matches!(spent.standing, Standing::Ready));
-    assert!(rt; spent.locals == 3 && spent.printed.as_str() == "1\n");
-    let unread = solo(rt.alloc(), "print(", 1_000)?;
-    let Standing::AtEnd(Outcome::Raised(kind, message)) = &unread.standing else {
-        return Err(Fail::from("it was read"));
-    };
-    assert!(rt; kind.name() == "SyntaxError" && message.as_str() == "invalid syntax");
-    assert!(rt; unread.locals == 0);
+    for (interpreters, turns, status, report) in [
+        (1, 4, 0, "== interpreter 0 ==\n1\nend: finished\n"),
+        (64, 3, 4, "== interpreter 0 ==\n1\nend: spent\n"),
+        (1, 2, 4, "== interpreter 0 ==\nend: spent\n"),
+    ] {
+        let limits = Limits::new(interpreters, turns).map_err(|_| "the limits")?;
+        let mut out = Vec::new(rt.alloc());
+        assert_eq!(rt; serve_within(rt.alloc(), "print(1)", limits, &mut out)?, status);
+        assert_eq!(rt; out.as_slice(), report.as_bytes());
+    }
     Ok(())
 }
 
 #[test]
 fn words_that_are_taken(rt: HostRuntime) -> Result<(), Fail> {
-    let cases: [(&[&str], Option<&str>, u64); 6] = [
-        (&["subpy", "serial"], None, 1_000_000),
-        (&["subpy", "serial", "a.py"], Some("a.py"), 1_000_000),
+    let cases: [(&[&str], Option<&str>, u32, u64); 7] = [
+        (&["subpy", "serial"], None, 8, 1_000_000),
+        (&["subpy", "serial", "a.py"], Some("a.py"), 8, 1_000_000),
         (
             &["subpy", "serial", "--", "-a.py"],
             Some("-a.py"),
+            8,
             1_000_000,
         ),
-        (&["subpy", "serial", "--turns", "1"], None, 1),
+        (&["subpy", "serial", "--turns", "1"], None, 8, 1),
         (
             &["subpy", "serial", "a.py", "--turns=+007"],
             Some("a.py"),
+            8,
             7,
         ),
         (
-            &["subpy", "serial", "--turns", "1099511627776", "a.py"],
+            &["subpy", "serial", "--interpreters", "64", "a.py"],
             Some("a.py"),
+            64,
+            1_000_000,
+        ),
+        (
+            &[
+                "subpy",
+                "serial",
+                "--turns",
+                "1099511627776",
+                "a.py",
+                "--interpreters=1",
+            ],
+            Some("a.py"),
+            1,
             1_099_511_627_776,
         ),
     ];
-    for (words, script, turns) in cases {
+    for (words, script, interpreters, turns) in cases {
         let Ok(asked) = request(rt.alloc(), words) else {
             return Err(Fail::from("the words are refused"));
         };
         assert!(rt; asked.script() == script);
         match &asked {
-            Request::Serial { limits, .. } => assert_eq!(rt; limits.turns(), turns),
+            Request::Serial { limits, .. } => {
+                assert_eq!(rt; (limits.interpreters(), limits.turns()), (interpreters, turns))
+            }
             Request::Check { .. } => return Err(Fail::from("another command is asked for")),
         }
     }
@@ -242,8 +267,20 @@ fn are_refused(alloc: Global, words: &[&str], message: &str) -> Result<bool, Fai
 }
 
 #[test]
-fn turns_that_are_refused(rt: HostRuntime) -> Result<(), Fail> {
-    let cases: [(&[&str], &str); 3] = [
+fn numbers_that_are_refused(rt: HostRuntime) -> Result<(), Fail> {
+    let cases: [(&[&str], &str); 6] = [
+        (
+            &["subpy", "serial", "--interpreters", "0"],
+            "--interpreters takes a whole number from 1 to 64, not \"0\"",
+        ),
+        (
+            &["subpy", "serial", "--interpreters=65"],
+            "--interpreters takes a whole number from 1 to 64, not \"65\"",
+        ),
+        (
+            &["subpy", "serial", "--interpreters", "4294967297"],
+            "--interpreters takes a whole number from 1 to 64, not \"4294967297\"",
+        ),
         (
             &["subpy", "serial", "--turns", "0"],
             "--turns takes a whole number from 1 to 1099511627776, not \"0\"",
@@ -282,8 +319,8 @@ fn words_that_are_refused(rt: HostRuntime) -> Result<(), Fail> {
             "unexpected argument 'b' found",
         ),
         (
-            &["subpy", "check", "--turns", "1"],
-            "unexpected argument '--turns' found",
+            &["subpy", "check", "--interpreters", "1"],
+            "unexpected argument '--interpreters' found",
         ),
     ];
     for (words, message) in cases {
@@ -295,7 +332,7 @@ fn words_that_are_refused(rt: HostRuntime) -> Result<(), Fail> {
 #[test]
 fn words_that_ask_for_help(rt: HostRuntime) -> Result<(), Fail> {
     let general = "Runs Python scripts in isolated interpreters";
-    let serial = "Runs a script in interpreter 0";
+    let serial = "Runs a script, one turn after another";
     let check = "Says whether a script is well formed";
     let cases: [(&[&str], &str); 6] = [
         (&["subpy", "--help"], general),

@@ -1,7 +1,7 @@
 use Rattle.std.proofs.Common.{◌∙◌, ◌++◌, ap, codes, encode_utf8_all, subst, List, ℕ}
 use Rattle.std.proofs.lemmas.Result.{on_ok_weaker}
 use Rattle.std.specs.Io.KnownBytes.{Appends}
-use Rattle.si_cli.specs.Views.{after_kind}
+use Rattle.si_cli.specs.inner.Parts.{after_kind}
 use Rattle.si_cli.proofs.ReportLemmas.{appended, raised_bytes}
 use Rattle.si_cli.proofs.report.write_raised.Goals as goal
 

@@ -1,5 +1,5 @@
 use Rattle.std.proofs.Common.{◌≡◌, ℕ, List, subst, sym}
-use Rattle.si_cli.specs.Runs.{IsTaken}
+use Rattle.si_reading.specs.Taken.{IsTaken}
 use Rattle.si_cli.specs.Service.{without_mark}
 use Rattle.si_cli.proofs.serving.read_script.Goals as goal
 

@@ -1,14 +1,28 @@
-use Rattle.si_scope.specs.Scripts.{script_of}
+use Rattle.std.proofs.Common.{◌≡◌, ◌∙◌, ap, subst}
+use Rattle.si_plain.specs.Characters.{characters_of}
+use Rattle.si_world.specs.Rounds.{Serves}
+use Rattle.si_world.specs.Worlds.{WorldView, first_of}
+use Rattle.si_cli.specs.Service.{without_mark}
 use Rattle.si_cli.proofs.ReportLemmas.{appended_kept}
 use Rattle.si_cli.proofs.serving.serial.Goals as goal
 
 pub returns-clause-reports : goal.returns-clause-reports
-returns-clause-reports g c = record {
-  body = script_of c.in_ok-module.module;
-  read = c.in_ok-module.ensures.read;
-  run = c.in_ok-solo.solo;
-  shows = c.in_ok-solo.ensures.shows;
-  used = c.in_ok-solo.ensures.used;
-  report = appended_kept _ _ _ _ c.in_ok-write_report.ensures.report c.in_ok-flush.ensures.kept;
-  status_is = c.status_of.ensures;
-}
+returns-clause-reports g c =
+    let world = c.serial-_turns.new.world in
+    let first : c.in_ok-world.world ≡ first_of (characters_of (without_mark c.args.script.now)) c.args.limits =
+    c.in_ok-world.ensures ∙ ap (λ text. first_of (characters_of text) c.args.limits) c.in_ok-text.ensures.text in
+    record {
+      body = c.in_ok-text.ensures.read.0;
+      read = c.in_ok-text.ensures.read.1;
+      world = world;
+      run = record {
+        turns = c.serial-_turns.result;
+        serves = subst (λ (w : WorldView). Serves w c.serial-_turns.result world) first c.serial-_turns.ensures.serves;
+        rest = c.serial-_turns.ensures.rest;
+        world = c.facts.ensures.world;
+        legal = c.facts.ensures.legal;
+        core = c.facts.ensures.core;
+      };
+      report = appended_kept _ _ _ _ c.in_ok-write_report.ensures.report c.in_ok-flush.ensures.kept;
+      status_is = c.status_of.ensures;
+    }

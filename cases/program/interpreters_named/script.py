@@ -1,0 +1,1 @@
+print('one interpreter of 64')
