@@ -8,7 +8,7 @@ use Rattle.si_cli.proofs.serving.serial.Goals as goal
 
 pub returns-clause-reports : goal.returns-clause-reports
 returns-clause-reports g c =
-    let world = c.serial-_turns.new.world in
+    let world = c.serial-turns.new.self in
     let first : c.in_ok-world.world ≡ first_of (characters_of (without_mark c.args.script.now)) c.args.limits =
     c.in_ok-world.ensures ∙ ap (λ text. first_of (characters_of text) c.args.limits) c.in_ok-text.ensures.text in
     record {
@@ -16,9 +16,9 @@ returns-clause-reports g c =
       read = c.in_ok-text.ensures.read.1;
       world = world;
       run = record {
-        turns = c.serial-_turns.result;
-        serves = subst (λ (w : WorldView). Serves w c.serial-_turns.result world) first c.serial-_turns.ensures.serves;
-        rest = c.serial-_turns.ensures.rest;
+        turns = c.serial-turns.result;
+        serves = subst (λ (w : WorldView). Serves w c.serial-turns.result world) first c.serial-turns.ensures.serves;
+        rest = c.serial-turns.ensures.rest;
         world = c.facts.ensures.world;
         legal = c.facts.ensures.legal;
         core = c.facts.ensures.core;
