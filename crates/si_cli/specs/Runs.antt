@@ -1,5 +1,5 @@
 -- What `serial` runs (this project's own).
-use Rattle.std.specs.Prelude.{◌≡◌, ◌<◌, ℕ}
+use Rattle.std.specs.Prelude.{◌<◌, ℕ}
 use Rattle.si_plain.specs.Ranges.{Numbers}
 use Rattle.si_semantics.specs.Value.{Text}
 use Rattle.si_world.specs.Worlds.{IsWorld, WorldView, first_of}
