@@ -120,7 +120,9 @@ fn text_that_is_not_read(rt: HostRuntime) -> Result<(), Fail> {
     let mut world = world(rt.alloc(), "x = = 6\n", 1, 1_000)?;
     let recording = recorded(&mut world)?;
     assert_eq!(rt; recording.end(), End::Finished);
-    match &recording.reports()[0].log()[1].action {
+    let report = &recording.reports()[0];
+    let entry = &report.log()[1];
+    match &entry.action {
         Action::End(Outcome::Raised(kind, _)) => assert_eq!(rt; *kind, Kind::SyntaxError),
         _ => assert!(rt; false),
     }

@@ -176,7 +176,10 @@ fn turns_are_counted(rt: HostRuntime) -> Result<(), Fail> {
     ] {
         let limits = Limits::new(interpreters, turns).map_err(|_| "the limits")?;
         let mut out = Vec::new(rt.alloc());
-        assert_eq!(rt; serve_within(rt.alloc(), "print(1)", limits, &mut out)?, status);
+        assert_eq!(rt;
+            serve_within(rt.alloc(), "print(1)", limits, &mut out)?,
+            status
+        );
         assert_eq!(rt; out.as_slice(), report.as_bytes());
     }
     Ok(())
@@ -227,7 +230,10 @@ fn words_that_are_taken(rt: HostRuntime) -> Result<(), Fail> {
         assert!(rt; asked.script() == script);
         match &asked {
             Request::Serial { limits, .. } => {
-                assert_eq!(rt; (limits.interpreters(), limits.turns()), (interpreters, turns))
+                assert_eq!(rt;
+                    (limits.interpreters(), limits.turns()),
+                    (interpreters, turns)
+                )
             }
             Request::Check { .. } => return Err(Fail::from("another command is asked for")),
         }
