@@ -101,18 +101,19 @@ fn names_are_bound_before_a_run(rt: HostRuntime) -> Result<(), Fail> {
     Ok(())
 }
 
+// An interpreter that was given a text to run.
+fn given(alloc: Global, text: &str) -> Result<Interp, AllocError> {
+    let mut interp = Interp::new(alloc, 0)?;
+    give_text(alloc, &mut interp, text)?;
+    Ok(interp)
+}
+
 #[test]
 fn refused_text(rt: HostRuntime) -> Result<(), Fail> {
-    let alloc = rt.alloc();
-    let mut interp = Interp::new(alloc, 0)?;
-    let mut other = Interp::new(alloc, 0)?;
-    let text = to_run(alloc, "x = 'seven' * 7\n")?;
-    let again = to_run(alloc, "x = 'seven' * 7\n")?;
-    assert!(rt; give(&mut interp, text));
+    let mut interp = given(rt.alloc(), "x = 'seven' * 7\n")?;
     assert_eq!(rt; interp.log().len(), 1);
     if interp.state() == State::Starved {
-        assert!(rt; give(&mut other, again));
-        interp = other;
+        interp = given(rt.alloc(), "x = 'seven' * 7\n")?;
     }
     assert_eq!(rt; interp.state(), State::Ready);
     Ok(())
