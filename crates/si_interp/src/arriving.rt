@@ -101,7 +101,6 @@ fn told(alloc: Global, machine: &Machine) -> Result<Outcome, NoMemory>
 
 /// Stands at the end of a run, to which the next line of this log and these lines has come; of them the contract speaks
 /// alone. `NoMemory` where memory was refused, to tell how the run ended or to keep that.
-#[inline(never)]
 pub fn come_to_end(
     alloc: Global,
     machine: &Machine,

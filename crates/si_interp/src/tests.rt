@@ -87,15 +87,20 @@ fn text_that_is_not_read_is_left_at_once(rt: HostRuntime) -> Result<(), Fail> {
     Ok(())
 }
 
+// That a name is to be bound to an int.
+fn to_bind(alloc: Global, name: &str, value: i64) -> Result<Answer, AllocError> {
+    let mut pairs = Vec::new(alloc);
+    let pair = (Text::from_str(alloc, name)?, Parcel::int(value));
+    pairs.push(pair)?;
+    let binds = Binds::new(alloc, pairs)?;
+    Ok(Answer::Given(Job::Bind(binds)))
+}
+
 #[test]
 fn names_are_bound_before_a_run(rt: HostRuntime) -> Result<(), Fail> {
-    let alloc = rt.alloc();
-    let mut interp = Interp::new(alloc, 0)?;
-    let mut pairs = Vec::new(alloc);
-    pairs.push((Text::from_str(alloc, "n")?, Parcel::int(5)))?;
-    let binds = Job::Bind(Binds::new(alloc, pairs)?);
-    assert!(rt; give(&mut interp, Answer::Given(binds)));
-    assert!(rt; give_text(alloc, &mut interp, "print(n)\n")?);
+    let mut interp = Interp::new(rt.alloc(), 0)?;
+    assert!(rt; give(&mut interp, to_bind(rt.alloc(), "n", 5)?));
+    assert!(rt; give_text(rt.alloc(), &mut interp, "print(n)\n")?);
     assert_eq!(rt; go_on(&mut interp), Step::Asks);
     assert!(rt; interp.printed() == "5\n");
     Ok(())

@@ -79,7 +79,6 @@ fn act_at(hub: &mut Hub, interp: &mut Interp, i: u32, made: &mut u32) -> Mark
 }
 
 // A turn of an interpreter that has a line to run.
-#[inline(never)]
 fn step_at(interp: &mut Interp, turns: u64) -> Mark
     requires ready { interp.old.stand ≡ Ready }
     requires small { turns ≤ 1099511627776 }
@@ -95,8 +94,7 @@ fn step_at(interp: &mut Interp, turns: u64) -> Mark
 }
 
 // At most so many lines of an interpreter that has one to run, until it stands at an action or memory is refused to it: how
-// many turns these were, and whether memory was refused in the last. It stands apart, so that the step is drawn into its loop.
-#[inline(never)]
+// many turns these were, and whether memory was refused in the last.
 fn run_lines(interp: &mut Interp, most: u64) -> (u64, bool)
     requires ready { interp.old.stand ≡ Ready }
     requires small { interp.old.locals + most ≤ 1099511627776 }
