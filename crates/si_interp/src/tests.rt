@@ -1,7 +1,7 @@
 // One interpreter, with a test as its host.
 
 use crate::{Interp, State, Step};
-use si_parcel::{Action, Answer, Binds, BoxedText, Job, Outcome, Parcel};
+use si_parcel::{Action, Answer, BoxedText, Job, Outcome};
 use si_plain::{Kind, Text};
 use std::alloc::{AllocError, Global};
 use std::test::Fail;
@@ -84,25 +84,6 @@ fn text_that_is_not_read_is_left_at_once(rt: HostRuntime) -> Result<(), Fail> {
     assert!(rt; give(&mut interp, Answer::Done));
     assert!(rt; give(&mut interp, Answer::Given(Job::Closing)));
     assert_eq!(rt; go_on(&mut interp), Step::Gone);
-    Ok(())
-}
-
-// That a name is to be bound to an int.
-fn to_bind(alloc: Global, name: &str, value: i64) -> Result<Answer, AllocError> {
-    let mut pairs = Vec::new(alloc);
-    let pair = (Text::from_str(alloc, name)?, Parcel::int(value));
-    pairs.push(pair)?;
-    let binds = Binds::new(alloc, pairs)?;
-    Ok(Answer::Given(Job::Bind(binds)))
-}
-
-#[test]
-fn names_are_bound_before_a_run(rt: HostRuntime) -> Result<(), Fail> {
-    let mut interp = Interp::new(rt.alloc(), 0)?;
-    assert!(rt; give(&mut interp, to_bind(rt.alloc(), "n", 5)?));
-    assert!(rt; give_text(rt.alloc(), &mut interp, "print(n)\n")?);
-    assert_eq!(rt; go_on(&mut interp), Step::Asks);
-    assert!(rt; interp.printed() == "5\n");
     Ok(())
 }
 
