@@ -28,11 +28,6 @@ fn to_run(alloc: Global, text: &str) -> Result<Answer, AllocError> {
     Ok(Answer::Given(Job::Run(0, text)))
 }
 
-// Gives it a text to run.
-fn give_text(alloc: Global, interp: &mut Interp, text: &str) -> Result<bool, AllocError> {
-    Ok(give(interp, to_run(alloc, text)?))
-}
-
 // Runs lines, until none is left or there were a hundred.
 fn go_on(interp: &mut Interp) -> Step {
     for _ in 0..100 {
@@ -52,16 +47,39 @@ fn has_returned(interp: &Interp) -> bool {
     matches!(interp.pending(), Some(Action::End(Outcome::Returned)))
 }
 
+// Whether it stands at the end of a run whose text was not read.
+fn is_at_a_syntax_error(interp: &Interp) -> bool {
+    match interp.pending() {
+        Some(Action::End(Outcome::Raised(kind, message))) => {
+            *kind == Kind::SyntaxError && message.as_text().as_str() == "invalid syntax"
+        }
+        _ => false,
+    }
+}
+
+// An interpreter that was given a text to run.
+fn given(alloc: Global, text: &str) -> Result<Interp, AllocError> {
+    let answer = to_run(alloc, text)?;
+    let mut interp = Interp::new(alloc, 0)?;
+    give(&mut interp, answer);
+    Ok(interp)
+}
+
+// An interpreter in which two texts were run, the second where the first has returned.
+fn given_two(alloc: Global, first: &str, second: &str) -> Result<Interp, AllocError> {
+    let second = to_run(alloc, second)?;
+    let mut interp = given(alloc, first)?;
+    go_on(&mut interp);
+    if has_returned(&interp) {
+        give(&mut interp, Answer::Done);
+        give(&mut interp, second);
+    }
+    Ok(interp)
+}
+
 #[test]
 fn second_run_sees_the_names_of_the_first(rt: HostRuntime) -> Result<(), Fail> {
-    let alloc = rt.alloc();
-    let mut interp = Interp::new(alloc, 0)?;
-    assert!(rt; give_text(alloc, &mut interp, "x = 6\nprint(x * 7)\n")?);
-    assert_eq!(rt; go_on(&mut interp), Step::Asks);
-    assert!(rt; interp.printed() == "42\n");
-    assert!(rt; has_returned(&interp));
-    assert!(rt; give(&mut interp, Answer::Done));
-    assert!(rt; give_text(alloc, &mut interp, "print(x + 1)\n")?);
+    let mut interp = given_two(rt.alloc(), "x = 6\nprint(x * 7)\n", "print(x + 1)\n")?;
     assert_eq!(rt; go_on(&mut interp), Step::Asks);
     assert!(rt; interp.printed() == "42\n7\n");
     assert_eq!(rt; interp.log().len(), 3);
@@ -70,28 +88,13 @@ fn second_run_sees_the_names_of_the_first(rt: HostRuntime) -> Result<(), Fail> {
 
 #[test]
 fn text_that_is_not_read_is_left_at_once(rt: HostRuntime) -> Result<(), Fail> {
-    let alloc = rt.alloc();
-    let mut interp = Interp::new(alloc, 0)?;
-    assert!(rt; give_text(alloc, &mut interp, "x = = 6\n")?);
+    let mut interp = given(rt.alloc(), "x = = 6\n")?;
     assert_eq!(rt; interp.locals(), 0);
-    match interp.pending() {
-        Some(Action::End(Outcome::Raised(kind, message))) => {
-            assert_eq!(rt; *kind, Kind::SyntaxError);
-            assert!(rt; message.as_text().as_str() == "invalid syntax");
-        }
-        _ => assert!(rt; false),
-    }
-    assert!(rt; give(&mut interp, Answer::Done));
-    assert!(rt; give(&mut interp, Answer::Given(Job::Closing)));
+    assert!(rt; is_at_a_syntax_error(&interp));
+    give(&mut interp, Answer::Done);
+    give(&mut interp, Answer::Given(Job::Closing));
     assert_eq!(rt; go_on(&mut interp), Step::Gone);
     Ok(())
-}
-
-// An interpreter that was given a text to run.
-fn given(alloc: Global, text: &str) -> Result<Interp, AllocError> {
-    let mut interp = Interp::new(alloc, 0)?;
-    give_text(alloc, &mut interp, text)?;
-    Ok(interp)
 }
 
 #[test]
