@@ -1,0 +1,6 @@
+pub mod Histories
+pub mod Ordering
+pub mod Cores
+pub mod Unique
+pub mod Worlds
+pub mod Callers

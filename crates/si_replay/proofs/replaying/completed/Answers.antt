@@ -1,0 +1,7 @@
+use Rattle.si_plain.specs.Characters.{characters_of}
+use Rattle.si_replay.proofs.Unique.{only_memory}
+use Rattle.si_replay.proofs.Worlds.{replayed_is, replay_same}
+use Rattle.si_replay.proofs.replaying.completed.Goals as goal
+
+pub returns-in-Err-clause-memory : goal.returns-in-Err-clause-memory
+returns-in-Err-clause-memory c = λ turns t. only_memory (characters_of c.args.script.now) c.args.limits c.args.entries.now turns c.in-Err.fault t c.in-Err.ensures.err

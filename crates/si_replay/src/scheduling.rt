@@ -1,0 +1,41 @@
+// The schedule of a world.
+
+ghost use Rattle.std.specs.Prelude.{◌≡◌, IfOk, take};
+ghost use Rattle.si_world.specs.Marks.{AtRest};
+ghost use Rattle.si_world.specs.Core.{core_of, NoneStarved};
+ghost use Rattle.si_replay.specs.Replays.{callers, schedule_in, core_after, Completes};
+ghost use Rattle.si_replay.specs.Order.{order_of};
+
+use si_plain::NoMemory;
+use si_schedule::Schedule;
+use si_world::World;
+use std::alloc::Global;
+
+/// The schedule of a world: how many interpreters its limits allow, and who made its calls, in order.
+///
+/// # Errors
+///
+/// `NoMemory` where memory was refused.
+pub fn schedule_of(alloc: Global, world: &World) -> Result<Schedule, NoMemory>
+    ensures { IfOk result (λ s. s ≡ schedule_in world.now) }
+{
+    world.facts();
+    let journal = world.journal();
+    let mut by = Vec::with_capacity(alloc, journal.len())?;
+    for call in journal {
+        by.push(call.by)?;
+    }
+    match Schedule::new(world.limits().interpreters(), by) {
+        Some(schedule) => Ok(schedule),
+        None => unreachable!(),
+    }
+}
+
+/// A world is what an order of turns leads to, if memory was refused to no interpreter; and one in which no interpreter can
+/// move is completed by these turns. So a replay of its schedule leaves it again, unless memory is wanting. Costs nothing.
+pub fn replays_again(world: &World)
+    ensures core { core_after world.now.past.script world.now.past.limits (order_of world.now) ≡ core_of world.now }
+    ensures completes { NoneStarved world.now → AtRest world.now → Completes world.now.past.script world.now.past.limits (schedule_in world.now).callers (order_of world.now) }
+{
+    world.facts();
+}
