@@ -11,5 +11,5 @@ unreachable-requires c =
     let by = c.loop-call.invariant ∙ ap callers (take_all c.loop-call.call-index c.journal-journal.result.now c.loop-call-test.false ∙ c.journal-journal.ensures) in
     let ok = c.loop-call.by.ok in
     let small = c.loop-call.by.small in
-    c.in-None.ensures tt (callers_schedule c.args.world.now c.interpreters.result c.loop-call.by.items c.facts.ensures.world n by c.interpreters.ensures.least c.interpreters.ensures.most
+    c.in-None.ensures (callers_schedule c.args.world.now c.interpreters.result c.loop-call.by.items c.facts.ensures.world n by c.interpreters.ensures.least c.interpreters.ensures.most
     (let a = ok.0 in let b = ok.1 in omega arith))
