@@ -8,7 +8,6 @@ use Rattle.si_semantics.specs.Value.{Text}
 use Rattle.si_semantics.specs.Actions.{Action, Answer}
 use Rattle.si_semantics.specs.Shared.{State, Reply, NotNow, Replied}
 use Rattle.si_semantics.specs.History.{Call, Told}
-use Rattle.si_hub.specs.HubCode.{Past}
 use Rattle.si_hub.specs.Hubs.{IsTold, IsReplay, state_of, reply_at, call, with_call}
 use Rattle.si_hub.proofs.Histories.{replay_more, acts}
 use Rattle.si_interp.specs.Meaning.{InterpView, Stand, Ready, At, Gone, Starved, course_stand, StoodAt}

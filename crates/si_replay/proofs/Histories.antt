@@ -2,10 +2,10 @@
 use Rattle.std.proofs.Common.{◌≡◌, ℕ, ◌<◌, ◌≤◌, List, [], ◌∷◌, ◌++◌, length, refl, ap, sym, ◌∙◌, subst, arith, append_assoc, append-nil, Option, None, Some, slice_get}
 use Rattle.std.proofs.lemmas.Option.{slice_get_within}
 use Rattle.si_semantics.specs.Actions.{Action, Create, CreateQueue, Put, PutNow, Get, GetNow, Size, Prepare, Start, Await, IsRunning, Close, ListAll, Take, End, Answer}
-use Rattle.si_semantics.specs.Shared.{State, Interpreter, Reply, NotNow, Replied, reply, first_state}
+use Rattle.si_semantics.specs.Shared.{State, Interpreter, NotNow, Replied, reply, first_state}
 use Rattle.si_semantics.specs.History.{Call, state_after, state_then, Told}
 use Rattle.si_hub.specs.HubCode.{Past}
-use Rattle.si_hub.specs.Hubs.{state_of, IsTold, Acts}
+use Rattle.si_hub.specs.Hubs.{IsTold, Acts}
 use Rattle.si_hub.proofs.Histories.{state_after-more}
 use Rattle.si_world.specs.Worlds.{created}
 use Rattle.si_world.proofs.Counting.{grows_more}

@@ -4,3 +4,4 @@ pub mod Cores
 pub mod Unique
 pub mod Worlds
 pub mod Callers
+pub mod Faults

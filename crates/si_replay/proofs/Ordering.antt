@@ -1,19 +1,19 @@
 -- An order of turns leads to its world.
-use Rattle.std.proofs.Common.{◌≡◌, ◌≢◌, ℕ, zero, suc, ◌+◌, ◌-◌, ◌<◌, ◌≤◌, ◌⊎◌, List, [], ◌∷◌, ◌++◌, length, length-append, map, set, replicate, refl, ap, sym, ◌∙◌, subst, arith, append_assoc, append-nil, inl, inr, Bool, true, false, slice_get, slice_index, Some, None, Option, add-one, add-suc}
+use Rattle.std.proofs.Common.{◌≡◌, ◌≢◌, ℕ, zero, suc, ◌+◌, ◌-◌, ◌<◌, ◌≤◌, List, [], ◌∷◌, ◌++◌, length, length-append, map, set, replicate, refl, ap, sym, ◌∙◌, subst, arith, append_assoc, append-nil, Bool, true, false, slice_get, slice_index, Some, None, Option}
 use Rattle.std.specs.Prelude.{nat_le, ◌==◌}
 use Rattle.std.proofs.lemmas.List.{length-set}
 use Rattle.std.proofs.lemmas.Bool.{eq-eqb, eqb-true}
 use Rattle.std.proofs.lemmas.Option.{slice_get_within}
 use Rattle.si_semantics.specs.Actions.{Action, Answer}
-use Rattle.si_semantics.specs.Shared.{State, Reply, NotNow, Replied, reply, first_state}
-use Rattle.si_semantics.specs.History.{Call, Told, state_after, state_then}
+use Rattle.si_semantics.specs.Shared.{State, Replied, first_state}
+use Rattle.si_semantics.specs.History.{Call, Told}
 use Rattle.si_hub.specs.HubCode.{Past}
-use Rattle.si_hub.specs.Hubs.{IsTold, state_of, reply_at, with_call, call}
-use Rattle.si_interp.specs.Meaning.{Logged, InterpView, Stand, Ready, At, answers_of, course_stand, StoodAt, Stood}
+use Rattle.si_hub.specs.Hubs.{IsTold, reply_at, with_call, call}
+use Rattle.si_interp.specs.Meaning.{Logged, InterpView, Ready, At, answers_of, course_stand, StoodAt, Stood}
 use Rattle.si_interp.proofs.Logs.{course_first}
 use Rattle.si_world.specs.Legal.{Exchange, exchange, chosen, calls_of, answers_to, exchanges}
 use Rattle.si_world.specs.Worlds.{WorldView, created, IsMember, IsWorld}
-use Rattle.si_world.specs.Core.{Core, core, core_stand, core_turn, core_run, core_of}
+use Rattle.si_world.specs.Core.{Core, core, core_turn, core_run, core_of}
 use Rattle.si_world.proofs.Lists.{calls-own, calls-other}
 use Rattle.si_world.proofs.Coring.{not_le, answers-exchanges}
 use Rattle.si_world.proofs.Turning.{beyond}

@@ -1,5 +1,5 @@
 -- Cores whose calls were made by the same interpreters, in the same order, have the same calls.
-use Rattle.std.proofs.Common.{◌≡◌, ℕ, suc, ◌+◌, ◌<◌, ◌≤◌, List, [], ◌∷◌, ◌++◌, length, refl, ap, sym, ◌∙◌, subst, arith, append_assoc, append-nil, inl, inr, true, false, slice_index}
+use Rattle.std.proofs.Common.{◌≡◌, ℕ, suc, ◌<◌, ◌≤◌, List, [], ◌∷◌, ◌++◌, length, refl, ap, sym, ◌∙◌, subst, arith, append_assoc, append-nil, inl, inr, true, false, slice_index}
 use Rattle.std.proofs.lemmas.Bool.Decides.{leb_tells}
 use Rattle.si_plain.specs.Ranges.{Numbers}
 use Rattle.si_semantics.specs.Value.{Text}
@@ -10,7 +10,7 @@ use Rattle.si_hub.specs.Hubs.{IsTold, state_of, reply_at, can_act, call}
 use Rattle.si_interp.specs.Meaning.{Ready, At, Gone, course_stand, StoodAt}
 use Rattle.si_world.specs.Legal.{answers_to}
 use Rattle.si_world.specs.Worlds.{created}
-use Rattle.si_world.specs.Core.{Core, core_stand}
+use Rattle.si_world.specs.Core.{Core}
 use Rattle.si_replay.specs.declared.fault.ReplayFault.{ReplayFault}
 use Rattle.si_replay.specs.declared.fault.ReplayFault.TheVariants as faults
 use Rattle.si_replay.specs.Replays.{core_after, callers, CoreCanMove, CoreAtRest, Reached, StopsAt, IsDisabled, IsNobody, IsSpent, IsEnabled, IsUnfinished, IsFault, Completes, IsWantOfMemory}

@@ -4,7 +4,7 @@ use Rattle.std.proofs.lemmas.List.{map-append, length-take}
 use Rattle.std.proofs.lemmas.Bool.Decides.{leb_tells, eqb_tells}
 use Rattle.si_plain.specs.Ranges.{Numbers}
 use Rattle.si_semantics.specs.Value.{Text}
-use Rattle.si_semantics.specs.Actions.{Action, Take, Answer}
+use Rattle.si_semantics.specs.Actions.{Action, Take}
 use Rattle.si_semantics.specs.Shared.{is_enabled}
 use Rattle.si_semantics.specs.History.{Call}
 use Rattle.si_hub.specs.HubCode.{Past}
@@ -12,10 +12,9 @@ use Rattle.si_hub.specs.Hubs.{with_call, call, can_act}
 use Rattle.si_interp.specs.Meaning.{InterpView, Ready, At, Gone, Starved}
 use Rattle.si_world.specs.declared.mark.Mark.{Mark}
 use Rattle.si_world.specs.declared.mark.Mark.TheVariants as marks
-use Rattle.si_world.specs.Legal.{exchanges, calls_of}
 use Rattle.si_world.specs.Worlds.{WorldView, world, created, first_view, first_views, first_of, IsWorld}
 use Rattle.si_world.specs.Marks.{CanMove, Moves, MovesOne, Turned, AtRest, Ran}
-use Rattle.si_world.specs.Core.{Core, core_of, core_run, core_stand, core_text, NoneStarved}
+use Rattle.si_world.specs.Core.{Core, core_of, core_run, core_stand, NoneStarved}
 use Rattle.si_world.specs.Reports.{recorded}
 use Rattle.si_world.proofs.Lists.{get-set_same, get-set_other}
 use Rattle.si_world.proofs.Coring.{stands_so, of_core, index-map, Ran-more, set-same}

@@ -70,10 +70,7 @@ fn walk(world: &mut World, entries: &[u32]) -> Result<(), ReplayFault>
     let mut k = 0;
     for by in entries {
         k += 1;
-        match enter(world, *by, k) {
-            Ok(()) => {}
-            Err(fault) => return Err(fault),
-        }
+        enter(world, *by, k)?;
     }
     Ok(())
 }
@@ -99,10 +96,7 @@ fn finish(world: &mut World) -> Result<(), ReplayFault>
 {
     let count = world.created();
     for i in 0..count {
-        match settle(world, i) {
-            Ok(()) => {}
-            Err(fault) => return Err(fault),
-        }
+        settle(world, i)?;
     }
     Ok(())
 }
@@ -121,14 +115,8 @@ fn replayed(
         Err(_) => return Err(ReplayFault::NoMemory),
         Ok(world) => world,
     };
-    match walk(&mut world, entries) {
-        Ok(()) => {}
-        Err(fault) => return Err(fault),
-    }
-    match finish(&mut world) {
-        Ok(()) => {}
-        Err(fault) => return Err(fault),
-    }
+    walk(&mut world, entries)?;
+    finish(&mut world)?;
     Ok(world)
 }
 
@@ -171,9 +159,9 @@ fn limits_of(limits: Limits, schedule: &Schedule) -> Limits
 ///
 /// # Errors
 ///
-/// The first entry at whose turn nothing is enabled: `NotEnabled`, `Nobody` or `Spent`, with its number from 1; `Unfinished`
-/// where the entries are too few; `Starved` and `NoMemory` where memory was refused. Where some turns complete the schedule,
-/// only the last two can come.
+/// `NotEnabled`, `Nobody` or `Spent` with the number of the first entry whose action can't be taken; `Unfinished` where an
+/// action can still be taken after the last entry; `Starved` and `NoMemory` where memory was refused. Where some turns
+/// complete the schedule, only the last two can come.
 pub fn replay(
     alloc: Global,
     script: &str,

@@ -31,8 +31,9 @@ pub fn schedule_of(alloc: Global, world: &World) -> Result<Schedule, NoMemory>
     }
 }
 
-/// A world is what an order of turns leads to, if memory was refused to no interpreter; and one in which no interpreter can
-/// move is completed by these turns. So a replay of its schedule leaves it again, unless memory is wanting. Costs nothing.
+/// An order of turns leads to the calls of a world and to the lines of its interpreters. Where memory was refused to none of
+/// them and none can move, these turns complete the world's schedule: so a replay of it leaves the same again, unless
+/// memory is wanting. Costs nothing.
 pub fn replays_again(world: &World)
     ensures core { core_after world.now.past.script world.now.past.limits (order_of world.now) ≡ core_of world.now }
     ensures completes { NoneStarved world.now → AtRest world.now → Completes world.now.past.script world.now.past.limits (schedule_in world.now).callers (order_of world.now) }

@@ -1,5 +1,5 @@
 -- What each part of a replay leaves.
-use Rattle.std.specs.Prelude.{◌≡◌, ◌≢◌, ℕ, ◌<◌, List, [], ◌++◌, ⊤, slice_get, Some}
+use Rattle.std.specs.Prelude.{◌≡◌, ◌≢◌, ℕ, ◌<◌, List, ⊤, slice_get, Some}
 use Rattle.si_plain.specs.Ranges.{Numbers}
 use Rattle.si_semantics.specs.Value.{Text}
 use Rattle.si_semantics.specs.Actions.{Action, Answer}
