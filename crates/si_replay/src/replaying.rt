@@ -1,9 +1,8 @@
 // The replay of a schedule.
 
-ghost use Rattle.std.specs.Prelude.{◌≡◌, ◌≢◌, ◌<◌, ℕ, List, [], IfOk, IfErr, OnOk, Some, false, length, slice_get, take};
+ghost use Rattle.std.specs.Prelude.{◌≡◌, ◌≢◌, ℕ, List, [], IfOk, IfErr, OnOk, Some, false, slice_get};
 ghost use Rattle.si_plain.specs.Characters.{characters_of};
 ghost use Rattle.si_interp.specs.Meaning.{InterpView, Starved};
-ghost use Rattle.si_world.specs.Worlds.{created};
 ghost use Rattle.si_world.specs.Core.{NoneStarved};
 ghost use Rattle.si_replay.specs.Replays.{limits_for, core_after, Completes, IsReplayed, IsOfTurns, IsFault, IsWantOfMemory};
 ghost use Rattle.si_replay.specs.inner.Steps.{Stretched, Entered, IsEntryFault, Settled, Rested, IsTailFault, Walked, IsLeft};
@@ -120,7 +119,7 @@ fn replayed(
     Ok(world)
 }
 
-// The same, with what all such turns have in common.
+// The recording of such a world: whatever turns complete the entries, it is what they leave.
 fn completed(
     alloc: Global,
     script: &str,

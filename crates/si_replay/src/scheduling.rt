@@ -1,9 +1,9 @@
 // The schedule of a world.
 
-ghost use Rattle.std.specs.Prelude.{◌≡◌, IfOk, take};
+ghost use Rattle.std.specs.Prelude.{◌≡◌, IfOk};
 ghost use Rattle.si_world.specs.Marks.{AtRest};
 ghost use Rattle.si_world.specs.Core.{core_of, NoneStarved};
-ghost use Rattle.si_replay.specs.Replays.{callers, schedule_in, core_after, Completes};
+ghost use Rattle.si_replay.specs.Replays.{schedule_in, core_after, Completes};
 ghost use Rattle.si_replay.specs.Order.{order_of};
 
 use si_plain::NoMemory;
