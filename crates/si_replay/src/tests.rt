@@ -3,7 +3,7 @@
 use crate::{ReplayFault, replay, replays_again, schedule_of};
 use si_plain::{Limits, NoMemory};
 use si_schedule::Schedule;
-use si_world::{End, Recording, World};
+use si_world::{End, Mark, Recording, World};
 use std::alloc::{AllocError, Global};
 use std::test::Fail;
 
@@ -100,8 +100,8 @@ fn too_few_turns(rt: HostRuntime) -> Result<(), Fail> {
     Ok(())
 }
 
-// One call that takes memory, twice where it is refused.
-fn twice(alloc: Global, world: &World) -> Result<Schedule, NoMemory> {
+// A schedule is made, again where memory was refused.
+fn schedule_twice(alloc: Global, world: &World) -> Result<Schedule, NoMemory> {
     match schedule_of(alloc, world) {
         Ok(schedule) => Ok(schedule),
         Err(_) => schedule_of(alloc, world),
@@ -110,9 +110,31 @@ fn twice(alloc: Global, world: &World) -> Result<Schedule, NoMemory> {
 
 #[test]
 fn refused_schedule(rt: HostRuntime) -> Result<(), Fail> {
-    let world = World::new(rt.alloc(), "print(1)\n", limits(1_000)?)?;
-    let schedule = twice(rt.alloc(), &world)?;
-    assert!(rt; schedule.callers().is_empty());
+    let mut world = World::new(rt.alloc(), "print(1)\n", limits(1_000)?)?;
+    if world.turn(0) == Mark::Starved {
+        return Err(AllocError)?;
+    }
+    let schedule = schedule_twice(rt.alloc(), &world)?;
+    assert_eq!(rt; schedule.callers().len(), 1);
     assert_eq!(rt; schedule.interpreters(), 8);
+    Ok(())
+}
+
+// How many calls a replay has recorded, given again where memory was refused.
+fn calls_twice(alloc: Global, limits: Limits, schedule: &Schedule) -> Result<usize, NoMemory> {
+    match replay(alloc, "print(1)\n", limits, schedule) {
+        Ok(recording) => Ok(recording.journal().len()),
+        Err(_) => match replay(alloc, "print(1)\n", limits, schedule) {
+            Ok(recording) => Ok(recording.journal().len()),
+            Err(_) => Err(AllocError),
+        },
+    }
+}
+
+#[test]
+fn refused_replay(rt: HostRuntime) -> Result<(), Fail> {
+    let schedule = schedule(rt.alloc(), &[0, 0])?;
+    let calls = calls_twice(rt.alloc(), limits(1_000)?, &schedule)?;
+    assert_eq!(rt; calls, 2);
     Ok(())
 }
