@@ -224,6 +224,7 @@ impl Interp {
 
     /// Runs one line, where it has one. With that it may come to the end of its run, at which it then stands. Where memory is
     /// refused, also that to tell how the run ended, it stands still for good, and the line doesn't count.
+    #[inline(always)]
     pub fn step(&mut self) -> Step
         requires { self.old.locals < 2 ^ 40 }
         ensures still { self.old.stand ≢ Ready → (self.new ≡ self.old) × (result ≡ step_at self.old.stand) }

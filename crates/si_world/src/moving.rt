@@ -10,7 +10,7 @@ ghost use Rattle.si_interp.specs.View.{action_at};
 ghost use Rattle.si_world.specs.Worlds.{created};
 ghost use Rattle.si_world.specs.Marks.{Moves};
 ghost use Rattle.si_world.specs.inner.Counting.{is_created};
-ghost use Rattle.si_world.specs.inner.Stretches.{Stretched};
+ghost use Rattle.si_world.specs.inner.Stretches.{IsOneLine, Stretched};
 
 use crate::mark::Mark;
 use si_hub::{Hub, NotActed};
@@ -87,19 +87,22 @@ fn step_at(interp: &mut Interp, turns: u64) -> Mark
     if interp.locals() >= turns {
         return Mark::Spent;
     }
-    match interp.step() {
-        Step::Starved => Mark::Starved,
-        _ => Mark::Local,
+    match run_lines(interp, 1) {
+        (_, true) => Mark::Starved,
+        (_, false) => Mark::Local,
     }
 }
 
 // At most so many lines of an interpreter that has one to run, until it stands at an action or memory is refused to it: how
-// many turns these were, and whether memory was refused in the last.
+// many turns these were, and whether memory was refused in the last. The one place where an interpreter is stepped, so that
+// the step is drawn into this loop.
+#[inline(never)]
 fn run_lines(interp: &mut Interp, most: u64) -> (u64, bool)
     requires ready { interp.old.stand ≡ Ready }
     requires small { interp.old.locals + most ≤ 1099511627776 }
     ensures stretched { (turns : ℕ) → interp.old.locals + most ≤ turns → Stretched turns interp.old result.0 result.1 interp.new }
     ensures within { result.0 ≤ most }
+    ensures one { most ≡ 1 → IsOneLine interp.old result.1 interp.new }
 {
     let mut given = 0;
     while given < most {

@@ -2,6 +2,7 @@
 use Rattle.std.specs.Prelude.{◌≡◌, ℕ, ◌≤◌, List, [], ◌∷◌, length, Bool, true, false}
 use Rattle.si_hub.specs.HubCode.{Past}
 use Rattle.si_interp.specs.Meaning.{InterpView}
+use Rattle.si_interp.specs.View.{Counts, starved_view}
 use Rattle.si_world.specs.declared.mark.Mark.{Mark}
 use Rattle.si_world.specs.Marks.{Moves}
 use Rattle.si_world.specs.Rounds.{IdleWithin}
@@ -16,6 +17,11 @@ Goes p i v (m ∷ ms) w = (u : InterpView) × Moves p i v m p u × Goes p i u ms
 abbrev pub last_idle : Bool → ℕ
 last_idle true = 1
 last_idle false = 0
+
+-- one turn: a line was run, or memory was refused to it
+abbrev pub IsOneLine : InterpView → (starved : Bool) → InterpView → Type 0
+IsOneLine v false w = Counts v w
+IsOneLine v true w = w ≡ starved_view v
 
 -- n turns, of which none but the last can have been refused memory
 pub record Stretched (turns : ℕ) (v : InterpView) (n : ℕ) (starved : Bool) (w : InterpView) : Type 0 where

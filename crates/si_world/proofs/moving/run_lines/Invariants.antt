@@ -1,5 +1,6 @@
 use Rattle.std.proofs.Common.{◌≡◌, ◌+◌, ◌-◌, ◌≤◌, ℕ, false}
 use Rattle.si_interp.specs.Meaning.{Ready}
+use Rattle.si_interp.specs.View.{Counts}
 use Rattle.si_world.specs.inner.Stretches.{Stretched}
 use Rattle.si_world.proofs.moving.run_lines.Given as goal
 
@@ -9,6 +10,8 @@ invariant-loop-given l = record {
   ready : l.interp.stand ≡ Ready;
   locals : l.interp.locals ≡ l.fn.interp.locals + l.given;
   within : l.given ≤ l.most;
+  none : l.given ≡ 0 → l.interp ≡ l.fn.interp;
+  one : l.given ≡ 1 → Counts l.fn.interp l.interp;
 }
 
 abbrev pub decreases-loop-given : goal.decreases-loop-given
