@@ -1,15 +1,14 @@
 -- The life of one interpreter under the answers that its shared actions are given: the life of the language, which takes
 -- trees and values (si_semantics/specs/Life.antt), under texts and parcels (this project's own).
-use Rattle.std.specs.Prelude.{ℕ, List, [], ◌∷◌, map, Bool, true, nat_lt, Option, Some, None}
+use Rattle.std.specs.Prelude.{ℕ, List, [], ◌∷◌, map, Bool, true, nat_lt, Option, Some}
 use Rattle.std.specs.List.{list_all}
-use Rattle.si_semantics.specs.Value.{Text, Value, Nothing}
+use Rattle.si_semantics.specs.Value.{Text, Value}
 use Rattle.si_semantics.specs.Parcels.{Tree}
 use Rattle.si_semantics.specs.Shareable.{value_of_parcel}
 use Rattle.si_semantics.specs.World as language
 use Rattle.si_semantics.specs.Meaning.{Piece}
 use Rattle.si_semantics.specs.Life as language_life
 use Rattle.si_semantics.specs.Life.{Told, Stops, IsGone, IsCut, life_of}
-use Rattle.si_semantics.specs.Actions as shared
 use Rattle.si_semantics.specs.Actions.{Action, Take, End, Job, Bind, Run, Closing, Answer, Given}
 use Rattle.si_reading.specs.Texts.{tree_of_text}
 
@@ -22,8 +21,8 @@ abbrev pub bound : Bool → Text → Option Value → List (Text × Value) → L
 bound true x (Some v) bs = (x, v) ∷ bs
 bound _ x _ bs = bs
 
--- the values that names are bound to. Scripts can't speak of a name that is not ASCII: such a pair binds nothing (this
--- project's own)
+-- the values that names are bound to. A parcel with a queue in it has no value yet, and scripts can't speak of a name
+-- that is not ASCII: such a pair binds nothing (this project's own)
 abbrev pub values_of : List (Text × Tree) → List (Text × Value)
 values_of [] = []
 values_of (b ∷ bs) = bound (is_ascii b.0) b.0 (value_of_parcel b.1) (values_of bs)
@@ -34,56 +33,16 @@ job_in (Bind bs) = language.Bind (values_of bs)
 job_in (Run run text) = language.Run (tree_of_text text)
 job_in Closing = language.Closing
 
--- the value of an item; each parcel has one
-abbrev pub item_in : Option Value → language.Answer
-item_in (Some v) = language.Item v
-item_in None = language.Item Nothing
-
--- an answer, as the language takes it: with the tree of a text and the value of a parcel. No request is answered a list of
--- interpreters yet; it would be as Done
+-- an answer, as the language takes it. No action that an interpreter asks yet is given any other answer than a job or
+-- Done; such a one is as Done, which closes an interpreter that waits for a job
 abbrev pub answer_in : Answer → language.Answer
 answer_in (Given job) = language.Taken (job_in job)
-answer_in shared.Done = language.Done
-answer_in shared.Limit = language.Limit
-answer_in (shared.Created i) = language.Created i
-answer_in (shared.QueueMade q) = language.QueueMade q
-answer_in (shared.Started r) = language.Started r
-answer_in shared.Full = language.Full
-answer_in shared.Empty = language.Empty
-answer_in (shared.Item p) = item_in (value_of_parcel p)
-answer_in (shared.Count n) = language.Count n
-answer_in shared.NotFound = language.NotFound
-answer_in shared.Running = language.Running
-answer_in shared.Current = language.Current
-answer_in shared.Main = language.Main
-answer_in (shared.Ended o) = language.Ended o
-answer_in (shared.Truth b) = language.Truth b
-answer_in (shared.Ids is) = language.Done
+answer_in _ = language.Done
 
--- the shared action by which a request is made: `exec` and a thread start a run and await its end; what a queue is asked of
--- its items is its size
-abbrev pub action_of : language.Request → Action
-action_of language.Create = shared.Create
-action_of (language.CreateQueue m) = shared.CreateQueue m
-action_of (language.Put q p) = shared.Put q p
-action_of (language.PutNow q p) = shared.PutNow q p
-action_of (language.Get q) = shared.Get q
-action_of (language.GetNow q) = shared.GetNow q
-action_of (language.Size q) = shared.Size q
-action_of (language.IsEmpty q) = shared.Size q
-action_of (language.IsFull q m) = shared.Size q
-action_of (language.Prepare i bs) = shared.Prepare i bs
-action_of (language.Exec i text) = shared.Start i text
-action_of (language.AwaitExec r) = shared.Await r
-action_of (language.StartThread x i text) = shared.Start i text
-action_of (language.JoinThread r) = shared.Await r
-action_of (language.IsRunning i) = shared.IsRunning i
-action_of (language.Close i) = shared.Close i
-
--- an action, as it is asked of what all share
+-- an action, as it is asked of what all share; the language makes no request yet
 abbrev pub asked : language_life.Action → Action
 asked language_life.Take = Take
-asked (language_life.Calls r) = action_of r
+asked (language_life.Calls r) = elim r [ ]
 asked (language_life.End o) = End o
 
 -- what a life comes to: it asks an action, it is gone, or a loop wants one turn too many
@@ -104,6 +63,7 @@ life_told (Stops a s) = record { fate = Asks (asked a); pieces = s.pieces; visit
 life_told (IsGone s) = record { fate = Leaves; pieces = s.pieces; visits = s.visits }
 life_told (IsCut s) = record { fate = Cut; pieces = s.pieces; visits = s.visits }
 
--- The life of the interpreter of this number under these answers, each loop at most n turns.
+-- The life of the interpreter of this number under these answers, each loop at most n turns. No script can ask for its
+-- interpreter's number yet.
 unfoldable pub life : (id n : ℕ) → List Answer → Life
-life id n answers = life_told (life_of id n (map answer_in answers))
+life id n answers = life_told (life_of n (map answer_in answers))
