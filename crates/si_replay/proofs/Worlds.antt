@@ -13,7 +13,7 @@ use Rattle.si_interp.specs.Meaning.{InterpView, Ready, At, Gone, Starved}
 use Rattle.si_world.specs.declared.mark.Mark.{Mark}
 use Rattle.si_world.specs.declared.mark.Mark.TheVariants as marks
 use Rattle.si_world.specs.Worlds.{WorldView, world, created, first_view, first_views, first_of, IsWorld}
-use Rattle.si_world.specs.Marks.{CanMove, Moves, MovesOne, Turned, AtRest, Ran}
+use Rattle.si_world.specs.Marks.{CanMove, Moves, MovesOne, Turned, AtRest, Ran, RanLines, HasNoLine}
 use Rattle.si_world.specs.Core.{Core, core_of, core_run, core_stand, NoneStarved}
 use Rattle.si_world.specs.Reports.{recorded}
 use Rattle.si_world.proofs.Lists.{get-set_same, get-set_other}
@@ -104,6 +104,23 @@ steps_more old mid i new s t =
       leads = Leads-more old mid i marks.Local new s.leads t;
       others = λ k ne. others_at mid i marks.Local new o k ne ∙ s.others k ne;
     }
+
+-- so many
+pub steps_many : (n : ℕ) (old mid : WorldView) (i : ℕ) (new : WorldView) → Steps old i mid → Ran mid (replicate n i) (replicate n marks.Local) new → Steps old i new
+steps_many zero old mid i new s r = subst (λ (w : WorldView). Steps old i w) (sym r) s
+steps_many (suc n) old mid i new s r = steps_many n old r.0 i new (steps_more old mid i r.0 s r.1) r.2
+
+pub steps_ran : (old new : WorldView) (i n : ℕ) → RanLines old i n false new → Steps old i new
+steps_ran old new i n l = steps_many n old old i new (steps_none old i) (subst (λ (ms : List Mark). Ran old (replicate n i) ms new) l.are l.ran)
+
+-- a turn of an interpreter that has no line to run is not Local
+pub not_local : (old : WorldView) (i : ℕ) (m : Mark) (new : WorldView) → HasNoLine old i → Turned old i m new → m ≢ marks.Local
+not_local old i m new h t e =
+    let k = moved_if old i marks.Local new (subst (λ (x : Mark). Turned old i x new) e t) local_not_nobody in
+    let o = k.1 in
+    let a = h o.before k.0 o.stood o.moves.0 in
+    let b = o.moves.1 in
+    omega arith
 
 -- how many it has left
 abbrev pub left_of : WorldView → ℕ → ℕ

@@ -10,7 +10,7 @@ use Rattle.si_world.specs.declared.mark.Mark.{Mark}
 use Rattle.si_world.specs.declared.mark.Mark.TheVariants as marks
 use Rattle.si_world.specs.Legal.{exchanges}
 use Rattle.si_world.specs.Worlds.{WorldView, world, created, IsMember, IsWorld}
-use Rattle.si_world.specs.Marks.{Moves, Ran}
+use Rattle.si_world.specs.Marks.{Moves, Ran, AreLines, RanLines, HasNoLine}
 use Rattle.si_world.specs.Rounds.{IdleWithin}
 use Rattle.si_world.specs.inner.Serving.{idle_after, Gives}
 use Rattle.si_world.specs.inner.Stretches.{Goes, last_idle, Stretched}
@@ -24,7 +24,7 @@ Goes-more p i v [] u m w g h = (w, subst (λ (x : InterpView). Moves p i x m p w
 Goes-more p i v (k ∷ ms) u m w g h = (g.0, g.1, Goes-more p i g.0 ms u m w g.2 h)
 
 pub stretched_none : (turns : ℕ) (v : InterpView) → Stretched turns v 0 false v
-stretched_none turns v = record { marks = []; count = refl; goes = λ p i e. refl; id = refl; log = refl; taken = λ e. e; locals = λ l. l; idle_within = omega arith; idle_end = refl }
+stretched_none turns v = record { marks = []; count = refl; are = refl; counted = λ e. omega arith; goes = λ p i e. refl; id = refl; log = refl; taken = λ e. e; locals = λ l. l; idle_within = omega arith; idle_end = refl }
 
 -- what one line leaves as it was
 record IsLine (turns : ℕ) (u w : InterpView) : Type 0 where
@@ -34,11 +34,13 @@ record IsLine (turns : ℕ) (u w : InterpView) : Type 0 where
   pub locals : w.locals ≤ turns
 
 -- one turn more after lines
-stretched_more : (turns : ℕ) (v u w : InterpView) (n : ℕ) (m : Mark) (b : Bool) → Stretched turns v n false u → ((p : Past) (i : ℕ) → p.limits.turns ≡ turns → Moves p i u m p w)
-    → IsLine turns u w → IdleWithin 128 0 (m ∷ []) → idle_after 0 (m ∷ []) ≡ last_idle b → Stretched turns v (n + 1) b w
-stretched_more turns v u w n m b s h x k e = record {
+stretched_more : (turns : ℕ) (v u w : InterpView) (n : ℕ) (m : Mark) (b : Bool) (s : Stretched turns v n false u) → ((p : Past) (i : ℕ) → p.limits.turns ≡ turns → Moves p i u m p w)
+    → IsLine turns u w → AreLines (n + 1) b (s.marks ++ m ∷ []) → (b ≡ false → w.locals ≡ u.locals + 1) → IdleWithin 128 0 (m ∷ []) → idle_after 0 (m ∷ []) ≡ last_idle b → Stretched turns v (n + 1) b w
+stretched_more turns v u w n m b s h x a l k e = record {
   marks = s.marks ++ m ∷ [];
   count = length-append s.marks (m ∷ []) ∙ ap (λ (x : ℕ). x + 1) s.count;
+  are = a;
+  counted = λ e. (let y = l e in let z = s.counted refl in omega arith);
   goes = λ p i t. Goes-more p i v s.marks u m w (s.goes p i t) (h p i t);
   id = x.id ∙ s.id;
   log = x.log ∙ s.log;
@@ -48,23 +50,35 @@ stretched_more turns v u w n m b s h x k e = record {
   idle_end = after-append 0 s.marks (m ∷ []) ∙ ap (λ (x : ℕ). idle_after x (m ∷ [])) s.idle_end ∙ e;
 }
 
+replicate_more : {A : Type 0} (n : ℕ) (x : A) → replicate n x ++ x ∷ [] ≡ replicate (suc n) x
+replicate_more zero x = refl
+replicate_more (suc n) x = ap (λ (xs : List _). x ∷ xs) (replicate_more n x)
+
+more_lines : (n : ℕ) (ms : List Mark) → AreLines n false ms → AreLines (n + 1) false (ms ++ marks.Local ∷ [])
+more_lines n ms e =
+    let k : suc n ≡ n + 1 = omega arith in
+    ap (λ (xs : List Mark). xs ++ marks.Local ∷ []) e ∙ replicate_more n marks.Local ∙ ap (λ (j : ℕ). replicate j marks.Local) k
+
 -- a line that counts
 pub stretched_line : (turns : ℕ) (v u w : InterpView) (n : ℕ) → Stretched turns v n false u → u.stand ≡ Ready → u.locals < turns → Counts u w → Stretched turns v (n + 1) false w
 stretched_line turns v u w n s r l c =
-    stretched_more turns v u w n marks.Local false s (λ p i t. (r, (let e = t in omega arith), refl, c)) (record { id = c.id; log = c.log; taken = c.taken; locals = let e = c.locals in omega arith }) (omega arith, omega arith) refl
+    stretched_more turns v u w n marks.Local false s (λ p i t. (r, (let e = t in omega arith), refl, c)) (record { id = c.id; log = c.log; taken = c.taken; locals = let e = c.locals in omega arith }) (more_lines n s.marks s.are) (λ e. c.locals) (omega arith, omega arith) refl
 
 -- a line for which memory is refused
 pub stretched_starved : (turns : ℕ) (v u w : InterpView) (n : ℕ) → Stretched turns v n false u → u.stand ≡ Ready → u.locals < turns → w ≡ starved_view u → Stretched turns v (n + 1) true w
 stretched_starved turns v u w n s r l c =
     stretched_more turns v u w n marks.Starved true s (λ p i t. (inl (r, (let e = t in omega arith)), refl, c))
     (record { id = ap (λ (x : InterpView). x.id) c; log = ap (λ (x : InterpView). x.log) c; taken = ap (λ (x : InterpView). x.taken) c; locals = let e = ap (λ (x : InterpView). x.locals) c in omega arith })
-    (omega arith, omega arith) refl
+    (n, refl, ap (λ (ms : List Mark). ms ++ marks.Starved ∷ []) s.are) (λ e. absurd cc) (omega arith, omega arith) refl
 
 pub is_ready : (s : Stand) → steps.Local ≡ step_at s → s ≡ Ready
 is_ready Ready e = refl
 is_ready (At a) e = cc
 is_ready Gone e = cc
 is_ready Starved e = cc
+
+pub not_ready : (s : Stand) → steps.Asks ≡ step_at s → s ≡ Ready → ⊥
+not_ready s e h = let both : steps.Asks ≡ steps.Local = e ∙ ap step_at h in absurd cc
 
 -- ---- in the world
 
@@ -98,6 +112,24 @@ stretched_gives p vs i v w n b old e at lt s = subst (λ (o : WorldView). Gives 
   idle_within = s.idle_within;
   idle_end = let k = s.idle_end in omega arith;
 })
+
+pub stretched_ran : (p : Past) (vs : List InterpView) (i : ℕ) (v w : InterpView) (n : ℕ) (b : Bool) (old : WorldView) → world p vs ≡ old → slice_get vs i ≡ Some v → i < created p
+    → Stretched p.limits.turns v n b w → RanLines old i n b (world p (set vs i w))
+stretched_ran p vs i v w n b old e at lt s = record {
+  marks = s.marks;
+  are = s.are;
+  ran = subst (λ (o : WorldView). Ran o (replicate n i) s.marks (world p (set vs i w))) e
+      (subst (λ (k : ℕ). Ran (world p vs) (replicate k i) s.marks (world p (set vs i w))) s.count (goes_ran p vs i v s.marks w at lt (s.goes p i refl)));
+}
+
+pub ran_none : (old : WorldView) (i : ℕ) → RanLines old i 0 false old
+ran_none old i = record { marks = []; are = refl; ran = refl }
+
+pub has_no_line : (p : Past) (vs : List InterpView) (i : ℕ) (v w : InterpView) → slice_get vs i ≡ Some v → (w.stand ≡ Ready → p.limits.turns ≤ w.locals) → HasNoLine (world p (set vs i w)) i
+has_no_line p vs i v w at h u lt g r =
+    let a : Some w ≡ Some u = sym (get-set_same vs i v w at) ∙ g in
+    let b : w ≡ u = cc in
+    subst (λ (x : InterpView). p.limits.turns ≤ x.locals) b (h (ap (λ (x : InterpView). x.stand) b ∙ r))
 
 pub stretched_member : (p : Past) (i : ℕ) (v w : InterpView) (n : ℕ) (b : Bool) → IsMember p i v → Stretched p.limits.turns v n b w → Shows w → IsMember p i w
 stretched_member p i v w n b h s x = record {

@@ -1,5 +1,5 @@
 -- What a turn does (this project's own).
-use Rattle.std.specs.Prelude.{◌≡◌, ℕ, ◌<◌, ◌≤◌, List, [], ◌∷◌, true, false, ◌⊎◌, slice_get, slice_set, Some}
+use Rattle.std.specs.Prelude.{◌≡◌, ℕ, ◌+◌, ◌<◌, ◌≤◌, List, [], ◌∷◌, ◌++◌, replicate, Bool, true, false, ◌⊎◌, slice_get, slice_set, Some}
 use Rattle.si_semantics.specs.Actions.{Action, Answer}
 use Rattle.si_hub.specs.HubCode.{Past}
 use Rattle.si_hub.specs.Hubs.{Acts, can_act}
@@ -42,6 +42,21 @@ Ran old [] [] new = new ≡ old
 Ran old (i ∷ is) (m ∷ ms) new = (mid : WorldView) × Turned old i m mid × Ran mid is ms new
 Ran old [] (m ∷ ms) new = ⊥
 Ran old (i ∷ is) [] new = ⊥
+
+-- the marks of n turns of one interpreter while each runs a line: all are Local, but the last where memory was refused in it
+abbrev pub AreLines : (n : ℕ) → (starved : Bool) → List Mark → Type 0
+AreLines n false ms = ms ≡ replicate n marks.Local
+AreLines n true ms = (k : ℕ) × (n ≡ k + 1) × (ms ≡ replicate k marks.Local ++ marks.Starved ∷ [])
+
+-- n turns of interpreter i while each runs a line
+pub record RanLines (old : WorldView) (i n : ℕ) (starved : Bool) (new : WorldView) : Type 0 where
+  pub marks : List Mark
+  pub are : AreLines n starved marks
+  pub ran : Ran old (replicate n i) marks new
+
+-- interpreter i, if it was created, has no line to run, or no turn left for it
+abbrev pub HasNoLine : WorldView → ℕ → Type 0
+HasNoLine w i = (v : InterpView) → i < created w.past → slice_get w.interps i ≡ Some v → v.stand ≡ Ready → w.past.limits.turns ≤ v.locals
 
 -- no interpreter that was created can move
 abbrev pub AtRest : WorldView → Type 0

@@ -1,6 +1,6 @@
 // A turn of one interpreter.
 
-ghost use Rattle.std.specs.Prelude.{◌≡◌, ◌≢◌, ◌≤◌, ℕ, ◌+◌, None, true, false, if◌then◌else◌};
+ghost use Rattle.std.specs.Prelude.{◌≡◌, ◌≢◌, ◌≤◌, ◌<◌, ℕ, ◌+◌, None, true, false, if◌then◌else◌};
 ghost use Rattle.si_semantics.specs.Actions as shared;
 ghost use Rattle.si_parcel.specs.Shared.{answer_of};
 ghost use Rattle.si_hub.specs.HubCode.{Past};
@@ -103,6 +103,7 @@ fn run_lines(interp: &mut Interp, most: u64) -> (u64, bool)
     ensures stretched { (turns : ℕ) → interp.old.locals + most ≤ turns → Stretched turns interp.old result.0 result.1 interp.new }
     ensures within { result.0 ≤ most }
     ensures one { most ≡ 1 → IsOneLine interp.old result.1 interp.new }
+    ensures ends { result.1 ≡ false → result.0 < most → interp.new.stand ≡ Ready → ⊥ }
 {
     let mut given = 0;
     while given < most {
@@ -124,6 +125,7 @@ pub(crate) fn stretch(interp: &mut Interp, turns: u64, left: u64) -> (u64, bool)
     ensures stretched { Stretched turns interp.old result.0 result.1 interp.new }
     ensures within { result.0 ≤ left }
     ensures shows { Shows interp.new }
+    ensures all { turns ≤ left → result.1 ≡ false → interp.new.stand ≡ Ready → turns ≤ interp.new.locals }
 {
     let locals = interp.locals();
     let ready = interp.state() == State::Ready;

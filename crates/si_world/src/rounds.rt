@@ -1,7 +1,7 @@
 // Turns given in rounds.
 
 ghost use Rattle.std.specs.Prelude.{◌≡◌, ◌≤◌, ◌<◌, ◌+◌, ℕ, false};
-ghost use Rattle.si_world.specs.Marks.{AtRest};
+ghost use Rattle.si_world.specs.Marks.{AtRest, RanLines, HasNoLine};
 ghost use Rattle.si_world.specs.Rounds.{Serves};
 ghost use Rattle.si_world.specs.inner.Serving.{Gives, stint_idle, round_idle, IsIdleTurn};
 ghost use Rattle.si_world.specs.inner.Stretches.{last_idle};
@@ -10,10 +10,21 @@ use crate::moving::stretch;
 use crate::world::World;
 
 impl World {
-    // At most `left` turns of interpreter i while it has lines to run: how many, and whether memory was refused in the last.
-    fn lines(&mut self, i: u32, left: u64) -> (u64, bool)
+    /// Turns of interpreter i while each runs a line: how many, and whether memory was refused in the last of them. There are
+    /// none where it was not created, has no line to run, or no turn left.
+    pub fn lines(&mut self, i: u32) -> (u64, bool)
+        ensures ran { RanLines self.old i result.0 result.1 self.new }
+        ensures all { result.1 ≡ false → HasNoLine self.new i }
+    {
+        self.some_lines(i, u64::MAX)
+    }
+
+    // The same of at most `left` turns.
+    fn some_lines(&mut self, i: u32, left: u64) -> (u64, bool)
         ensures gives { Gives 0 self.old result.0 self.new (last_idle result.1) }
         ensures within { result.0 ≤ left }
+        ensures ran { RanLines self.old i result.0 result.1 self.new }
+        ensures all { left ≡ 18446744073709551615 → result.1 ≡ false → HasNoLine self.new i }
     {
         if i >= self.made {
             return (0, false);
@@ -39,7 +50,7 @@ impl World {
                 return (given, moved);
             }
             moved = true;
-            let (lines, starved) = self.lines(i, left - given);
+            let (lines, starved) = self.some_lines(i, left - given);
             given += lines;
             if starved {
                 return (given, moved);

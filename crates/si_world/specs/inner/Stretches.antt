@@ -1,10 +1,10 @@
 -- Turns of one interpreter while nothing is asked of what all share.
-use Rattle.std.specs.Prelude.{◌≡◌, ℕ, ◌≤◌, List, [], ◌∷◌, length, Bool, true, false}
+use Rattle.std.specs.Prelude.{◌≡◌, ℕ, ◌+◌, ◌≤◌, List, [], ◌∷◌, length, Bool, true, false}
 use Rattle.si_hub.specs.HubCode.{Past}
 use Rattle.si_interp.specs.Meaning.{InterpView}
 use Rattle.si_interp.specs.View.{Counts, starved_view}
 use Rattle.si_world.specs.declared.mark.Mark.{Mark}
-use Rattle.si_world.specs.Marks.{Moves}
+use Rattle.si_world.specs.Marks.{Moves, AreLines}
 use Rattle.si_world.specs.Rounds.{IdleWithin}
 use Rattle.si_world.specs.inner.Serving.{idle_after}
 
@@ -27,6 +27,8 @@ IsOneLine v true w = w ≡ starved_view v
 pub record Stretched (turns : ℕ) (v : InterpView) (n : ℕ) (starved : Bool) (w : InterpView) : Type 0 where
   pub marks : List Mark
   pub count : length marks ≡ n
+  pub are : AreLines n starved marks
+  pub counted : starved ≡ false → w.locals ≡ v.locals + n
   pub goes : (p : Past) (i : ℕ) → p.limits.turns ≡ turns → Goes p i v marks w
   pub id : w.id ≡ v.id
   pub log : w.log ≡ v.log

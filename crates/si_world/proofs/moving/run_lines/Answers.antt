@@ -1,6 +1,6 @@
 use Rattle.std.proofs.Common.{arith, subst, ◌≡◌}
 use Rattle.si_interp.specs.View.{Counts, starved_view}
-use Rattle.si_world.proofs.Stretching.{stretched_line, stretched_starved, is_ready}
+use Rattle.si_world.proofs.Stretching.{stretched_line, stretched_starved, is_ready, not_ready}
 use Rattle.si_world.proofs.moving.run_lines.Goals as goal
 
 pub loop-given-preserved : goal.loop-given-preserved
@@ -43,3 +43,6 @@ returns-in-Starved-clause-one c =
     let h = c.loop-given.invariant in
     let lt = c.loop-given-test.true in
     λ e. subst (λ v. c.step-step.new.self ≡ starved_view v) (h.none (omega arith)) (c.in-Starved.ensures.ready h.ready)
+
+pub returns-in-Asks-clause-ends : goal.returns-in-Asks-clause-ends
+returns-in-Asks-clause-ends c = λ e lt r. not_ready c.step-step.new.self.stand c.in-Asks.ensures.told r

@@ -13,10 +13,10 @@ loop-given-init c = record {
 
 pub loop-given-preserved : goal.loop-given-preserved
 loop-given-preserved c = record {
-  gives = λ t h. stint_goes_on t c.args.self.now c.turn-mark.new.self c.lines-lines.new.self (c.loop-given.given + 1) c.lines-lines.result.0 c.lines-lines.result.1 c.if-starved.false
+  gives = λ t h. stint_goes_on t c.args.self.now c.turn-mark.new.self c.some_lines-lines.new.self (c.loop-given.given + 1) c.some_lines-lines.result.0 c.some_lines-lines.result.1 c.if-starved.false
       (stint_moves t c.loop-given.moved c.args.i c.turn-mark.result c.args.self.now c.loop-given.self c.turn-mark.new.self c.loop-given.given h (c.loop-given.invariant.gives t h) (sym c.is_move.ensures ∙ c.if-not-is_move.false) c.turn-mark.ensures.turned)
-      c.lines-lines.ensures.gives;
-  within = let a = c.loop-given-test.true in let b = c.lines-lines.ensures.within in omega arith;
+      c.some_lines-lines.ensures.gives;
+  within = let a = c.loop-given-test.true in let b = c.some_lines-lines.ensures.within in omega arith;
   first = λ e. cc;
   same = λ e. cc;
   some = λ _. omega arith;
@@ -24,9 +24,9 @@ loop-given-preserved c = record {
 
 pub returns-then-starved-clause-gives : goal.returns-then-starved-clause-gives
 returns-then-starved-clause-gives c =
-    λ t h. stint_starves t c.args.self.now c.turn-mark.new.self c.lines-lines.new.self (c.loop-given.given + 1) c.lines-lines.result.0 c.lines-lines.result.1 c.if-starved.true
+    λ t h. stint_starves t c.args.self.now c.turn-mark.new.self c.some_lines-lines.new.self (c.loop-given.given + 1) c.some_lines-lines.result.0 c.some_lines-lines.result.1 c.if-starved.true
     (stint_moves t c.loop-given.moved c.args.i c.turn-mark.result c.args.self.now c.loop-given.self c.turn-mark.new.self c.loop-given.given h (c.loop-given.invariant.gives t h) (sym c.is_move.ensures ∙ c.if-not-is_move.false) c.turn-mark.ensures.turned)
-    c.lines-lines.ensures.gives
+    c.some_lines-lines.ensures.gives
 
 pub returns-then-not-is_move-clause-gives : goal.returns-then-not-is_move-clause-gives
 returns-then-not-is_move-clause-gives c =

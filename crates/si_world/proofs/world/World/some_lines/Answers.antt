@@ -2,12 +2,12 @@ use Rattle.std.proofs.Common.{◌≡◌, ℕ, Bool, ◌<◌, ◌∙◌, ap, refl
 use Rattle.std.proofs.lemmas.Option.{slice_get_read}
 use Rattle.si_plain.specs.Ranges.{Numbers}
 use Rattle.si_interp.specs.Meaning.{InterpView}
-use Rattle.si_world.specs.Worlds.{created}
+use Rattle.si_world.specs.Worlds.{WorldView, created}
 use Rattle.si_world.specs.inner.Stretches.{Stretched}
 use Rattle.si_world.proofs.Serving.{gives_none}
-use Rattle.si_world.proofs.Stretching.{stretched_world, stretched_gives}
-use Rattle.si_world.proofs.world.World.lines.Goals as goal
-use Rattle.si_world.proofs.world.World.lines.Goals.{After-index_mut-interp}
+use Rattle.si_world.proofs.Stretching.{stretched_world, stretched_gives, stretched_ran, ran_none, has_no_line}
+use Rattle.si_world.proofs.world.World.some_lines.Goals as goal
+use Rattle.si_world.proofs.world.World.some_lines.Goals.{After-index_mut-interp}
 
 was_created : (c : After-index_mut-interp) → c.args.i < created c.self.inside.hub.past
 was_created c = let a = c.self.invariant.1 in let e = c.if-i-self.false in omega arith
@@ -37,3 +37,28 @@ returns-clause-gives c =
     stretched_gives c.self.inside.hub.past c.self.inside.interps.items c.args.i c.index_mut-interp.result.now c.stretch.new.interp c.stretch.result.0 c.stretch.result.1 c.args.self.now
     c.self.view_is (at (goal.at.returns-clause-gives c).After-index_mut-interp) (was_created (goal.at.returns-clause-gives c).After-index_mut-interp)
     (stretched (goal.at.returns-clause-gives c).After-index_mut-interp c.stretch.new.interp c.stretch.result.0 c.stretch.result.1 c.stretch.ensures.stretched)
+
+pub returns-then-i-self-clause-ran : goal.returns-then-i-self-clause-ran
+returns-then-i-self-clause-ran c = ran_none c.args.self.now c.args.i
+
+pub returns-then-i-self-clause-all : goal.returns-then-i-self-clause-all
+returns-then-i-self-clause-all c = λ e f v lt g r.
+    let a = c.self.invariant.1 in
+    let t = c.if-i-self.true in
+    let w = ap (λ (x : WorldView). created x.past) c.self.view_is in
+    absurd (omega arith)
+
+pub returns-clause-ran : goal.returns-clause-ran
+returns-clause-ran c =
+    stretched_ran c.self.inside.hub.past c.self.inside.interps.items c.args.i c.index_mut-interp.result.now c.stretch.new.interp c.stretch.result.0 c.stretch.result.1 c.args.self.now
+    c.self.view_is (at (goal.at.returns-clause-ran c).After-index_mut-interp) (was_created (goal.at.returns-clause-ran c).After-index_mut-interp)
+    (stretched (goal.at.returns-clause-ran c).After-index_mut-interp c.stretch.new.interp c.stretch.result.0 c.stretch.result.1 c.stretch.ensures.stretched)
+
+pub returns-clause-all : goal.returns-clause-all
+returns-clause-all c = λ e f.
+    has_no_line c.self.inside.hub.past c.self.inside.interps.items c.args.i c.index_mut-interp.result.now c.stretch.new.interp (at (goal.at.returns-clause-all c).After-index_mut-interp)
+    (λ r. (
+    let t = c.turns-turns.ensures.value ∙ ap (λ (l : Numbers). l.turns) c.limits.ensures in
+    let few = c.turns-turns.type_inv in
+    let h = c.stretch.ensures.all (omega arith) f r in
+    omega arith))
