@@ -5,7 +5,10 @@ use Rattle.std.proofs.lemmas.List.{drop-map, take_rest}
 use Rattle.std.proofs.lemmas.Slice.Eq.{bytes_eq-Decides}
 use Rattle.si_cli.specs.declared.asked.Request.{Request}
 use Rattle.si_cli.specs.declared.words.WordsFault.{WordsFault}
-use Rattle.si_cli.specs.Words.{AreRead, AreTaken, IsReadFrom, IsSaidBy, Names, Takes, TellsHelp, asks_help, check, helps, is_topic, is_word, name_of, serial, texts}
+use Rattle.si_cli.specs.declared.words.WordsFault.TheVariants.{NoMemory}
+use Rattle.si_cli.specs.Words.{AreRead, AreRepeat, AreTaken, IsReadFrom, IsSaidBy, Names, Takes, TellsHelp, asks_help, check, helps, history, is_topic, is_word, name_of, repeats, repeats_name, replay, serial, texts}
+use Rattle.si_cli.specs.declared.words.Told.{Told}
+use Rattle.si_cli.specs.declared.words.Told.TheVariants as told
 
 -- the bytes of the second word, which is there
 pub second_word : (words : List (Bor (List ℕ))) (word : Bor (List ℕ)) → 1 < length words → ((d : Bor (List ℕ)) → word ≡ get_or words 1 d) → slice_get (texts words) 1 ≡ Some word.now
@@ -33,14 +36,38 @@ serial_taken words (Ok request) second read = inl (second, subst AreRead (from_s
 serial_taken words (Err fault) second read = tt
 
 pub check_taken : (words : List (Bor (List ℕ))) (r : Result Request WordsFault) → Names (texts words) (codes "check") → IfOk r (λ _. Takes check (texts (take (length words - 1) (drop 1 words)))) → IfOk r (λ _. AreTaken (texts words))
-check_taken words (Ok request) second read = inr (second, subst (Takes check) (from_second words) read)
+check_taken words (Ok request) second read = inr (inl (second, subst (Takes check) (from_second words) read))
 check_taken words (Err fault) second read = tt
+
+pub repeat_taken : (t : Told) (words : List (Bor (List ℕ))) (r : Result Request WordsFault) → Names (texts words) (repeats_name t) → IfOk r (λ _. AreRepeat (repeats t) (texts (take (length words - 1) (drop 1 words)))) → IfOk r (λ _. AreTaken (texts words))
+repeat_taken told.Report words (Ok request) second read = inr (inr (inl (second, subst (AreRepeat replay) (from_second words) read)))
+repeat_taken told.History words (Ok request) second read = inr (inr (inr (second, subst (AreRepeat history) (from_second words) read)))
+repeat_taken t words (Err fault) second read = tt
+
+some_is : {a b : List ℕ} → Some a ≡ Some b → a ≡ b
+some_is e = cc
 
 -- texts that a test tells apart differ
 pub differs : (word name : List ℕ) → false ≡ bytes_eq word name → word ≡ name → ⊥
 differs word name apart same =
     let both : false ≡ true = apart ∙ (bytes_eq-Decides word name).1 same in
     cc
+
+-- words that name a command are taken only where it takes them
+repeat_alone : (t : Told) (words : List (List ℕ)) → Names words (repeats_name t) → AreTaken words → AreRepeat (repeats t) (drop 1 words)
+repeat_alone told.Report words second (inl taken) = absurd (differs (codes "replay") (codes "serial") refl (some_is (sym second ∙ taken.0)))
+repeat_alone told.Report words second (inr (inl taken)) = absurd (differs (codes "replay") (codes "check") refl (some_is (sym second ∙ taken.0)))
+repeat_alone told.Report words second (inr (inr (inl taken))) = taken.1
+repeat_alone told.Report words second (inr (inr (inr taken))) = absurd (differs (codes "replay") (codes "history") refl (some_is (sym second ∙ taken.0)))
+repeat_alone told.History words second (inl taken) = absurd (differs (codes "history") (codes "serial") refl (some_is (sym second ∙ taken.0)))
+repeat_alone told.History words second (inr (inl taken)) = absurd (differs (codes "history") (codes "check") refl (some_is (sym second ∙ taken.0)))
+repeat_alone told.History words second (inr (inr (inl taken))) = absurd (differs (codes "history") (codes "replay") refl (some_is (sym second ∙ taken.0)))
+repeat_alone told.History words second (inr (inr (inr taken))) = taken.1
+
+pub repeat_refused : (t : Told) (words : List (Bor (List ℕ))) (r : Result Request WordsFault) → Names (texts words) (repeats_name t)
+    → IfErr r (λ fault. AreRepeat (repeats t) (texts (take (length words - 1) (drop 1 words))) → fault ≡ NoMemory) → IfErr r (λ fault. AreTaken (texts words) → fault ≡ NoMemory)
+repeat_refused t words (Ok request) second only = tt
+repeat_refused t words (Err fault) second only = λ taken. only (subst (AreRepeat (repeats t)) (sym (from_second words)) (repeat_alone t (texts words) second taken))
 
 -- a text is not another
 is_not : (word name : List ℕ) → (word ≡ name → ⊥) → bytes_eq word name ≡ false
@@ -50,13 +77,13 @@ is_not word name other = by_test (bytes_eq word name) refl where
   by_test false same = refl
 
 -- words whose second names no command are not taken
-pub none_takes : (words : List (List ℕ)) (word : List ℕ) → slice_get words 1 ≡ Some word → (word ≡ codes "serial" → ⊥) → (word ≡ codes "check" → ⊥) → AreTaken words → ⊥
-none_takes words word second not_serial not_check (inl taken) = not_serial (some_is (sym second ∙ taken.0)) where
-  some_is : {a b : List ℕ} → Some a ≡ Some b → a ≡ b
-  some_is e = cc
-none_takes words word second not_serial not_check (inr taken) = not_check (some_is (sym second ∙ taken.0)) where
-  some_is : {a b : List ℕ} → Some a ≡ Some b → a ≡ b
-  some_is e = cc
+pub none_takes :
+    (words : List (List ℕ)) (word : List ℕ) → slice_get words 1 ≡ Some word
+    → (word ≡ codes "serial" → ⊥) → (word ≡ codes "check" → ⊥) → (word ≡ codes "replay" → ⊥) → (word ≡ codes "history" → ⊥) → AreTaken words → ⊥
+none_takes words word second not_serial not_check not_replay not_history (inl taken) = not_serial (some_is (sym second ∙ taken.0))
+none_takes words word second not_serial not_check not_replay not_history (inr (inl taken)) = not_check (some_is (sym second ∙ taken.0))
+none_takes words word second not_serial not_check not_replay not_history (inr (inr (inl taken))) = not_replay (some_is (sym second ∙ taken.0))
+none_takes words word second not_serial not_check not_replay not_history (inr (inr (inr taken))) = not_history (some_is (sym second ∙ taken.0))
 
 -- whether words with this second word ask for help
 abbrev asks : List (List ℕ) → Option (List ℕ) → Bool
@@ -64,7 +91,9 @@ asks words second =
     is_word second (codes "-h") || (is_word second (codes "--help")
     || ((is_word second (codes "help") && is_topic (slice_get words 2))
     || ((is_word second (codes "serial") && helps serial (drop 1 words))
-    || (is_word second (codes "check") && helps check (drop 1 words)))))
+    || ((is_word second (codes "check") && helps check (drop 1 words))
+    || ((is_word second (codes "replay") && helps replay (drop 1 words))
+    || (is_word second (codes "history") && helps history (drop 1 words)))))))
 
 or_none : (b : Bool) → b ≡ b || false
 or_none true = refl
@@ -81,7 +110,18 @@ serial_tells words (Err fault) second told =
 pub check_tells : (words : List (Bor (List ℕ))) (r : Result Request WordsFault) → Names (texts words) (codes "check") → IfErr r (TellsHelp (helps check (texts (take (length words - 1) (drop 1 words))))) → IfErr r (TellsHelp (asks_help (texts words)))
 check_tells words (Ok request) second told = tt
 check_tells words (Err fault) second told =
-    let from : TellsHelp (asks (texts words) (Some (codes "check"))) fault = subst (λ (ws : List (List ℕ)). TellsHelp (helps check ws) fault) (from_second words) told in
+    let from : TellsHelp (helps check (drop 1 (texts words))) fault = subst (λ (ws : List (List ℕ)). TellsHelp (helps check ws) fault) (from_second words) told in
+    let here : TellsHelp (asks (texts words) (Some (codes "check"))) fault = subst (λ (b : Bool). TellsHelp b fault) (or_none (helps check (drop 1 (texts words)))) from in
+    subst (λ (name : Option (List ℕ)). TellsHelp (asks (texts words) name) fault) (sym second) here
+
+pub repeat_tells : (t : Told) (words : List (Bor (List ℕ))) (r : Result Request WordsFault) → Names (texts words) (repeats_name t) → IfErr r (TellsHelp (helps (repeats t) (texts (take (length words - 1) (drop 1 words))))) → IfErr r (TellsHelp (asks_help (texts words)))
+repeat_tells t words (Ok request) second told = tt
+repeat_tells told.Report words (Err fault) second told =
+    let from : TellsHelp (helps replay (drop 1 (texts words))) fault = subst (λ (ws : List (List ℕ)). TellsHelp (helps replay ws) fault) (from_second words) told in
+    let here : TellsHelp (asks (texts words) (Some (codes "replay"))) fault = subst (λ (b : Bool). TellsHelp b fault) (or_none (helps replay (drop 1 (texts words)))) from in
+    subst (λ (name : Option (List ℕ)). TellsHelp (asks (texts words) name) fault) (sym second) here
+repeat_tells told.History words (Err fault) second told =
+    let from : TellsHelp (asks (texts words) (Some (codes "history"))) fault = subst (λ (ws : List (List ℕ)). TellsHelp (helps history ws) fault) (from_second words) told in
     subst (λ (name : Option (List ℕ)). TellsHelp (asks (texts words) name) fault) (sym second) from
 
 -- `help` tells help of its topic
@@ -99,7 +139,7 @@ flag_tells words word fault second (inr is) told = subst (λ (name : Option (Lis
 pub other_tells :
     (words : List (List ℕ)) (word : List ℕ) (fault : WordsFault) → slice_get words 1 ≡ Some word
     → (word ≡ codes "-h" → ⊥) → (word ≡ codes "--help" → ⊥) → (word ≡ codes "help" → ⊥) → (word ≡ codes "serial" → ⊥) → (word ≡ codes "check" → ⊥)
-    → TellsHelp false fault → TellsHelp (asks_help words) fault
-other_tells words word fault second h i j k l told =
+    → (word ≡ codes "replay" → ⊥) → (word ≡ codes "history" → ⊥) → TellsHelp false fault → TellsHelp (asks_help words) fault
+other_tells words word fault second h i j k l m n told =
     subst (λ (name : Option (List ℕ)). TellsHelp (asks words name) fault) (sym second)
-    (rw (is_not word _ h, is_not word _ i, is_not word _ j, is_not word _ k, is_not word _ l) told)
+    (rw (is_not word _ h, is_not word _ i, is_not word _ j, is_not word _ k, is_not word _ l, is_not word _ m, is_not word _ n) told)

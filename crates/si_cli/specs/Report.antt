@@ -1,4 +1,5 @@
--- The report of a world, and the program's status after it (this project's own).
+-- The report of a recording, which has a past and the interpreters that were created, and the program's status after it
+-- (this project's own).
 use Rattle.std.specs.Prelude.{ℕ, List, [], ◌∷◌, ◌++◌, codes, flat_map}
 use Rattle.si_semantics.specs.Value.{Text}
 use Rattle.si_semantics.specs.Life.{Outcome, Returned, Raised}
@@ -6,7 +7,7 @@ use Rattle.si_semantics.specs.Actions as shared
 use Rattle.si_semantics.specs.Report.{heading, line, outcome_line}
 use Rattle.si_interp.specs.Meaning.{InterpView, Logged}
 use Rattle.si_world.specs.Worlds.{WorldView}
-use Rattle.si_world.specs.Reports.{end_of, members}
+use Rattle.si_world.specs.Reports.{end_of}
 use Rattle.si_world.specs.declared.ending.End.{End}
 use Rattle.si_world.specs.declared.ending.End.TheVariants as end
 
@@ -35,13 +36,13 @@ end_line end.Spent = line (codes "end: spent")
 end_line end.Stuck = line (codes "end: stuck")
 end_line end.Finished = line (codes "end: finished")
 
--- how the turns of a world came to their end
+-- how the turns came to their end that left these interpreters, after this past
 abbrev pub end_in : WorldView → End
-end_in w = end_of w.past (members w)
+end_in r = end_of r.past r.interps
 
--- the report of a world: the parts of the interpreters that were created, by number, and the last line
+-- the report of a recording: the parts of the interpreters that were created, by number, and the last line
 abbrev pub report_of : WorldView → Text
-report_of w = parts_of (members w) ++ end_line (end_in w)
+report_of r = parts_of r.interps ++ end_line (end_in r)
 
 -- the status of a run that has ended: 1 where an exception left it
 abbrev pub status_of_run : Outcome → ℕ
@@ -71,6 +72,6 @@ status_by end.Spent main = 4
 status_by end.Stuck main = 3
 status_by end.Finished main = main
 
--- the program's status after a world
+-- the program's status after a recording
 abbrev pub status_of : WorldView → ℕ
-status_of w = status_by (end_in w) (status_of_main w.interps)
+status_of r = status_by (end_in r) (status_of_main r.interps)

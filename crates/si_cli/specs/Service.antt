@@ -1,15 +1,21 @@
 -- What it means to carry out a command (this project's own).
-use Rattle.std.specs.Prelude.{◌≡◌, ℕ, List, [], ◌∷◌, IsUtf8, Option, bytes_eq, codes, drop, encode_utf8_all, if◌then◌else◌, take}
+use Rattle.std.specs.Prelude.{◌≡◌, ◌⊎◌, ℕ, Bool, true, false, List, [], ◌∷◌, IsUtf8, Option, bytes_eq, codes, drop, encode_utf8_all, if◌then◌else◌, is_some, take}
 use Rattle.std.specs.Io.KnownBytes.{Appends, Keeps}
 use Rattle.si_plain.specs.Characters.{characters_of}
 use Rattle.si_plain.specs.Ranges.{Numbers}
 use Rattle.si_semantics.specs.Tree.{Stmts}
 use Rattle.si_reading.specs.Taken.{IsTaken}
+use Rattle.si_schedule.specs.Schedules.{Schedule, IsSchedule, text_of}
+use Rattle.si_schedule.specs.BadLines.{IsBadLine}
+use Rattle.si_history.specs.History.{history}
 use Rattle.si_world.specs.Worlds.{WorldView}
+use Rattle.si_world.specs.Reports.{recorded}
+use Rattle.si_replay.specs.Replays.{schedule_in, limits_for, core_after, Completes, IsReplayed, IsOfTurns, IsFault, IsWantOfMemory}
+use Rattle.si_replay.specs.declared.fault.ReplayFault.{ReplayFault}
 use Rattle.si_cli.specs.declared.fault.CliFault.{CliFault}
-use Rattle.si_cli.specs.declared.fault.CliFault.TheVariants.{Write, Script, NoMemory, Input}
+use Rattle.si_cli.specs.declared.fault.CliFault.TheVariants.{Write, Script, Schedule as BadSchedule, Replay as NotFollowed, NoMemory, Input}
 use Rattle.si_cli.specs.declared.asked.Request.{Request}
-use Rattle.si_cli.specs.declared.asked.Request.TheVariants.{Serial, Check}
+use Rattle.si_cli.specs.declared.asked.Request.TheVariants.{Serial, Check, Replay, History}
 use Rattle.si_cli.specs.Report.{report_of, status_of}
 use Rattle.si_cli.specs.Runs.{IsRunOf}
 
@@ -34,15 +40,28 @@ IsRefusal _ = ⊥
 abbrev pub IsReadable : List ℕ → Type 0
 IsReadable script = (body : Stmts) × IsScript script body
 
--- the run of a script that is read, within these limits, is reported: the writer grew by the report of a world of this
--- script after all turns that `serial` gives, and the status is that world's
-pub record Reports (limits : Numbers) (script : List ℕ) (old new : Option (List ℕ)) (answer : ℕ) : Type 0 where
+-- a world of a script that is read, within these limits, after all turns that `serial` gives
+pub record HasRun (limits : Numbers) (script : List ℕ) (world : WorldView) : Type 0 where
   pub body : Stmts
   pub read : IsScript script body
-  pub world : WorldView
   pub run : IsRunOf (characters_of (without_mark script)) limits world
-  pub report : Appends old new (encode_utf8_all (report_of world))
-  pub status_is : answer ≡ status_of world
+
+-- a world is reported: the writer grew by its report, and the status is its
+pub record IsReported (world : WorldView) (old new : Option (List ℕ)) (answer : ℕ) : Type 0 where
+  pub report : Appends old new (encode_utf8_all (report_of (recorded world)))
+  pub status_is : answer ≡ status_of (recorded world)
+
+-- where it is asked for, a world's schedule is saved: the writer grew by its text
+abbrev pub Saves : Bool → WorldView → Option (List ℕ) → Option (List ℕ) → Type 0
+Saves true world old new = Appends old new (text_of (schedule_in world))
+Saves false world old new = Keeps old new
+
+-- the run of a script that is read, within these limits, is reported, and its schedule saved where it is asked for
+pub record Reports (limits : Numbers) (is_saved : Bool) (script : List ℕ) (old new saved_old saved_new : Option (List ℕ)) (answer : ℕ) : Type 0 where
+  pub world : WorldView
+  pub run : HasRun limits script world
+  pub reported : IsReported world old new answer
+  pub saved : Saves is_saved world saved_old saved_new
 
 -- a script is told to be well formed: it is read, the writer grew by the line `ok` and by nothing else, and the status is 0
 pub record SaysOk (script : List ℕ) (old new : Option (List ℕ)) (answer : ℕ) : Type 0 where
@@ -51,10 +70,46 @@ pub record SaysOk (script : List ℕ) (old new : Option (List ℕ)) (answer : �
   pub told : Appends old new (codes "ok\n")
   pub status_is : answer ≡ 0
 
--- a request is carried out: `serial` reports the run of the script, `check` tells that it is well formed, and runs nothing of it
-abbrev pub Answers : Request → List ℕ → Option (List ℕ) → Option (List ℕ) → ℕ → Type 0
-Answers (Serial path limits) script old new answer = Reports limits script old new answer
-Answers (Check path) script old new answer = SaysOk script old new answer
+-- the bytes of a schedule are its text
+abbrev pub IsPlan : List ℕ → Schedule → Type 0
+IsPlan bytes plan = IsSchedule plan × (bytes ≡ text_of plan)
+
+-- a recording of the run of a script that is read which has just the calls of a schedule, in their order, and after them no
+-- interpreter can move; whatever turns complete the schedule, this is what they leave. There may be as many interpreters as
+-- the schedule says
+pub record IsRepeated (limits : Numbers) (script schedule : List ℕ) (recording : WorldView) : Type 0 where
+  pub body : Stmts
+  pub read : IsScript script body
+  pub plan : Schedule
+  pub is_plan : IsPlan schedule plan
+  pub replayed : IsReplayed (characters_of (without_mark script)) (limits_for limits plan) plan.callers recording
+  pub only : (turns : List ℕ) → Completes (characters_of (without_mark script)) (limits_for limits plan) plan.callers turns
+      → IsOfTurns (core_after (characters_of (without_mark script)) (limits_for limits plan) turns) recording
+
+-- such a run is reported: the writer grew by its report, and the status is its
+pub record ReportsAgain (limits : Numbers) (script schedule : List ℕ) (old new : Option (List ℕ)) (answer : ℕ) : Type 0 where
+  pub recording : WorldView
+  pub repeated : IsRepeated limits script schedule recording
+  pub report : Appends old new (encode_utf8_all (report_of recording))
+  pub status_is : answer ≡ status_of recording
+
+-- its history is told: the writer grew by the lines of its calls, and the status is its
+pub record TellsHistory (limits : Numbers) (script schedule : List ℕ) (old new : Option (List ℕ)) (answer : ℕ) : Type 0 where
+  pub recording : WorldView
+  pub repeated : IsRepeated limits script schedule recording
+  pub lines : Appends old new (encode_utf8_all (history recording.past.journal))
+  pub status_is : answer ≡ status_of recording
+
+-- a request is carried out: `serial` reports the run of the script, and saves its schedule where a path for it is named;
+-- `check` tells that it is well formed, and runs nothing of it; `replay` reports the run that has the schedule, and `history`
+-- tells its history. These three save nothing
+abbrev pub Answers : Request → (script schedule : List ℕ) → (old new saved_old saved_new : Option (List ℕ)) → ℕ → Type 0
+Answers (Serial path limits at) script schedule old new saved_old saved_new answer = Reports limits (is_some at) script old new saved_old saved_new answer
+Answers (Check path) script schedule old new saved_old saved_new answer = SaysOk script old new answer × Keeps saved_old saved_new
+Answers (Replay path plan limits) script schedule old new saved_old saved_new answer = ReportsAgain limits script schedule old new answer × Keeps saved_old saved_new
+Answers (History path plan limits) script schedule old new saved_old saved_new answer = TellsHistory limits script schedule old new answer × Keeps saved_old saved_new
+
+-- ---- faults
 
 -- a fault of reading the script
 abbrev pub IsOfScript : CliFault → Type 0
@@ -68,9 +123,80 @@ IsOfInput Input = Unit {0}
 IsOfInput NoMemory = Unit {0}
 IsOfInput _ = ⊥
 
+-- a fault of running a script and reporting it
+abbrev pub IsOfRun : CliFault → Type 0
+IsOfRun (Script line) = Unit {0}
+IsOfRun NoMemory = Unit {0}
+IsOfRun Write = Unit {0}
+IsOfRun _ = ⊥
+
+-- a fault of saving a schedule
+abbrev pub IsOfSaving : CliFault → Type 0
+IsOfSaving NoMemory = Unit {0}
+IsOfSaving Write = Unit {0}
+IsOfSaving _ = ⊥
+
+-- a fault of making a run again, before anything is written
+abbrev pub IsOfRepeating : CliFault → Type 0
+IsOfRepeating (Script line) = Unit {0}
+IsOfRepeating (BadSchedule line) = Unit {0}
+IsOfRepeating (NotFollowed fault) = Unit {0}
+IsOfRepeating NoMemory = Unit {0}
+IsOfRepeating _ = ⊥
+
+-- bytes are no schedule's: they are not UTF-8, which counts as their first line, or this is their first bad line
+abbrev pub IsBadSchedule : List ℕ → ℕ → Type 0
+IsBadSchedule bytes line = ((¬ IsUtf8 bytes) × (line ≡ 1)) ⊎ IsBadLine bytes line
+
+-- a fault of reading a schedule
+abbrev pub IsOfSchedule : List ℕ → CliFault → Type 0
+IsOfSchedule bytes (BadSchedule line) = IsBadSchedule bytes line
+IsOfSchedule bytes NoMemory = Unit {0}
+IsOfSchedule bytes _ = ⊥
+
+-- the schedule can't be followed, for this fault; where some turns complete it, memory was refused
+pub record IsNotFollowed (limits : Numbers) (script schedule : List ℕ) (fault : ReplayFault) : Type 0 where
+  pub plan : Schedule
+  pub is_plan : IsPlan schedule plan
+  pub fault_is : IsFault (characters_of (without_mark script)) (limits_for limits plan) plan.callers fault
+  pub memory : (turns : List ℕ) → Completes (characters_of (without_mark script)) (limits_for limits plan) plan.callers turns
+      → IsWantOfMemory fault
+
+-- why a run is not made again: of a schedule that is none this is a bad line, and one that can't be followed is not followed
+abbrev pub IsNotRepeated : Numbers → (script schedule : List ℕ) → CliFault → Type 0
+IsNotRepeated limits script schedule (BadSchedule line) = IsBadSchedule schedule line
+IsNotRepeated limits script schedule (NotFollowed fault) = IsNotFollowed limits script schedule fault
+IsNotRepeated limits script schedule Input = ⊥
+IsNotRepeated limits script schedule _ = Unit {0}
+
+-- of schedules only the two commands tell a fault that read one
+abbrev pub IsOfPlan : Request → (script schedule : List ℕ) → CliFault → Type 0
+IsOfPlan (Serial path limits at) script schedule fault = IsOfRun fault
+IsOfPlan (Check path) script schedule fault = IsOfRun fault
+IsOfPlan (Replay path plan limits) script schedule fault = IsNotRepeated limits script schedule fault
+IsOfPlan (History path plan limits) script schedule fault = IsNotRepeated limits script schedule fault
+
 -- a fault that leaves the writer as it was, unless it is that of a write
 abbrev pub LeavesAlone : Option (List ℕ) → Option (List ℕ) → CliFault → Type 0
 LeavesAlone old new Write = Unit {0}
 LeavesAlone old new (Script line) = Keeps old new
+LeavesAlone old new (BadSchedule line) = Keeps old new
+LeavesAlone old new (NotFollowed fault) = Keeps old new
 LeavesAlone old new NoMemory = Keeps old new
 LeavesAlone old new Input = ⊥
+
+-- the schedule of a world that a run has left is saved
+pub record IsSaved (script : List ℕ) (limits : Numbers) (old new : Option (List ℕ)) : Type 0 where
+  pub world : WorldView
+  pub run : HasRun limits script world
+  pub saved : Appends old new (text_of (schedule_in world))
+
+-- after a fault of a write the report is not begun, or the schedule is saved, where it is asked for; after another nothing is
+-- saved, nor where it is not asked for
+abbrev pub SavesFirst : Bool → List ℕ → Numbers → (old new saved_old saved_new : Option (List ℕ)) → CliFault → Type 0
+SavesFirst true script limits old new saved_old saved_new Write = Keeps old new ⊎ IsSaved script limits saved_old saved_new
+SavesFirst is_saved script limits old new saved_old saved_new fault = Keeps saved_old saved_new
+
+abbrev pub LeavesSaved : Request → List ℕ → (old new saved_old saved_new : Option (List ℕ)) → CliFault → Type 0
+LeavesSaved (Serial path limits at) script old new saved_old saved_new fault = SavesFirst (is_some at) script limits old new saved_old saved_new fault
+LeavesSaved request script old new saved_old saved_new fault = Keeps saved_old saved_new

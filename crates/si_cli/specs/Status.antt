@@ -1,14 +1,27 @@
 -- The statuses with which the program ends (this project's own choice).
 use Rattle.std.specs.Prelude.{ℕ, if◌then◌else◌}
 use Rattle.si_cli.specs.declared.fault.CliFault.{CliFault}
-use Rattle.si_cli.specs.declared.fault.CliFault.TheVariants.{Write, Script, NoMemory, Input}
+use Rattle.si_cli.specs.declared.fault.CliFault.TheVariants.{Write, Script, Schedule, Replay, NoMemory, Input}
+use Rattle.si_replay.specs.declared.fault.ReplayFault.{ReplayFault}
+use Rattle.si_replay.specs.declared.fault.ReplayFault.TheVariants as replay
 use Rattle.si_cli.specs.declared.words.WordsFault.{WordsFault}
 use Rattle.si_cli.specs.declared.words.WordsFault.TheVariants as words
+
+-- where a schedule can't be followed: 5 where memory was refused, else 2
+abbrev pub status_of_replay : ReplayFault → ℕ
+status_of_replay (replay.NotEnabled k) = 2
+status_of_replay (replay.Nobody k) = 2
+status_of_replay (replay.Spent k) = 2
+status_of_replay replay.Starved = 5
+status_of_replay replay.Unfinished = 2
+status_of_replay replay.NoMemory = 5
 
 -- where a command stops without a report: 5 for want of memory, else 2
 abbrev pub status_of_fault : CliFault → ℕ
 status_of_fault Write = 2
 status_of_fault (Script line) = 2
+status_of_fault (Schedule line) = 2
+status_of_fault (Replay fault) = status_of_replay fault
 status_of_fault NoMemory = 5
 status_of_fault Input = 2
 

@@ -9,7 +9,9 @@ use Rattle.clap.specs.declared.error.kind.ErrorKind.{ErrorKind}
 use Rattle.clap.specs.declared.error.kind.ErrorKind.TheVariants.{DisplayHelp, DisplayVersion}
 use Rattle.si_plain.specs.Ranges.{Numbers, is_interpreter_count, is_turn_count}
 use Rattle.si_cli.specs.declared.asked.Request.{Request}
-use Rattle.si_cli.specs.declared.asked.Request.TheVariants.{Serial, Check}
+use Rattle.si_cli.specs.declared.asked.Request.TheVariants.{Serial, Check, Replay, History}
+use Rattle.si_cli.specs.declared.words.Told.{Told}
+use Rattle.si_cli.specs.declared.words.Told.TheVariants as told
 use Rattle.si_cli.specs.declared.words.WordsFault.{WordsFault}
 use Rattle.si_cli.specs.declared.words.WordsFault.TheVariants.{Words, NoMemory}
 
@@ -29,18 +31,50 @@ interpreters = record (new_rule (codes "interpreters")) { long = Some (codes "in
 abbrev pub turns : Rule
 turns = record (new_rule (codes "turns")) { long = Some (codes "turns"); value_names = 1; action = Some Set }
 
+-- the option `--record PATH`, which may be left out
+abbrev pub saving : Rule
+saving = record (new_rule (codes "record")) { long = Some (codes "record"); value_names = 1; action = Some Set }
+
+-- the option `--schedule PATH`
+abbrev pub planning : Rule
+planning = record (new_rule (codes "schedule")) { long = Some (codes "schedule"); value_names = 1; action = Some Set }
+
 -- the command `serial [SCRIPT] [--interpreters N] [--turns N]`
+abbrev pub limited : App
+limited = with_rule (with_rule (with_rule (new_app (codes "serial")) script) interpreters) turns
+
+-- the same with `--record PATH`
 abbrev pub serial : App
-serial = with_rule (with_rule (with_rule (new_app (codes "serial")) script) interpreters) turns
+serial = with_rule limited saving
 
 -- the command `check [SCRIPT]`
 abbrev pub check : App
 check = with_rule (new_app (codes "check")) script
 
+-- the command `replay [SCRIPT] --schedule PATH [--turns N]`
+abbrev pub replay : App
+replay = with_rule (with_rule (with_rule (new_app (codes "replay")) script) planning) turns
+
+-- the command `history [SCRIPT] --schedule PATH [--turns N]`
+abbrev pub history : App
+history = with_rule (with_rule (with_rule (new_app (codes "history")) script) planning) turns
+
+-- the command that makes a run again, and tells its report or its history
+abbrev pub repeats : Told → App
+repeats told.Report = replay
+repeats told.History = history
+
+-- its name
+abbrev pub repeats_name : Told → Text
+repeats_name told.Report = codes "replay"
+repeats_name told.History = codes "history"
+
 -- the name of the command that is asked for
 abbrev pub name_of : Request → Text
-name_of (Serial path limits) = codes "serial"
+name_of (Serial path limits at) = codes "serial"
 name_of (Check path) = codes "check"
+name_of (Replay path plan limits) = codes "replay"
+name_of (History path plan limits) = codes "history"
 
 -- the second word is the name of this command
 abbrev pub Names : List Text → Text → Type 0
@@ -52,8 +86,24 @@ path_among command words = first_of (codes "SCRIPT") (matches_of command words)
 
 -- the path of a request's script
 abbrev pub path_of : Request → Option Text
-path_of (Serial path limits) = option_map (λ p. p.now) path
+path_of (Serial path limits at) = option_map (λ p. p.now) path
 path_of (Check path) = option_map (λ p. p.now) path
+path_of (Replay path plan limits) = option_map (λ p. p.now) path
+path_of (History path plan limits) = option_map (λ p. p.now) path
+
+-- the path of the schedule that a request reads
+abbrev pub schedule_of : Request → Option Text
+schedule_of (Serial path limits at) = None
+schedule_of (Check path) = None
+schedule_of (Replay path plan limits) = Some plan.now
+schedule_of (History path plan limits) = Some plan.now
+
+-- the path at which a request saves its schedule
+abbrev pub saved_of : Request → Option Text
+saved_of (Serial path limits at) = option_map (λ p. p.now) at
+saved_of (Check path) = None
+saved_of (Replay path plan limits) = None
+saved_of (History path plan limits) = None
 
 -- the value of `--interpreters` among the words of a command
 abbrev pub interpreters_among : App → List Text → Option Text
@@ -62,6 +112,14 @@ interpreters_among command words = first_of (codes "interpreters") (matches_of c
 -- the value of `--turns` among the words of a command
 abbrev pub turns_among : App → List Text → Option Text
 turns_among command words = first_of (codes "turns") (matches_of command words)
+
+-- the value of `--record` among the words of a command
+abbrev pub saved_among : App → List Text → Option Text
+saved_among command words = first_of (codes "record") (matches_of command words)
+
+-- the value of `--schedule` among the words of a command
+abbrev pub schedule_among : App → List Text → Option Text
+schedule_among command words = first_of (codes "schedule") (matches_of command words)
 
 -- a text writes a number as Rust's `parse` reads a whole number: decimal digits after an optional plus
 abbrev pub Writes : Text → ℕ → Type 0
@@ -81,11 +139,19 @@ AllowsTurns (Some text) n = Writes text n × (is_turn_count n ≡ true)
 abbrev pub Allows : (interpreters turns : Option Text) → Numbers → Type 0
 Allows i t limits = AllowsInterpreters i limits.interpreters × AllowsTurns t limits.turns
 
+-- a script's path, a schedule's and limits are what the words of a command that makes a run again say
+abbrev pub IsRepeatFrom : App → List Text → (path plan : Option Text) → Numbers → Type 0
+IsRepeatFrom command words path plan limits = (path ≡ path_among command words) × (plan ≡ schedule_among command words)
+    × Allows None (turns_among command words) limits
+
 -- a request is what the words from the command's name on say
 abbrev pub IsReadFrom : List Text → Request → Type 0
-IsReadFrom words (Serial path limits) = (path_of (Serial path limits) ≡ path_among serial words)
+IsReadFrom words (Serial path limits at) = (path_of (Serial path limits at) ≡ path_among serial words)
     × Allows (interpreters_among serial words) (turns_among serial words) limits
+    × (saved_of (Serial path limits at) ≡ saved_among serial words)
 IsReadFrom words (Check path) = path_of (Check path) ≡ path_among check words
+IsReadFrom words (Replay path plan limits) = IsRepeatFrom replay words (path_of (Replay path plan limits)) (Some plan.now) limits
+IsReadFrom words (History path plan limits) = IsRepeatFrom history words (path_of (History path plan limits)) (Some plan.now) limits
 
 -- a request is what the words say: the second names its command, which reads the words from there on
 abbrev pub IsSaidBy : List Text → Request → Type 0
@@ -99,10 +165,18 @@ Takes command words = fault_of command words ≡ []
 abbrev pub AreRead : List Text → Type 0
 AreRead words = Takes serial words × ((limits : Numbers) × Allows (interpreters_among serial words) (turns_among serial words) limits)
 
+-- a command that makes a run again takes the words from its name on, they name a schedule, and they allow limits
+abbrev pub AreRepeat : App → List Text → Type 0
+AreRepeat command words = Takes command words × ((plan : Text) × (schedule_among command words ≡ Some plan))
+    × ((limits : Numbers) × Allows None (turns_among command words) limits)
+
 -- the words name a command that takes the words from its name on, with numbers within their limits
 abbrev pub AreTaken : List Text → Type 0
 AreTaken words =
-    Names words (codes "serial") × AreRead (drop 1 words) ⊎ Names words (codes "check") × Takes check (drop 1 words)
+    Names words (codes "serial") × AreRead (drop 1 words)
+    ⊎ (Names words (codes "check") × Takes check (drop 1 words)
+    ⊎ (Names words (codes "replay") × AreRepeat replay (drop 1 words)
+    ⊎ Names words (codes "history") × AreRepeat history (drop 1 words)))
 
 -- what clap finds asks for help, or for a version, which no command here has
 abbrev pub is_help : ErrorKind → Bool
@@ -122,7 +196,7 @@ is_word (Some word) text = bytes_eq word text
 -- what help is asked of: the program where nothing is named, or a command
 abbrev pub is_topic : Option Text → Bool
 is_topic None = true
-is_topic (Some word) = bytes_eq word (codes "serial") || bytes_eq word (codes "check")
+is_topic (Some word) = bytes_eq word (codes "serial") || (bytes_eq word (codes "check") || (bytes_eq word (codes "replay") || bytes_eq word (codes "history")))
 
 -- the words ask for help: the second is `-h` or `--help`, or `help` with nothing or a command after it, or names a
 -- command whose help the words from there on ask for
@@ -132,7 +206,9 @@ asks_help words =
     is_word second (codes "-h") || (is_word second (codes "--help")
     || ((is_word second (codes "help") && is_topic (slice_get words 2))
     || ((is_word second (codes "serial") && helps serial (drop 1 words))
-    || (is_word second (codes "check") && helps check (drop 1 words)))))
+    || ((is_word second (codes "check") && helps check (drop 1 words))
+    || ((is_word second (codes "replay") && helps replay (drop 1 words))
+    || (is_word second (codes "history") && helps history (drop 1 words)))))))
 
 -- a fault tells help just where it is asked for; one of memory tells nothing
 abbrev pub TellsHelp : Bool → WordsFault → Type 0

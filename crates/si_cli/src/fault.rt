@@ -1,8 +1,9 @@
 // Why a command stops without a report.
 
 ghost use Rattle.std.specs.Prelude.{◌≡◌};
-ghost use Rattle.si_cli.specs.Status.{status_of_fault};
+ghost use Rattle.si_cli.specs.Status.{status_of_fault, status_of_replay};
 
+use si_replay::ReplayFault;
 use std::alloc::AllocError;
 use thiserror::Error;
 
@@ -15,11 +16,18 @@ pub enum CliFault {
     /// The script isn't UTF-8, or the grammar has no tree for it; the line where reading stopped, counted from 1.
     #[error("line {0}: invalid syntax")]
     Script(usize),
+    /// The schedule isn't UTF-8, which counts as its first line, or this is its first line, counted from 1, that can't be
+    /// continued to the text of a schedule.
+    #[error("line {0}: no line of a schedule")]
+    Schedule(u64),
+    /// The schedule can't be followed.
+    #[error("{0}")]
+    Replay(ReplayFault),
     /// Memory was refused.
     #[error("out of memory")]
     NoMemory,
     /// A read failed, or what was to be read is too long.
-    #[error("the script can't be read, or is too long")]
+    #[error("a file can't be read, or is too long")]
     Input,
 }
 
@@ -34,13 +42,28 @@ impl From<AllocError> for CliFault {
 }
 
 impl CliFault {
-    /// The status of a program that stops for this: 5 where memory was refused, else 2.
+    /// The status of a program that stops for this: 5 where memory was refused, also to an interpreter, else 2.
     pub fn status(&self) -> u8
         ensures { result ≡ status_of_fault self.now }
     {
         match self {
             CliFault::NoMemory => 5,
-            CliFault::Write | CliFault::Script(_) | CliFault::Input => 2,
+            CliFault::Replay(fault) => status_of_replay(*fault),
+            CliFault::Write | CliFault::Script(_) | CliFault::Schedule(_) | CliFault::Input => 2,
         }
+    }
+}
+
+// The status where a schedule can't be followed.
+fn status_of_replay(fault: ReplayFault) -> u8
+    ensures { result ≡ status_of_replay fault }
+{
+    match fault {
+        ReplayFault::Starved => 5,
+        ReplayFault::NoMemory => 5,
+        ReplayFault::NotEnabled(_) => 2,
+        ReplayFault::Nobody(_) => 2,
+        ReplayFault::Spent(_) => 2,
+        ReplayFault::Unfinished => 2,
     }
 }

@@ -8,6 +8,9 @@ use crate::fault::CliFault;
 use std::alloc::Global;
 use std::io::Read;
 
+/// The most bytes of a schedule's text that the program reads.
+pub const MAX_SCHEDULE_BYTES: u64 = 1_073_741_824;
+
 /// How many bytes one read asks for.
 const CHUNK: usize = 16_384;
 

@@ -5,7 +5,7 @@ ghost use Rattle.std.specs.Io.KnownBytes.{Appends};
 ghost use Rattle.si_semantics.specs.Life as life;
 ghost use Rattle.si_semantics.specs.Report.{heading, outcome_line};
 ghost use Rattle.si_parcel.specs.Shared.{action_of, outcome_of};
-ghost use Rattle.si_world.specs.Reports.{members};
+ghost use Rattle.si_world.specs.Reports.{members, recorded};
 ghost use Rattle.si_cli.specs.Report.{action_line, end_line, part_of, parts_of, raised_lines, report_of};
 ghost use Rattle.si_cli.specs.inner.Parts.{after_kind};
 
@@ -14,18 +14,49 @@ use itoa::Buffer;
 use si_interp::{Interp, Logged};
 use si_parcel::{Action, Outcome};
 use si_plain::{Kind, Text};
-use si_world::{End, World};
+use si_world::{End, Recording, Report, World};
 use std::io::Write;
 
-/// Appends the report of a world: of each interpreter that was created, by number, its heading, what it printed, and a
+/// Appends the report of a world as it stands: of each interpreter that was created, by number, its heading, what it printed, and a
 /// line for each of its runs that an exception left; and last how the turns came to their end. `CliFault::Write` where a
 /// write failed; a part of the report may then be written.
 pub(crate) fn write_report<W: Write>(out: &mut W, world: &World) -> Result<(), CliFault>
-    ensures report { OnOk result (Appends (W.contents out.old) (W.contents out.new) (encode_utf8_all (report_of world.now))) }
+    ensures report { OnOk result (Appends (W.contents out.old) (W.contents out.new) (encode_utf8_all (report_of (recorded world.now)))) }
     ensures fault { IsOkUnless result CliFault.Write }
 {
     write_parts(out, world)?;
     write_text(out, end_text(world.end()))
+}
+
+/// Appends the report of a recording, which is that of the world that was recorded.
+pub(crate) fn write_recorded<W: Write>(out: &mut W, recording: &Recording) -> Result<(), CliFault>
+    ensures report { OnOk result (Appends (W.contents out.old) (W.contents out.new) (encode_utf8_all (report_of recording.now))) }
+    ensures fault { IsOkUnless result CliFault.Write }
+{
+    write_reports(out, recording.reports())?;
+    write_text(out, end_text(recording.end()))
+}
+
+/// Appends the parts of these interpreters.
+fn write_reports<W: Write>(out: &mut W, reports: &[Report]) -> Result<(), CliFault>
+    ensures parts { OnOk result (Appends (W.contents out.old) (W.contents out.new) (encode_utf8_all (parts_of reports.now))) }
+    ensures fault { IsOkUnless result CliFault.Write }
+{
+    'reports: for report in reports {
+        write_reported(out, report)?;
+    }
+    Ok(())
+}
+
+/// Appends the part of an interpreter by what is recorded of it.
+fn write_reported<W: Write>(out: &mut W, report: &Report) -> Result<(), CliFault>
+    ensures part { OnOk result (Appends (W.contents out.old) (W.contents out.new)
+        (encode_utf8_all (part_of report.now))) }
+    ensures fault { IsOkUnless result CliFault.Write }
+{
+    write_heading(out, report.id())?;
+    write_text(out, report.printed().as_str())?;
+    write_raised_lines(out, report.log())
 }
 
 /// Appends the parts of all interpreters that were created.

@@ -4,11 +4,13 @@ ghost use Rattle.std.specs.Prelude.{◌≡◌, IfErr, IfOk, IsOkUnless, IsUtf8, 
 ghost use Rattle.std.specs.Io.KnownBytes.{Keeps};
 ghost use Rattle.si_semantics.specs.Layout.{line_at};
 ghost use Rattle.si_semantics.specs.Tree.{Stmts};
-ghost use Rattle.si_cli.specs.Service.{Answers, IsOfScript, IsReadable, IsRefusal, IsScript, LeavesAlone, Reports, SaysOk, without_mark};
+ghost use Rattle.si_cli.specs.Service.{Answers, IsOfPlan, IsOfScript, HasRun, IsOfRun, IsReadable, IsRefusal, IsReported, IsScript, LeavesAlone, LeavesSaved, Reports, SavesFirst, SaysOk, without_mark};
 
 use crate::asked::Request;
 use crate::fault::CliFault;
+use crate::repeating::{repeat, tell_history};
 use crate::report::{write_report, write_text};
+use crate::saving::save_schedule;
 use crate::status::status_of;
 use si_parse::ParseFault;
 use si_plain::{Limits, line_ends};
@@ -23,63 +25,101 @@ const MARK: [u8; 3] = [0xef, 0xbb, 0xbf];
 /// Carries out a request, and answers the program's status.
 ///
 /// `Serial` runs the script, all interpreters turn by turn in rounds until none can be moved, and appends the report to
-/// `out`; the status is 5 where memory was refused to an interpreter, 3 where a run waits for good, 4 where turns were used
-/// up, 1 where an exception left the main run, else 0. `Check` appends the line `ok` where the script is read and well
-/// scoped, and runs nothing of it; the status is 0.
+/// `out`; before its first byte the schedule that was taken is appended to `saved`, if that is asked for. `Replay` makes the
+/// run again whose schedule is `schedule`, and appends its report, `History` the lines of its calls. The status is 5 where
+/// memory was refused to an interpreter, 3 where a run waits for good, 4 where turns were used up, 1 where an exception left
+/// the main run, else 0. `Check` appends the line `ok` where the script is read and well scoped, and runs nothing of it; the
+/// status is 0.
 ///
-/// `script` is the script's bytes, of which one byte order mark at their front is dropped. No command of this stage
-/// reads `schedule` or writes to `saved`.
+/// `script` is the script's bytes, of which one byte order mark at their front is dropped, and `schedule` those of a
+/// schedule, which no command but `Replay` and `History` reads. No command but `Serial` writes to `saved`.
 ///
 /// # Errors
 ///
-/// `Script` where the script isn't UTF-8, isn't read, or is not well scoped, `NoMemory` where memory was refused before the
-/// first turn, and then nothing was written; `Write` where a write or the last flush failed.
+/// In this order: `Script` where the script isn't UTF-8, isn't read, or is not well scoped; `Schedule` where the schedule
+/// isn't UTF-8 or the text of no schedule; `Replay` where it can't be followed; `NoMemory` where memory was refused before
+/// anything was written; `Write` where a write or the last flush failed.
 pub fn serve<A: Write, B: Write>(
     alloc: Global,
     request: &Request,
     script: &[u8],
-    _schedule: &[u8],
-    _saved: &mut A,
+    schedule: &[u8],
+    saved: &mut A,
     out: &mut B,
 ) -> Result<u8, CliFault>
     ensures answers { IfOk result
-        (Answers request.now script.now (B.contents out.old) (B.contents out.new)) }
+        (Answers request.now script.now schedule.now (B.contents out.old) (B.contents out.new) (A.contents saved.old) (A.contents saved.new)) }
     // Only a script that is not read is refused as a script.
     ensures refused { IfErr result (λ fault. IsRefusal fault → (body : Stmts) → IsScript script.now body → ⊥) }
-    // After every other fault than that of a write the writer is as before.
+    // Only a schedule that is none is refused as one, and only one that can't be followed is not followed.
+    ensures plan { IfErr result (IsOfPlan request.now script.now schedule.now) }
+    // After every other fault than that of a write both writers are as before,
     ensures alone { IfErr result (LeavesAlone (B.contents out.old) (B.contents out.new)) }
-    ensures saved { Keeps (A.contents _saved.old) (A.contents _saved.new) }
+    // and the report is not begun before the schedule is saved.
+    ensures first { IfErr result (LeavesSaved request.now script.now (B.contents out.old) (B.contents out.new) (A.contents saved.old) (A.contents saved.new)) }
 {
     match request {
-        Request::Serial { limits, .. } => serial(alloc, script, *limits, out),
+        Request::Serial {
+            limits,
+            saved: at,
+            ..
+        } => { serial(alloc, script, *limits, at.is_some(), saved, out) }
         Request::Check { .. } => check(alloc, script, out),
+        Request::Replay { limits, .. } => repeat(alloc, script, schedule, *limits, out),
+        Request::History { limits, .. } => tell_history(alloc, script, schedule, *limits, out),
     }
 }
 
-/// Runs a script within these limits, and reports its run.
-fn serial<W: Write>(
+/// Runs a script within these limits, saves its schedule where that is asked for, and reports its run.
+fn serial<A: Write, B: Write>(
     alloc: Global,
     script: &[u8],
     limits: Limits,
-    out: &mut W,
+    is_saved: bool,
+    saved: &mut A,
+    out: &mut B,
 ) -> Result<u8, CliFault>
-    ensures reports { IfOk result (Reports limits script.now (W.contents out.old) (W.contents out.new)) }
+    ensures reports { IfOk result (Reports limits is_saved script.now (B.contents out.old) (B.contents out.new) (A.contents saved.old) (A.contents saved.new)) }
     ensures refused { IfErr result (λ fault. IsRefusal fault → (body : Stmts) → IsScript script.now body → ⊥) }
-    ensures alone { IfErr result (LeavesAlone (W.contents out.old) (W.contents out.new)) }
+    ensures kind { IfErr result IsOfRun }
+    ensures alone { IfErr result (LeavesAlone (B.contents out.old) (B.contents out.new)) }
+    ensures first { IfErr result (SavesFirst is_saved script.now limits (B.contents out.old) (B.contents out.new) (A.contents saved.old) (A.contents saved.new)) }
+{
+    let world = ran(alloc, script, limits)?;
+    if is_saved {
+        save_schedule(alloc, &world, saved)?;
+    }
+    report(out, &world)
+}
+
+/// The world of a script that is read, after all of its turns.
+fn ran(alloc: Global, script: &[u8], limits: Limits) -> Result<World, CliFault>
+    ensures ran { IfOk result (HasRun limits script.now) }
+    ensures refused { IfErr result (λ fault. IsRefusal fault → (body : Stmts) → IsScript script.now body → ⊥) }
+    ensures fault { IfErr result IsOfScript }
 {
     let text = read_script(alloc, script)?;
     let mut world = World::new(alloc, text, limits)?;
     let _turns = world.serial(u64::MAX);
     world.facts();
-    write_report(out, &world)?;
+    Ok(world)
+}
+
+/// Reports a world, and answers the status after it.
+fn report<W: Write>(out: &mut W, world: &World) -> Result<u8, CliFault>
+    ensures told { IfOk result (IsReported world.now (W.contents out.old) (W.contents out.new)) }
+    ensures fault { IsOkUnless result CliFault.Write }
+{
+    write_report(out, world)?;
     flush(out)?;
-    Ok(status_of(&world))
+    Ok(status_of(world))
 }
 
 /// Tells that a script is read and well scoped, where it is, by the line `ok`.
 fn check<W: Write>(alloc: Global, script: &[u8], out: &mut W) -> Result<u8, CliFault>
     ensures says { IfOk result (SaysOk script.now (W.contents out.old) (W.contents out.new)) }
     ensures refused { IfErr result (λ fault. IsRefusal fault → (body : Stmts) → IsScript script.now body → ⊥) }
+    ensures kind { IfErr result IsOfRun }
     ensures alone { IfErr result (LeavesAlone (W.contents out.old) (W.contents out.new)) }
 {
     let _text = read_script(alloc, script)?;
@@ -89,7 +129,7 @@ fn check<W: Write>(alloc: Global, script: &[u8], out: &mut W) -> Result<u8, CliF
 }
 
 /// The text of a script that is read.
-fn read_script(alloc: Global, script: &[u8]) -> Result<&str, CliFault>
+pub(crate) fn read_script(alloc: Global, script: &[u8]) -> Result<&str, CliFault>
     ensures text { IfOk result (λ text. text.now ≡ without_mark script.now) }
     ensures read { OnOk result (IsReadable script.now) }
     ensures refused { IfErr result (λ fault. IsRefusal fault → (body : Stmts) → IsScript script.now body → ⊥) }
@@ -124,7 +164,7 @@ fn line_of(bytes: &[u8], at: usize) -> usize
 }
 
 /// Passes on what a writer has kept back.
-fn flush<W: Write>(out: &mut W) -> Result<(), CliFault>
+pub(crate) fn flush<W: Write>(out: &mut W) -> Result<(), CliFault>
     ensures kept { Keeps (W.contents out.old) (W.contents out.new) }
     ensures fault { IsOkUnless result CliFault.Write }
 {

@@ -5,7 +5,8 @@ ghost use Rattle.std.specs.Prelude.{◌≡◌, ℕ, IfNone, IfOk, IfErr, IfSome,
 ghost use Rattle.clap.specs.Words.{app_of, kind_of, rule_of};
 ghost use Rattle.si_cli.specs.Status.{status_of_words};
 ghost use Rattle.si_plain.specs.Ranges.{Numbers};
-ghost use Rattle.si_cli.specs.Words.{Allows, AllowsInterpreters, AllowsTurns, AreRead, AreTaken, IsReadFrom, IsSaidBy, Takes, TellsHelp, asks_help, check, helps, interpreters, is_help, is_topic, name_of, script, serial, texts, turns};
+ghost use Rattle.si_cli.specs.Words.{Allows, AllowsInterpreters, AllowsTurns, AreRead, AreRepeat, AreTaken, IsReadFrom, IsSaidBy, Takes, TellsHelp, asks_help, check, helps, history, interpreters, is_help, is_topic, limited, name_of, planning, repeats, repeats_name, replay, saving, script, serial, texts, turns};
+ghost use Rattle.si_cli.specs.inner.Requests.{repeat_in};
 
 use crate::asked::Request;
 use clap::error::ErrorKind;
@@ -18,15 +19,19 @@ const HELP: &str = "Runs Python scripts in isolated interpreters and reports wha
 Usage: subpy COMMAND [ARGUMENTS]
 
 Commands:
-  serial [SCRIPT] [--interpreters N] [--turns N]
+  serial [SCRIPT] [--interpreters N] [--turns N] [--record PATH]
                   Runs a script, one turn after another, and prints its report
+  replay [SCRIPT] --schedule PATH [--turns N]
+                  Makes a run again from its schedule, and prints its report
+  history [SCRIPT] --schedule PATH [--turns N]
+                  Makes a run again, and prints what its interpreters asked and were answered
   check [SCRIPT]  Prints 'ok' where a script is well formed, and runs nothing of it
   help [COMMAND]  Prints this text, or that of a command
 
 Statuses:
   0  the script has run to its end, 'ok' was printed, or help was asked for
   1  the script was left by an exception
-  2  the words or the script are refused, or a read or a write failed
+  2  the words, the script or the schedule are refused, or a read or a write failed
   3  a run waits for what can't come
   4  turns were used up
   5  memory was refused
@@ -36,11 +41,28 @@ const SERIAL_HELP: &str =
     "The report has for each interpreter the line '== interpreter N ==', what it printed, and the line
 'raised KIND: MESSAGE' for each of its runs that an exception left; and last the line 'end: finished',
 'end: stuck' where a run waits for what can't come, 'end: spent' where an interpreter's turns were
-used up, or 'end: starved' where memory was refused to one.";
+used up, or 'end: starved' where memory was refused to one. With --record the order in which interpreters
+acted is written to a file, before the report: a schedule, from which replay makes the same run again.";
+
+const REPLAY_HELP: &str =
+    "The schedule is a file that --record has made: how many interpreters there may be, and whose actions are
+taken in which order. The run with just these actions is made, and its report printed, as that of serial.
+Where an action can't be taken, or another can after the last, that is told on standard error, with status 2.";
+
+const HISTORY_HELP: &str =
+    "The run is made as by replay. For each of its actions there is a line: its number, the interpreter that
+asked, what it asked, ' = ', and what it was answered.";
 
 const CHECK_HELP: &str =
     "The line 'ok' is printed where the script can be read, and its statements and names stand where they
 may. Otherwise the fault is told on standard error, with status 2. Nothing of the script is run.";
+
+/// What is told of a run that is made again.
+#[derive(Clone, Copy, Debug, PartialEq, Eq)]
+pub(crate) enum Told {
+    Report,
+    History,
+}
 
 /// Why the words ask for nothing that can be carried out.
 #[derive(Debug, Drop)]
@@ -77,8 +99,8 @@ impl WordsFault {
 
 /// What the words ask for. The first is the program's name, the second that of a command.
 ///
-/// `WordsFault::Words` where no command is named, its definition doesn't take the words after it, the value of
-/// `--interpreters` is no number from 1 to 64, that of `--turns` none from 1 to 1,099,511,627,776, or help is asked for;
+/// `WordsFault::Words` where no command is named, its definition doesn't take the words after it, no schedule is named where
+/// one is needed, the value of `--interpreters` is no number from 1 to 64, that of `--turns` none from 1 to 1,099,511,627,776, or help is asked for;
 /// `WordsFault::NoMemory` where memory was refused.
 pub fn request<'a>(alloc: Global, words: &'a [&'a str]) -> Result<Request<'a>, WordsFault>
     ensures said { IfOk result (IsSaidBy (texts words.entry.now)) }
@@ -97,6 +119,12 @@ pub fn request<'a>(alloc: Global, words: &'a [&'a str]) -> Result<Request<'a>, W
     }
     if *name == "check" {
         return check_request(alloc, &words[1..]);
+    }
+    if *name == "replay" {
+        return repeat_request(alloc, &words[1..], Told::Report);
+    }
+    if *name == "history" {
+        return repeat_request(alloc, &words[1..], Told::History);
     }
     Err(match *name {
         "help" => help_of(alloc, words),
@@ -122,6 +150,7 @@ fn serial_request<'a>(alloc: Global, words: &'a [&'a str]) -> Result<Request<'a>
                 Ok(limits) => Ok(Request::Serial {
                     script: matches.get_str("SCRIPT"),
                     limits,
+                    saved: matches.get_str("record"),
                 }),
                 Err(fault) => Err(fault),
             }
@@ -144,6 +173,58 @@ fn check_request<'a>(alloc: Global, words: &'a [&'a str]) -> Result<Request<'a>,
             script: matches.get_str("SCRIPT"),
         }),
         Err(error) => Err(words_fault(alloc, &error)),
+    }
+}
+
+/// The request of the words from the name of a command on that makes a run again.
+fn repeat_request<'a>(
+    alloc: Global,
+    words: &'a [&'a str],
+    told: Told,
+) -> Result<Request<'a>, WordsFault>
+    ensures name { IfOk result (λ request. name_of request ≡ repeats_name told) }
+    ensures said { IfOk result (IsReadFrom (texts words.entry.now)) }
+    ensures only { IfOk result (λ _. AreRepeat (repeats told) (texts words.entry.now)) }
+    ensures taken { IfErr result (λ fault. AreRepeat (repeats told) (texts words.entry.now) → fault ≡ WordsFault.NoMemory) }
+    ensures help { IfErr result (TellsHelp (helps (repeats told) (texts words.entry.now))) }
+{
+    let command = repeat_command(alloc, told)?;
+    match command.try_get_matches_from(words) {
+        Ok(matches) => {
+            let script = matches.get_str("SCRIPT");
+            let turns = matches.get_str("turns");
+            let Some(schedule) = matches.get_str("schedule") else {
+                return Err(no_schedule(alloc));
+            };
+            match limits_of(alloc, None, turns) {
+                Ok(limits) => Ok(repeat_of(told, script, schedule, limits)),
+                Err(fault) => Err(fault),
+            }
+        }
+        Err(error) => Err(words_fault(alloc, &error)),
+    }
+}
+
+/// The request to make a run again.
+fn repeat_of<'a>(
+    told: Told,
+    script: Option<&'a str>,
+    schedule: &'a str,
+    limits: Limits,
+) -> Request<'a>
+    ensures { result ≡ repeat_in told script.entry schedule.entry limits }
+{
+    match told {
+        Told::Report => Request::Replay {
+            script,
+            schedule,
+            limits,
+        },
+        Told::History => Request::History {
+            script,
+            schedule,
+            limits,
+        },
     }
 }
 
@@ -203,12 +284,55 @@ fn with_turns(limits: Limits, turns: Option<&str>) -> Option<Limits>
 fn serial_command<'a>(alloc: Global) -> Result<Command<'a>, AllocError>
     ensures { IfOk result (λ command. app_of command ≡ serial) }
 {
+    limited_command(alloc)?.arg(saving_argument(alloc))
+}
+
+/// The same without `--record`.
+fn limited_command<'a>(alloc: Global) -> Result<Command<'a>, AllocError>
+    ensures { IfOk result (λ command. app_of command ≡ limited) }
+{
     Command::new(alloc, "serial")
         .about("Runs a script, one turn after another, and prints the report of each interpreter.")
-        .override_usage("subpy serial [SCRIPT] [--interpreters N] [--turns N]")
+        .override_usage("subpy serial [SCRIPT] [--interpreters N] [--turns N] [--record PATH]")
         .after_help(SERIAL_HELP)
         .arg(script_argument(alloc))?
         .arg(interpreters_argument(alloc))?
+        .arg(turns_argument(alloc))
+}
+
+/// The definition of the command that makes a run again.
+fn repeat_command<'a>(alloc: Global, told: Told) -> Result<Command<'a>, AllocError>
+    ensures { IfOk result (λ command. app_of command ≡ repeats told) }
+{
+    match told {
+        Told::Report => replay_command(alloc),
+        Told::History => history_command(alloc),
+    }
+}
+
+/// The definition of `replay`.
+fn replay_command<'a>(alloc: Global) -> Result<Command<'a>, AllocError>
+    ensures { IfOk result (λ command. app_of command ≡ replay) }
+{
+    Command::new(alloc, "replay")
+        .about("Makes a run again from its schedule, and prints the report of each interpreter.")
+        .override_usage("subpy replay [SCRIPT] --schedule PATH [--turns N]")
+        .after_help(REPLAY_HELP)
+        .arg(script_argument(alloc))?
+        .arg(schedule_argument(alloc))?
+        .arg(turns_argument(alloc))
+}
+
+/// The definition of `history`.
+fn history_command<'a>(alloc: Global) -> Result<Command<'a>, AllocError>
+    ensures { IfOk result (λ command. app_of command ≡ history) }
+{
+    Command::new(alloc, "history")
+        .about("Makes a run again from its schedule, and prints what its interpreters asked.")
+        .override_usage("subpy history [SCRIPT] --schedule PATH [--turns N]")
+        .after_help(HISTORY_HELP)
+        .arg(script_argument(alloc))?
+        .arg(schedule_argument(alloc))?
         .arg(turns_argument(alloc))
 }
 
@@ -254,6 +378,30 @@ fn turns_argument<'a>(alloc: Global) -> Arg<'a>
         .long("turns")
         .value_name("N")
         .help("How many local turns each interpreter has: 1 to 1099511627776, by default 1000000")
+        .action(ArgAction::Set)
+}
+
+/// The path at which the schedule is saved, which may be left out.
+fn saving_argument<'a>(alloc: Global) -> Arg<'a>
+    ensures rule { rule_of result ≡ saving }
+    ensures local { result.global ≡ false }
+{
+    Arg::new(alloc, "record")
+        .long("record")
+        .value_name("PATH")
+        .help("The file to write the schedule of the run to")
+        .action(ArgAction::Set)
+}
+
+/// The path of the schedule.
+fn schedule_argument<'a>(alloc: Global) -> Arg<'a>
+    ensures rule { rule_of result ≡ planning }
+    ensures local { result.global ≡ false }
+{
+    Arg::new(alloc, "schedule")
+        .long("schedule")
+        .value_name("PATH")
+        .help("The file of the schedule of the run")
         .action(ArgAction::Set)
 }
 
@@ -315,6 +463,16 @@ fn no_interpreters(alloc: Global, interpreters: Option<&str>) -> WordsFault
     }
 }
 
+/// The fault of words that name no schedule where one is needed.
+fn no_schedule(alloc: Global) -> WordsFault
+    ensures { TellsHelp false result }
+{
+    match String::from_str(alloc, "no schedule is named; --schedule PATH does") {
+        Ok(text) => WordsFault::Words { help: false, text },
+        Err(_) => WordsFault::NoMemory,
+    }
+}
+
 /// The fault of a value of `--turns` that is no number of turns.
 fn no_turns(alloc: Global, turns: Option<&str>) -> WordsFault
     ensures { TellsHelp false result }
@@ -355,6 +513,8 @@ fn help_of(alloc: Global, words: &[&str]) -> WordsFault
         Some(name) => match *name {
             "serial" => command_help(serial_command(alloc)),
             "check" => command_help(check_command(alloc)),
+            "replay" => command_help(replay_command(alloc)),
+            "history" => command_help(history_command(alloc)),
             _ => no_command(alloc, name),
         },
     }

@@ -1,24 +1,24 @@
 // `subpy`: runs Python scripts in isolated interpreters. `subpy --help` says how it is used.
 //
-// All of the work is that of `si_cli`. This file gets the words, the script and standard output from the system, and
+// All of the work is that of `si_cli`. This file gets the words, the files and standard output from the system, and
 // tells faults in one line on standard error. In `tests` stand the tests of commands.
 #![tactic(auto)]
 
 #[cfg(test)]
 mod tests;
 
-use si_cli::{CliFault, Request, WordsFault, read_input, request, serve};
+use si_cli::{CliFault, MAX_SCHEDULE_BYTES, Request, WordsFault, read_input, request, serve};
 use si_plain::limits::MAX_FILE_BYTES;
 use std::alloc::AllocError;
 use std::fs::File;
-use std::io::BufWriter;
+use std::io::{BufWriter, Write};
 use std::process::ExitCode;
 use std::{fmt, io};
 
 /// How many bytes of a report are gathered before they are written.
 const WRITE_SIZE: usize = 65_536;
 
-/// Where a script comes from, as messages name it.
+/// Where a file's bytes come from, or go to, as messages name it.
 #[derive(Clone, Copy)]
 struct Source<'a>(Option<&'a str>);
 
@@ -39,12 +39,12 @@ fn tell<D: fmt::Display + Drop>(rt: &HostRuntime, message: D, status: u8) -> u8 
     status
 }
 
-/// The script's bytes, or the status after telling why there are none.
-fn script_bytes(rt: &HostRuntime, source: &Source) -> Result<Vec<u8>, u8> {
+/// All bytes of a file, at most `limit`, or the status after telling why there are none.
+fn bytes_of(rt: &HostRuntime, source: &Source, limit: u64) -> Result<Vec<u8>, u8> {
     let read = match source.0 {
-        None => read_input(rt.alloc(), &mut rt.stdin(), MAX_FILE_BYTES),
+        None => read_input(rt.alloc(), &mut rt.stdin(), limit),
         Some(path) => match File::open(rt, path) {
-            Ok(mut file) => read_input(rt.alloc(), &mut file, MAX_FILE_BYTES),
+            Ok(mut file) => read_input(rt.alloc(), &mut file, limit),
             Err(_) => return Err(tell(rt, format_args!("can't open {source}"), 2)),
         },
     };
@@ -62,37 +62,81 @@ fn script_bytes(rt: &HostRuntime, source: &Source) -> Result<Vec<u8>, u8> {
     }
 }
 
-/// Carries out a request, and gives the program's status.
-fn carry_out(rt: &HostRuntime, request: &Request) -> u8 {
-    let source = Source(request.script());
-    let script = match script_bytes(rt, &source) {
-        Ok(script) => script,
-        Err(status) => return status,
-    };
+/// The schedule's bytes, if a request reads one.
+fn schedule_bytes(rt: &HostRuntime, request: &Request) -> Result<Vec<u8>, u8> {
+    match request.schedule() {
+        None => Ok(Vec::new(rt.alloc())),
+        path => bytes_of(rt, &Source(path), MAX_SCHEDULE_BYTES),
+    }
+}
+
+/// Tells why a request is not carried out, by the names of the files, and gives the program's status.
+fn tell_fault(rt: &HostRuntime, request: &Request, fault: CliFault) -> u8 {
+    let status = fault.status();
+    match fault {
+        CliFault::Script(line) => {
+            let source = Source(request.script());
+            tell(
+                rt,
+                format_args!("{source}: line {line}: invalid syntax"),
+                status,
+            )
+        }
+        CliFault::Schedule(line) => {
+            let source = Source(request.schedule());
+            tell(
+                rt,
+                format_args!("{source}: line {line}: no line of a schedule"),
+                status,
+            )
+        }
+        fault => tell(rt, fault, status),
+    }
+}
+
+/// Carries out a request on the bytes of its files, and gives the program's status.
+fn carry_out_on<W: Write>(
+    rt: &HostRuntime,
+    request: &Request,
+    script: &[u8],
+    schedule: &[u8],
+    saved: &mut W,
+) -> u8 {
     let Ok(mut out) = BufWriter::with_capacity(rt.alloc(), WRITE_SIZE, io::writer(rt)) else {
         return tell(rt, CliFault::NoMemory, CliFault::NoMemory.status());
     };
-    match serve(
-        rt.alloc(),
-        request,
-        script.as_slice(),
-        &[],
-        &mut io::sink(),
-        &mut out,
-    ) {
+    match serve(rt.alloc(), request, script, schedule, saved, &mut out) {
         Ok(status) => status,
-        Err(fault) => {
-            let status = fault.status();
-            match fault {
-                CliFault::Script(line) => tell(
-                    rt,
-                    format_args!("{source}: line {line}: invalid syntax"),
-                    status,
-                ),
-                fault => tell(rt, fault, status),
-            }
-        }
+        Err(fault) => tell_fault(rt, request, fault),
     }
+}
+
+/// Carries out a request whose schedule is saved at a path, and gives the program's status.
+fn carry_out_saving(
+    rt: &HostRuntime,
+    request: &Request,
+    script: &[u8],
+    schedule: &[u8],
+    path: &str,
+) -> u8 {
+    let Ok(file) = File::create(rt, path) else {
+        return tell(rt, format_args!("can't write {}", Source(Some(path))), 2);
+    };
+    match BufWriter::with_capacity(rt.alloc(), WRITE_SIZE, file) {
+        Ok(mut saved) => carry_out_on(rt, request, script, schedule, &mut saved),
+        Err(_) => tell(rt, CliFault::NoMemory, CliFault::NoMemory.status()),
+    }
+}
+
+/// Carries out a request, and gives the program's status.
+fn carry_out(rt: &HostRuntime, request: &Request) -> Result<u8, u8> {
+    let script = bytes_of(rt, &Source(request.script()), MAX_FILE_BYTES)?;
+    let schedule = schedule_bytes(rt, request)?;
+    let (script, schedule) = (script.as_slice(), schedule.as_slice());
+    Ok(match request.saved() {
+        None => carry_out_on(rt, request, script, schedule, &mut io::sink()),
+        Some(path) => carry_out_saving(rt, request, script, schedule, path),
+    })
 }
 
 /// Prints the help that was asked for, or tells why the words are refused, and gives the program's status.
@@ -117,7 +161,7 @@ fn answer(rt: &HostRuntime) -> Result<u8, AllocError> {
     };
     let words: Vec<&str> = words.iter().map(|word| word.as_str()).collect(rt.alloc())?;
     match request(rt.alloc(), words.as_slice()) {
-        Ok(request) => Ok(carry_out(rt, &request)),
+        Ok(request) => Ok(carry_out(rt, &request).unwrap_or_else(|status| status)),
         Err(fault) => Ok(answer_words(rt, &fault)),
     }
 }

@@ -78,6 +78,7 @@ fn serve_within<W: Write>(
     let asked = Request::Serial {
         script: None,
         limits,
+        saved: None,
     };
     serve(alloc, &asked, script.as_bytes(), &[], &mut io::sink(), out)
 }
@@ -97,6 +98,68 @@ fn a_run_is_reported(rt: HostRuntime) -> Result<(), Fail> {
         let mut out = Vec::new(rt.alloc());
         assert_eq!(rt; serve_into(rt.alloc(), script, &mut out)?, status);
         assert_eq!(rt; out.as_slice(), report.as_bytes());
+    }
+    Ok(())
+}
+
+#[test]
+fn a_run_is_made_again(rt: HostRuntime) -> Result<(), Fail> {
+    let (script, limits) = (RAISING.as_bytes(), Limits::standard());
+    let mut saved = Vec::new(rt.alloc());
+    let mut out = Vec::new(rt.alloc());
+    let asked = Request::Serial {
+        script: None,
+        limits,
+        saved: Some("taken"),
+    };
+    let status = serve(rt.alloc(), &asked, script, &[], &mut saved, &mut out)?;
+    assert_eq!(rt; status, 1);
+    let taken = b"schedule 1\ninterpreters 8\nturns 2\n0\n0\nend\n".as_slice();
+    assert!(rt; saved.as_slice() == taken);
+    let again = Request::Replay {
+        script: None,
+        schedule: "taken",
+        limits,
+    };
+    let mut report = Vec::new(rt.alloc());
+    let sink = &mut io::sink();
+    let status = serve(rt.alloc(), &again, script, taken, sink, &mut report)?;
+    assert_eq!(rt; status, 1);
+    assert!(rt; report.as_slice() == out.as_slice());
+    Ok(())
+}
+
+#[test]
+fn the_history_of_a_run_is_told(rt: HostRuntime) -> Result<(), Fail> {
+    let asked = Request::History {
+        script: None,
+        schedule: "taken",
+        limits: Limits::standard(),
+    };
+    let taken = b"schedule 1\ninterpreters 1\nturns 2\n0\n0\nend\n".as_slice();
+    let mut out = Vec::new(rt.alloc());
+    let sink = &mut io::sink();
+    let status = serve(rt.alloc(), &asked, b"print(1)", taken, sink, &mut out)?;
+    assert_eq!(rt; status, 0);
+    let told = b"1 0 take = run 0\n2 0 end returned = done\n".as_slice();
+    assert!(rt; out.as_slice() == told);
+    Ok(())
+}
+
+// The report is not begun before the schedule is saved.
+#[test]
+fn a_schedule_that_is_not_saved(rt: HostRuntime) -> Result<(), Fail> {
+    let asked = Request::Serial {
+        script: None,
+        limits: Limits::standard(),
+        saved: Some("taken"),
+    };
+    for room in 0..2 {
+        let written = Vec::new(rt.alloc());
+        let mut saved = Filling { written, room };
+        let mut out = Vec::new(rt.alloc());
+        let answer = serve(rt.alloc(), &asked, b"print(1)", &[], &mut saved, &mut out);
+        assert!(rt; matches!(answer, Err(CliFault::Write)) && out.is_empty());
     }
     Ok(())
 }
@@ -235,7 +298,7 @@ fn words_that_are_taken(rt: HostRuntime) -> Result<(), Fail> {
                     (interpreters, turns)
                 )
             }
-            Request::Check { .. } => return Err(Fail::from("another command is asked for")),
+            _ => return Err(Fail::from("another command is asked for")),
         }
     }
     Ok(())
@@ -253,6 +316,50 @@ fn words_of_check(rt: HostRuntime) -> Result<(), Fail> {
         };
         assert!(rt; matches!(&asked, Request::Check { .. }) && asked.script() == script);
     }
+    Ok(())
+}
+
+#[test]
+fn words_of_record(rt: HostRuntime) -> Result<(), Fail> {
+    let cases: [(&[&str], Option<&str>); 3] = [
+        (&["subpy", "serial"], None),
+        (
+            &["subpy", "serial", "--record", "taken", "a.py"],
+            Some("taken"),
+        ),
+        (&["subpy", "serial", "a.py", "--record=-"], Some("-")),
+    ];
+    for (words, saved) in cases {
+        let Ok(asked) = request(rt.alloc(), words) else {
+            return Err(Fail::from("the words are refused"));
+        };
+        assert!(rt; asked.saved() == saved && asked.schedule().is_none());
+    }
+    Ok(())
+}
+
+#[test]
+fn words_of_replay_and_history(rt: HostRuntime) -> Result<(), Fail> {
+    let words = [
+        "subpy",
+        "replay",
+        "a.py",
+        "--turns",
+        "9",
+        "--schedule",
+        "taken",
+    ];
+    let Ok(asked) = request(rt.alloc(), words.as_slice()) else {
+        return Err(Fail::from("the words are refused"));
+    };
+    assert!(rt; asked.script() == Some("a.py") && asked.schedule() == Some("taken"));
+    assert!(rt; matches!(&asked, Request::Replay { limits, .. } if limits.turns() == 9));
+    let words = ["subpy", "history", "--schedule=taken"];
+    let Ok(asked) = request(rt.alloc(), words.as_slice()) else {
+        return Err(Fail::from("the words are refused"));
+    };
+    assert!(rt; asked.script().is_none() && asked.schedule() == Some("taken"));
+    assert!(rt; matches!(&asked, Request::History { limits, .. } if limits.turns() == 1_000_000));
     Ok(())
 }
 

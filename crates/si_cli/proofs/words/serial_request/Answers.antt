@@ -39,6 +39,8 @@ returns-in-Ok-limits_of-clause-said c =
       c.get_str.ensures ∙ first_value-rows (found_of c.in-Ok.matches) (codes "SCRIPT")
           ∙ ap (first_of (codes "SCRIPT")) (found.0 ∙ ap₂ matches_of command_is refl),
       allowed _ _ _ _ c.in-Ok-limits_of.limits interpreters_are turns_are c.in-Ok-limits_of.ensures.some,
+      c.get_str-in-Ok-limits_of.ensures ∙ first_value-rows (found_of c.in-Ok.matches) (codes "record")
+          ∙ ap (first_of (codes "record")) (found.0 ∙ ap₂ matches_of command_is refl),
     )
 
 pub returns-in-Ok-limits_of-clause-only : goal.returns-in-Ok-limits_of-clause-only

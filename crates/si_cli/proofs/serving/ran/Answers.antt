@@ -3,18 +3,16 @@ use Rattle.si_plain.specs.Characters.{characters_of}
 use Rattle.si_world.specs.Rounds.{Serves}
 use Rattle.si_world.specs.Worlds.{WorldView, first_of}
 use Rattle.si_cli.specs.Service.{without_mark}
-use Rattle.si_cli.proofs.ReportLemmas.{appended_kept}
-use Rattle.si_cli.proofs.serving.serial.Goals as goal
+use Rattle.si_cli.proofs.serving.ran.Goals as goal
 
-pub returns-clause-reports : goal.returns-clause-reports
-returns-clause-reports g c =
+pub returns-clause-ran : goal.returns-clause-ran
+returns-clause-ran c =
     let world = c.serial-turns.new.self in
     let first : c.in_ok-world.world ≡ first_of (characters_of (without_mark c.args.script.now)) c.args.limits =
     c.in_ok-world.ensures ∙ ap (λ text. first_of (characters_of text) c.args.limits) c.in_ok-text.ensures.text in
     record {
       body = c.in_ok-text.ensures.read.0;
       read = c.in_ok-text.ensures.read.1;
-      world = world;
       run = record {
         turns = c.serial-turns.result;
         serves = subst (λ (w : WorldView). Serves w c.serial-turns.result world) first c.serial-turns.ensures.serves;
@@ -23,6 +21,4 @@ returns-clause-reports g c =
         legal = c.facts.ensures.legal;
         core = c.facts.ensures.core;
       };
-      report = appended_kept _ _ _ _ c.in_ok-write_report.ensures.report c.in_ok-flush.ensures.kept;
-      status_is = c.status_of.ensures;
     }

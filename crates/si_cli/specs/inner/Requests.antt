@@ -1,0 +1,13 @@
+-- The request of a command that makes a run again.
+use Rattle.std.specs.Prelude.{Option, ℕ, List}
+use Rattle.std.specs.Borrow.{Bor}
+use Rattle.si_plain.specs.Ranges.{Numbers}
+use Rattle.si_cli.specs.declared.asked.Request.{Request}
+use Rattle.si_cli.specs.declared.asked.Request.TheVariants.{Replay, History}
+use Rattle.si_cli.specs.declared.words.Told.{Told}
+use Rattle.si_cli.specs.declared.words.Told.TheVariants as told
+
+-- by what is told of the run
+abbrev pub repeat_in : Told → Option (Bor (List ℕ)) → Bor (List ℕ) → Numbers → Request
+repeat_in told.Report script schedule limits = Replay script schedule limits
+repeat_in told.History script schedule limits = History script schedule limits
