@@ -122,7 +122,6 @@ fn emit_functions_of(
         | Stmt::Continue(_)
         | Stmt::Return(_, _)
         | Stmt::Global(_, _)
-        | Stmt::Import(_, _)
         | Stmt::Raise(_) => Ok(()),
     }
 }

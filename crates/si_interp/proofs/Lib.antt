@@ -1,7 +1,5 @@
 pub mod Going
 pub mod Living
 pub mod Logs
-pub mod Silent
-pub mod Standing
 pub mod Answering
 pub mod Keeping

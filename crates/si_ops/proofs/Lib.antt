@@ -21,5 +21,4 @@ pub mod Tupled
 pub mod Providing
 pub mod Equal
 pub mod Gathered
-pub mod Raising
 pub mod RunningTuples

@@ -37,8 +37,6 @@ mod ranges;
 mod refusal;
 mod shown;
 mod subscripts;
-#[cfg(test)]
-mod tests;
 mod truth;
 mod tuples;
 

@@ -39,7 +39,6 @@ const PRIMARY: u32 = 18;
 #[derive(Clone, Copy)]
 pub(crate) enum Continuation {
     Operator(BinaryOperator),
-    Attribute,
     Arguments,
     Index,
     Comparison,
@@ -117,7 +116,6 @@ fn role_of(symbol: Symbol) -> Continuation
         Symbol::DoubleStar => Continuation::Operator(BinaryOperator::Power),
         Symbol::LeftParenthesis => Continuation::Arguments,
         Symbol::LeftBracket => Continuation::Index,
-        Symbol::Dot => Continuation::Attribute,
         Symbol::Less | Symbol::Greater => Continuation::Comparison,
         Symbol::LessEqual | Symbol::GreaterEqual => Continuation::Comparison,
         Symbol::EqualEqual | Symbol::NotEqual => Continuation::Comparison,
@@ -164,7 +162,7 @@ pub(crate) fn strength(continuation: Continuation) -> u32
 {
     match continuation {
         Continuation::Operator(operator) => left_level(operator),
-        Continuation::Attribute | Continuation::Arguments | Continuation::Index => PRIMARY,
+        Continuation::Arguments | Continuation::Index => PRIMARY,
         Continuation::Comparison => 9,
         Continuation::Boolean(BooleanOperator::And) => 6,
         Continuation::Boolean(BooleanOperator::Or) => 4,

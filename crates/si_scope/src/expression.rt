@@ -24,8 +24,7 @@ pub(crate) fn use_names(expr: &Expr, used: &mut Names) -> Result<(), NoMemory>
             use_names(left, used)?;
             use_names(right, used)
         }
-        Expr::Attribute(object, _) => use_names(object, used),
-        Expr::Call(callee, _, arguments, _) => {
+        Expr::Call(callee, arguments, _) => {
             use_names(callee, used)?;
             use_all(arguments, used)
         }

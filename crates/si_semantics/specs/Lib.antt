@@ -9,8 +9,6 @@ pub mod World
 pub mod Parts
 pub mod Operations
 pub mod Subscription
-pub mod Replies
-pub mod Attributes
 pub mod Meaning
 pub mod Scope
 pub mod Life

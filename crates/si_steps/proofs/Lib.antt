@@ -17,4 +17,3 @@ pub mod Callees
 pub mod Provided
 pub mod Displayed
 pub mod Fast
-pub mod Asked

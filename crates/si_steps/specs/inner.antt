@@ -2,4 +2,3 @@
 pub mod Firsts
 pub mod Pieces
 pub mod Operands
-pub mod Asking
