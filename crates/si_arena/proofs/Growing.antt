@@ -1,5 +1,6 @@
 -- What each call does to what an arena is made of.
 use Rattle.std.proofs.Common.{◌≡◌, ℕ, ◌+◌, take, zero, suc, ◌+◌, ◌<◌, ◌≤◌, List, [], ◌∷◌, ◌++◌, map, length, get_or, Result, Ok, Err, ap, refl, sym, subst, ◌∙◌, arith, append-nil}
+use Rattle.std.specs.Prelude.{slice_set}
 use Rattle.std.proofs.lemmas.List.{map_push, length_push, get_or_push, length-map, take_all, drop_at, length-append}
 use Rattle.si_semantics.specs.Value as pure
 use Rattle.si_arena.specs.declared.value.Ref.{Ref}
@@ -90,6 +91,10 @@ str_is m t (value.Function n x) i e = absurd i
 str_is m t (value.Range p) i e = absurd i
 str_is m t (value.Tuple p) i e = absurd i
 str_is m t (value.Kind k) i e = absurd i
+str_is m t (value.Module mo) i e = absurd i
+str_is m t (value.Queue qu qm) i e = absurd i
+str_is m t (value.Interpreter it) i e = absurd i
+str_is m t (value.Exec it) i e = absurd i
 str_is m t (value.Object x) i e = absurd i
 
 str_lies : (m : Memory) (r : Ref) → IsText r → TextLies m.texts r → Lies m r
@@ -107,6 +112,10 @@ str_lies m (value.Function n x) i h = absurd i
 str_lies m (value.Range p) i h = absurd i
 str_lies m (value.Tuple p) i h = absurd i
 str_lies m (value.Kind k) i h = absurd i
+str_lies m (value.Module mo) i h = absurd i
+str_lies m (value.Queue qu qm) i h = absurd i
+str_lies m (value.Interpreter it) i h = absurd i
+str_lies m (value.Exec it) i h = absurd i
 str_lies m (value.Object x) i h = absurd i
 
 module _ (t : List ℕ) (rows more : Rows) (names : List pure.Text) (ranges : List Steps) (items : List Ref) (ts : List Tuple) (os : List Object) where
@@ -140,6 +149,10 @@ bytes_are m t (value.Function z x) i n e = absurd i
 bytes_are m t (value.Range p) i n e = absurd i
 bytes_are m t (value.Tuple p) i n e = absurd i
 bytes_are m t (value.Kind k) i n e = absurd i
+bytes_are m t (value.Module mo) i n e = absurd i
+bytes_are m t (value.Queue qu qm) i n e = absurd i
+bytes_are m t (value.Interpreter it) i n e = absurd i
+bytes_are m t (value.Exec it) i n e = absurd i
 bytes_are m t (value.Object x) i n e = absurd i
 
 bytes_lie : (m : Memory) (r : Ref) → IsText r → IsNarrow r → TextLies m.texts r → Lies m (bytes_of_text r)
@@ -157,6 +170,10 @@ bytes_lie m (value.Function z x) i n h = absurd i
 bytes_lie m (value.Range p) i n h = absurd i
 bytes_lie m (value.Tuple p) i n h = absurd i
 bytes_lie m (value.Kind k) i n h = absurd i
+bytes_lie m (value.Module mo) i n h = absurd i
+bytes_lie m (value.Queue qu qm) i n h = absurd i
+bytes_lie m (value.Interpreter it) i n h = absurd i
+bytes_lie m (value.Exec it) i n h = absurd i
 bytes_lie m (value.Object x) i n h = absurd i
 
 module _ (t : List ℕ) (rows more : Rows) (names : List pure.Text) (ranges : List Steps) (items : List Ref) (ts : List Tuple) (os : List Object) where
@@ -187,6 +204,10 @@ bytes_text_lies m (value.Function z x) h = tt
 bytes_text_lies m (value.Range p) h = tt
 bytes_text_lies m (value.Tuple p) h = tt
 bytes_text_lies m (value.Kind k) h = tt
+bytes_text_lies m (value.Module mo) h = tt
+bytes_text_lies m (value.Queue qu qm) h = tt
+bytes_text_lies m (value.Interpreter it) h = tt
+bytes_text_lies m (value.Exec it) h = tt
 bytes_text_lies m (value.Object x) h = tt
 
 pub bytes_text_narrow : (r : Ref) → IsNarrow (text_of_bytes r)
@@ -204,6 +225,10 @@ bytes_text_narrow (value.Function z x) = tt
 bytes_text_narrow (value.Range p) = tt
 bytes_text_narrow (value.Tuple p) = tt
 bytes_text_narrow (value.Kind k) = tt
+bytes_text_narrow (value.Module mo) = tt
+bytes_text_narrow (value.Queue qu qm) = tt
+bytes_text_narrow (value.Interpreter it) = tt
+bytes_text_narrow (value.Exec it) = tt
 bytes_text_narrow (value.Object x) = tt
 
 -- ---- ranges and names
@@ -261,6 +286,30 @@ object_kept rows names ranges items ts os o h k =
     } in record {
       tuples = tuples_lie-last (map f os) (map f (os ++ o ∷ [])) (grounded_same rows names ranges) longer items items (same_row items) [] ts h.tuples;
       objects = objects_push m os o (objects_lie-extends os e h.objects) (object_lies-extends o e k);
+    }
+
+objects_set : (m : Memory) (os : List Object) (x : ℕ) (o : Object) → ObjectsLie m os → ObjectLies m o → ObjectsLie m (slice_set os x o)
+objects_set m [] x o h k = h
+objects_set m (q ∷ os) zero o h k = (k, h.1)
+objects_set m (q ∷ os) (suc x) o h k = (h.0, objects_set m os x o h.1 k)
+
+length_set : {A : Type 0} (xs : List A) (x : ℕ) (a : A) → length (slice_set xs x a) ≡ length xs
+length_set [] x a = refl
+length_set (b ∷ xs) zero a = refl
+length_set (b ∷ xs) (suc x) a = ap suc (length_set xs x a)
+
+pub object_changed : (rows : Rows) (names : List pure.Text) (ranges : List Steps) (items : List Ref) (ts : List Tuple) (os : List Object) (x : ℕ) (o : Object) → IsArena rows names ranges items ts os → ObjectLies (memory_of rows names ranges items ts os) o → IsArena rows names ranges items ts (slice_set os x o)
+object_changed rows names ranges items ts os x o h k =
+    let m = memory_of rows names ranges items ts (slice_set os x o) in
+    let g = grounds_of rows names ranges items ts in
+    let f = object_of g in
+    let longer : length (map f os) ≤ length (map f (slice_set os x o)) = omega (arith, length-map os f, length-map (slice_set os x o) f, length_set os x o) in
+    let e : Extends (memory_of rows names ranges items ts os) m = record {
+      lasts = record { texts = grows_none rows; names = ([], sym (append-nil names)); ranges = ([], sym (append-nil (map range_of ranges))); tuples = ([], sym (append-nil g.tuples)) };
+      objects = longer;
+    } in record {
+      tuples = tuples_lie-last (map f os) (map f (slice_set os x o)) (grounded_same rows names ranges) longer items items (same_row items) [] ts h.tuples;
+      objects = objects_set m os x o (objects_lie-extends os e h.objects) (object_lies-extends o e k);
     }
 
 -- the object at an address

@@ -8,9 +8,10 @@ use Rattle.si_arena.specs.declared.value.Ref.TheVariants as value
 use Rattle.si_arena.specs.declared.cause.Cause.{Cause}
 use Rattle.si_arena.specs.declared.cause.Cause.TheVariants as cause
 use Rattle.si_arena.specs.declared.object.Object.{Object}
-use Rattle.si_arena.specs.declared.object.Object.TheVariants.{Bare, Made, Caused}
-use Rattle.si_arena.specs.Causes.{kind_of, message_of, not_defined, not_bound, name_at, CauseLies}
+use Rattle.si_arena.specs.declared.object.Object.TheVariants.{Bare, Made, Caused, Thread, Started}
+use Rattle.si_arena.specs.Causes.{kind_of, message_of, not_defined, not_bound, no_attribute, name_at, CauseLies}
 use Rattle.si_arena.specs.Memory.{Holds, bound_of, Memory, value_of, all_of, object_of, Lies, AllLie, ObjectLies, ObjectsLie, Lasts, Extends, IsMade, IsNamed}
+use Rattle.si_arena.specs.Texts.{IsText, TextLies}
 use Rattle.si_arena.proofs.Rows.{text-grows, text_lies-grows, grows_none}
 
 -- ---- an arena goes on
@@ -57,6 +58,10 @@ value-lasts {old = old} {new = new} (value.Function n x) e h =
 value-lasts {old = old} {new = new} (value.Range p) e h = ap (λ xs. get_or xs p pure.Nothing) e.ranges.1 ∙ get_or_append_left old.ranges e.ranges.0 pure.Nothing p h
 value-lasts {old = old} {new = new} (value.Tuple p) e h = ap (λ xs. get_or xs p pure.Nothing) e.tuples.1 ∙ get_or_append_left old.tuples e.tuples.0 pure.Nothing p h
 value-lasts (value.Kind k) e h = refl
+value-lasts (value.Module mo) e h = refl
+value-lasts (value.Queue qu qm) e h = refl
+value-lasts (value.Interpreter it) e h = refl
+value-lasts (value.Exec it) e h = refl
 value-lasts (value.Object x) e h = refl
 
 -- a value lies where it did
@@ -75,6 +80,10 @@ lies-extends {old = old} {new = new} (value.Function n x) e h = omega (arith, h,
 lies-extends {old = old} {new = new} (value.Range p) e h = omega (arith, h, ap length e.lasts.ranges.1, length-append old.ranges e.lasts.ranges.0)
 lies-extends {old = old} {new = new} (value.Tuple p) e h = omega (arith, h, ap length e.lasts.tuples.1, length-append old.tuples e.lasts.tuples.0)
 lies-extends (value.Kind k) e h = h
+lies-extends (value.Module mo) e h = h
+lies-extends (value.Queue qu qm) e h = h
+lies-extends (value.Interpreter it) e h = h
+lies-extends (value.Exec it) e h = h
 lies-extends {old = old} {new = new} (value.Object x) e h = omega (arith, h, e.objects)
 
 -- what is at a name is what it was
@@ -93,6 +102,10 @@ bound-lasts (value.Function n x) e h = ap (λ v. Some v) (value-lasts (value.Fun
 bound-lasts (value.Range p) e h = ap (λ v. Some v) (value-lasts (value.Range p) e h)
 bound-lasts (value.Tuple p) e h = ap (λ v. Some v) (value-lasts (value.Tuple p) e h)
 bound-lasts (value.Kind k) e h = refl
+bound-lasts (value.Module mo) e h = refl
+bound-lasts (value.Queue qu qm) e h = refl
+bound-lasts (value.Interpreter it) e h = refl
+bound-lasts (value.Exec it) e h = refl
 bound-lasts (value.Object x) e h = refl
 
 pub holds-extends : {old new : Memory} (r : Ref) → Extends old new → Holds old r → Holds new r
@@ -110,6 +123,10 @@ holds-extends (value.Function n x) e h = lies-extends (value.Function n x) e h
 holds-extends (value.Range p) e h = lies-extends (value.Range p) e h
 holds-extends (value.Tuple p) e h = lies-extends (value.Tuple p) e h
 holds-extends (value.Kind k) e h = h
+holds-extends (value.Module mo) e h = h
+holds-extends (value.Queue qu qm) e h = h
+holds-extends (value.Interpreter it) e h = h
+holds-extends (value.Exec it) e h = h
 holds-extends (value.Object x) e h = lies-extends (value.Object x) e h
 
 -- values denote what they did, and lie where they did
@@ -122,6 +139,28 @@ all_lie-extends [] e h = h
 all_lie-extends (r ∷ rs) e h = (lies-extends r e h.0, all_lie-extends rs e h.1)
 
 -- ---- objects
+
+-- a str lies where its characters do
+pub text_lies : (m : Memory) (r : Ref) → Lies m r → IsText r → TextLies m.texts r
+text_lies m value.Unbound h i = absurd i
+text_lies m value.None h i = absurd i
+text_lies m (value.Truth b) h i = absurd i
+text_lies m (value.Int n) h i = absurd i
+text_lies m (value.Short s) h i = tt
+text_lies m (value.Narrow n k) h i = h
+text_lies m (value.Wide n k) h i = h
+text_lies m (value.ShortBytes s) h i = absurd i
+text_lies m (value.Bytes n k) h i = absurd i
+text_lies m (value.BuiltIn b) h i = absurd i
+text_lies m (value.Function n x) h i = absurd i
+text_lies m (value.Range p) h i = absurd i
+text_lies m (value.Tuple p) h i = absurd i
+text_lies m (value.Kind k) h i = absurd i
+text_lies m (value.Module mo) h i = absurd i
+text_lies m (value.Queue qu qm) h i = absurd i
+text_lies m (value.Interpreter it) h i = absurd i
+text_lies m (value.Exec it) h i = absurd i
+text_lies m (value.Object x) h i = absurd i
 
 cause_name : (old more : List pure.Text) (n : ℕ) → n < length old → name_at (old ++ more) n ≡ name_at old n
 cause_name old more n h = get_or_append_left old more [] n h
@@ -137,6 +176,8 @@ cause-lasts old more cause.NoneActive h = refl
 cause-lasts old more cause.Outside h = refl
 cause-lasts old more (cause.NotDefined n) h = ap not_defined (cause_name old more n h)
 cause-lasts old more (cause.NotBound n) h = ap not_bound (cause_name old more n h)
+cause-lasts old more (cause.NoAttribute n) h = ap no_attribute (cause_name old more n h)
+cause-lasts old more (cause.Refused r) h = refl
 
 cause_lies-more : (old new : List pure.Text) (c : Cause) → length old ≤ length new → CauseLies old c → CauseLies new c
 cause_lies-more old new (cause.Arithmetic k) l h = h
@@ -149,17 +190,23 @@ cause_lies-more old new cause.NoneActive l h = h
 cause_lies-more old new cause.Outside l h = h
 cause_lies-more old new (cause.NotDefined n) l h = omega (arith, l, h)
 cause_lies-more old new (cause.NotBound n) l h = omega (arith, l, h)
+cause_lies-more old new (cause.NoAttribute n) l h = omega (arith, l, h)
+cause_lies-more old new (cause.Refused r) l h = h
 
 -- an object is what it was
 pub object-lasts : {old new : Memory} (o : Object) → Lasts old new → ObjectLies old o → object_of new o ≡ object_of old o
 object-lasts (Bare k) e h = refl
 object-lasts (Made k r) e h = ap (λ v. pure.Exception k (Some v)) (value-lasts r e h)
+object-lasts {old = old} {new = new} (Thread i r) e h = ap (λ t. pure.Thread i t) (text-grows old.texts new.texts r e.texts (text_lies old r h.0 h.1))
+object-lasts (Started r) e h = refl
 object-lasts {old = old} {new = new} (Caused c) e h =
     ap (λ t. pure.Exception (kind_of c) (Some (pure.Str t))) (ap (λ xs. message_of xs c) e.names.1 ∙ cause-lasts old.names e.names.0 c h)
 
 pub object_lies-extends : {old new : Memory} (o : Object) → Extends old new → ObjectLies old o → ObjectLies new o
 object_lies-extends (Bare k) e h = h
 object_lies-extends (Made k r) e h = lies-extends r e h
+object_lies-extends (Thread i r) e h = (lies-extends r e h.0, h.1)
+object_lies-extends (Started r) e h = h
 object_lies-extends {old = old} {new = new} (Caused c) e h =
     cause_lies-more old.names new.names c (omega (arith, ap length e.lasts.names.1, length-append old.names e.lasts.names.0)) h
 

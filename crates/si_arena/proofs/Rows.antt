@@ -28,6 +28,10 @@ text-grows old new (value.Function n m) g h = refl
 text-grows old new (value.Range p) g h = refl
 text-grows old new (value.Tuple p) g h = refl
 text-grows old new (value.Kind k) g h = refl
+text-grows old new (value.Module mo) g h = refl
+text-grows old new (value.Queue qu qm) g h = refl
+text-grows old new (value.Interpreter it) g h = refl
+text-grows old new (value.Exec it) g h = refl
 text-grows old new (value.Object x) g h = refl
 
 pub text_lies-grows : (old new : Rows) (r : Ref) → Grows old new → TextLies old r → TextLies new r
@@ -45,6 +49,10 @@ text_lies-grows old new (value.Function n m) g h = h
 text_lies-grows old new (value.Range p) g h = h
 text_lies-grows old new (value.Tuple p) g h = h
 text_lies-grows old new (value.Kind k) g h = h
+text_lies-grows old new (value.Module mo) g h = h
+text_lies-grows old new (value.Queue qu qm) g h = h
+text_lies-grows old new (value.Interpreter it) g h = h
+text_lies-grows old new (value.Exec it) g h = h
 text_lies-grows old new (value.Object x) g h = h
 
 pub grows_none : (rows : Rows) → Grows rows rows

@@ -57,6 +57,10 @@ small m ss (value.Range p) e h =
     (r.0 ∙ ap count_of same, r.1 ∙ ap levels_of same)
 small m ss (value.Tuple p) e h = absurd (h p refl)
 small m ss (value.Kind k) e h = (refl, refl)
+small m ss (value.Module mo) e h = (refl, refl)
+small m ss (value.Queue qu qm) e h = (refl, refl)
+small m ss (value.Interpreter it) e h = (refl, refl)
+small m ss (value.Exec it) e h = (refl, refl)
 small m ss (value.Object x) e h = (refl, refl)
 
 -- ---- the limits
@@ -81,6 +85,10 @@ positive (pure.Function f k) = omega arith
 positive (pure.Range a b c) = omega arith
 positive (pure.Tuple vs) = omega arith
 positive (pure.Class k) = omega arith
+positive (pure.Module mo) = omega arith
+positive (pure.Queue qu qm) = omega arith
+positive (pure.Interpreter it) = omega arith
+positive (pure.Exec it) = omega arith
 positive (pure.Address x) = omega arith
 
 neither : (a b : Bool) → (a || b) ≡ false → a ≡ false

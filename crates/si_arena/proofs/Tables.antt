@@ -28,6 +28,10 @@ value-bare s m (value.Function n x) = refl
 value-bare s m (value.Range p) = refl
 value-bare s m (value.Tuple p) = refl
 value-bare s m (value.Kind k) = refl
+value-bare s m (value.Module mo) = refl
+value-bare s m (value.Queue qu qm) = refl
+value-bare s m (value.Interpreter it) = refl
+value-bare s m (value.Exec it) = refl
 value-bare s m (value.Object x) = refl
 
 pub all-bare : (s : List pure.Object) (m : Memory) (rs : List Ref) → all_of (record m { store = s }) rs ≡ all_of m rs

@@ -9,11 +9,11 @@ use Rattle.si_arena.specs.declared.value.Ref.{Ref}
 use Rattle.si_arena.specs.declared.value.Ref.TheVariants as value
 use Rattle.si_arena.specs.declared.object.Steps.{Steps}
 use Rattle.si_arena.specs.declared.object.Object.{Object}
-use Rattle.si_arena.specs.declared.object.Object.TheVariants.{Bare, Made, Caused}
+use Rattle.si_arena.specs.declared.object.Object.TheVariants.{Bare, Made, Caused, Thread, Started}
 use Rattle.si_arena.specs.declared.cause.Fault.{Fault}
 use Rattle.si_arena.specs.declared.cause.Fault.TheVariants.{Raises, NoMemory}
 use Rattle.si_arena.specs.declared.cause.Cause.TheVariants.{TooLong}
-use Rattle.si_arena.specs.Texts.{Rows, text_of, TextLies, Grows}
+use Rattle.si_arena.specs.Texts.{Rows, text_of, IsText, TextLies, Grows}
 use Rattle.si_arena.specs.Causes.{kind_of, message_of, name_at, CauseLies}
 
 -- the texts, the names, what the places of ranges and of tuples denote, and the objects by their addresses
@@ -56,6 +56,10 @@ value_of m (value.Function number name) = pure.Function (name_at m.names name) n
 value_of m (value.Range place) = get_or m.ranges place pure.Nothing
 value_of m (value.Tuple place) = get_or m.tuples place pure.Nothing
 value_of m (value.Kind k) = pure.Class k
+value_of m (value.Module mo) = pure.Module mo
+value_of m (value.Queue id maxsize) = pure.Queue id maxsize
+value_of m (value.Interpreter i) = pure.Interpreter i
+value_of m (value.Exec i) = pure.Exec i
 value_of m (value.Object x) = pure.Address x
 
 -- what values denote
@@ -98,12 +102,16 @@ abbrev pub object_of : Memory → Object → pure.Object
 object_of m (Bare kind) = pure.Exception kind None
 object_of m (Made kind r) = pure.Exception kind (Some (value_of m r))
 object_of m (Caused cause) = pure.Exception (kind_of cause) (Some (pure.Str (message_of m.names cause)))
+object_of m (Thread interpreter r) = pure.Thread interpreter (text_of m.texts r)
+object_of m (Started run) = pure.Started run
 
 -- what an object speaks of lies in an arena
 abbrev pub ObjectLies : Memory → Object → Type 0
 ObjectLies m (Bare kind) = Unit {0}
 ObjectLies m (Made kind r) = Lies m r
 ObjectLies m (Caused cause) = CauseLies m.names cause
+ObjectLies m (Thread interpreter r) = Lies m r × IsText r
+ObjectLies m (Started run) = Unit {0}
 
 abbrev pub ObjectsLie : Memory → List Object → Type 0
 ObjectsLie m [] = Unit {0}

@@ -20,6 +20,10 @@ value_in m (view.Function number name) = pure.Function name.now number
 value_in m (view.Range steps) = range_of steps.now
 value_in m (view.Tuple items) = pure.tuple_of (all_of m items.now)
 value_in m (view.Kind k) = pure.Class k
+value_in m (view.Module mo) = pure.Module mo
+value_in m (view.Queue id maxsize) = pure.Queue id maxsize
+value_in m (view.Interpreter i) = pure.Interpreter i
+value_in m (view.Exec i) = pure.Exec i
 value_in m (view.Object x) = pure.Address x
 
 -- what shows as a text is one, and what shows as bytes are bytes

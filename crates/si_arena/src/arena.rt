@@ -1,6 +1,6 @@
 // The arena of one interpreter.
 
-ghost use Rattle.std.specs.Prelude.{IsOk, ◌+◌, ◌≤◌, ◌≡◌, ◌<◌, ◌∷◌, [], length, slice_get, slice_index, Some, IfOk, OnErr, ◌++◌};
+ghost use Rattle.std.specs.Prelude.{IsOk, ◌+◌, ◌≤◌, ◌≡◌, ◌<◌, ◌∷◌, [], length, slice_get, slice_set, slice_index, Some, IfOk, OnErr, ◌++◌};
 ghost use Rattle.si_plain.specs.Characters.{characters_of};
 ghost use Rattle.si_semantics.specs.Value as pure;
 ghost use Rattle.si_arena.specs.Short.{FitsShort};
@@ -218,7 +218,7 @@ impl Arena {
         Ok(number)
     }
 
-    /// An exception, at the next address; unchanged where memory is refused.
+    /// An object, at the next address; unchanged where memory is refused.
     pub fn make(&mut self, object: Object) -> Result<Ref, NoMemory>
         requires { ObjectLies self.old object }
         ensures ok { IfOk result (λ r. IsMade (object_of self.old object) self.old self.new r) }
@@ -227,6 +227,15 @@ impl Arena {
         let address = self.objects.len();
         self.objects.push(object)?;
         Ok(Ref::Object(address))
+    }
+
+    /// The object at an address is a thread that was started, by its run, from now on; nothing else is changed. Takes no
+    /// memory.
+    pub fn start(&mut self, address: usize, run: u64)
+        requires { address < length self.old.store }
+        ensures { self.new ≡ record self.old { store = slice_set self.old.store address (pure.Started run) } }
+    {
+        self.objects[address] = Object::Started(run);
     }
 }
 
@@ -276,6 +285,10 @@ impl Arena {
             Ref::Range(place) => View::Range(&self.ranges[*place]),
             Ref::Tuple(place) => View::Tuple(self.tuples.items(*place)),
             Ref::Kind(kind) => View::Kind(*kind),
+            Ref::Module(name) => View::Module(*name),
+            Ref::Queue { id, maxsize } => View::Queue(*id, *maxsize),
+            Ref::Interpreter(id) => View::Interpreter(*id),
+            Ref::Exec(id) => View::Exec(*id),
             Ref::Object(address) => View::Object(*address),
         }
     }
@@ -327,7 +340,10 @@ impl Arena {
 mod tests {
     use super::*;
     use crate::characters::Characters;
+    use crate::refusal::Refusal;
+    use crate::short::Short;
     use crate::value::Ref;
+    use si_plain::Kind;
     use std::test::Fail;
 
     #[test]
@@ -409,6 +425,35 @@ mod tests {
         assert_eq!(rt; text.as_str(), "name total is not defined");
         let _value = arena.make(Object::Caused(Cause::NotBound(number)))?;
         assert_eq!(rt; arena.object(0).kind().name(), "UnboundLocalError");
+        Ok(())
+    }
+
+    #[test]
+    fn a_thread_is_started(rt: HostRuntime) -> Result<(), Fail> {
+        let mut arena = Arena::new(rt.alloc());
+        let _other = arena.make(Object::Bare(Kind::ValueError))?;
+        let _thread = arena.make(Object::Thread {
+            interpreter: 2,
+            text: Ref::Short(Short::of(b'x')),
+        })?;
+        arena.start(1, 7);
+        let started = match arena.object(1) {
+            Object::Started(run) => run == 7,
+            _ => false,
+        };
+        assert!(rt; started);
+        assert_eq!(rt; arena.object(0).kind().name(), "ValueError");
+        Ok(())
+    }
+
+    #[test]
+    fn a_refusal_says_why(rt: HostRuntime) -> Result<(), Fail> {
+        let mut arena = Arena::new(rt.alloc());
+        let number = arena.add_name("pop")?;
+        let text = arena.message(Cause::NoAttribute(number))?;
+        assert_eq!(rt; text.as_str(), "no attribute pop");
+        let text = arena.message(Cause::Refused(Refusal::QueueIsFull))?;
+        assert_eq!(rt; text.as_str(), "queue is full");
         Ok(())
     }
 }

@@ -1,8 +1,9 @@
 // Why an exception was raised, and what it says.
 
 ghost use Rattle.std.specs.Prelude.{◌≡◌, ◌++◌, IfOk, OnOk};
-ghost use Rattle.si_arena.specs.Causes.{not_defined, not_bound};
+ghost use Rattle.si_arena.specs.Causes.{not_defined, not_bound, no_attribute};
 
+use crate::refusal::Refusal;
 use si_plain::{Kind, NoMemory, Text};
 use std::alloc::Global;
 
@@ -30,6 +31,10 @@ pub enum Cause {
     NotDefined(usize),
     /// No value is bound to the local of this name (Python Language Reference 3.14, 4.2.2).
     NotBound(usize),
+    /// A value has no attribute of this name (Python Language Reference 3.14, 6.3.1).
+    NoAttribute(usize),
+    /// A call is refused by the rules of a module.
+    Refused(Refusal),
 }
 
 /// Why a call gives no value.
@@ -71,6 +76,8 @@ impl Cause {
             Cause::Outside => Kind::IndexError,
             Cause::NotDefined(_) => Kind::NameError,
             Cause::NotBound(_) => Kind::UnboundLocalError,
+            Cause::NoAttribute(_) => Kind::AttributeError,
+            Cause::Refused(refusal) => refusal.kind(),
         }
     }
 
@@ -93,6 +100,8 @@ impl Cause {
             Cause::Outside => ascii(alloc, "index out of range"),
             Cause::NotDefined(name) => name_is_not_defined(alloc, &names[name]),
             Cause::NotBound(name) => local_is_not_bound(alloc, &names[name]),
+            Cause::NoAttribute(name) => has_no_attribute(alloc, &names[name]),
+            Cause::Refused(refusal) => ascii(alloc, refusal.message()),
         }
     }
 }
@@ -112,6 +121,14 @@ fn local_is_not_bound(alloc: Global, name: &Text) -> Result<Text, NoMemory>
     let mut text = ascii(alloc, "local ")?;
     text.append(name)?;
     push_ascii(&mut text, " is not bound")?;
+    Ok(text)
+}
+
+fn has_no_attribute(alloc: Global, name: &Text) -> Result<Text, NoMemory>
+    ensures { IfOk result (λ t. t ≡ no_attribute name.now) }
+{
+    let mut text = ascii(alloc, "no attribute ")?;
+    text.append(name)?;
     Ok(text)
 }
 

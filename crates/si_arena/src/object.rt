@@ -13,7 +13,8 @@ pub struct Steps {
     pub step: i64,
 }
 
-/// An object: an exception (Python Standard Library 3.14, "Built-in Exceptions").
+/// An object: an exception (Python Standard Library 3.14, "Built-in Exceptions"), or a thread (Python Standard Library 3.14,
+/// "threading").
 #[derive(Clone, Copy, Debug)]
 pub enum Object {
     /// One without an argument, of its kind.
@@ -22,13 +23,17 @@ pub enum Object {
     Made(Kind, Ref),
     /// What an operation raised: its kind and its argument, the message, follow from the cause.
     Caused(Cause),
+    /// A thread that is to run a text, which is a str, in the interpreter of a number.
+    Thread { interpreter: u32, text: Ref },
+    /// A thread that was started, by its run.
+    Started(u64),
 }
 
 impl Object {
     ghost use Rattle.std.specs.Prelude.{◌≡◌};
     ghost use Rattle.si_arena.specs.Objects.{kind_in};
 
-    /// The kind of the exception.
+    /// The kind of the exception; of a thread BaseException.
     pub fn kind(self) -> Kind
         ensures { result ≡ kind_in self }
     {
@@ -36,6 +41,8 @@ impl Object {
             Object::Bare(kind) => kind,
             Object::Made(kind, _) => kind,
             Object::Caused(cause) => cause.kind(),
+            Object::Thread { .. } => Kind::BaseException,
+            Object::Started(_) => Kind::BaseException,
         }
     }
 }

@@ -1,7 +1,7 @@
 // Values.
 
 use crate::short::Short;
-use si_plain::Kind;
+use si_plain::{Kind, ModuleName};
 
 /// A function that is there without a definition, or a type that is called like a function (Python Standard Library
 /// 3.14, "Built-in Functions").
@@ -60,6 +60,14 @@ pub enum Ref {
     Tuple(usize),
     /// A kind of exception.
     Kind(Kind),
+    /// A module that was imported.
+    Module(ModuleName),
+    /// A queue, by its number and the most items that it may have, 0 for no bound.
+    Queue { id: u32, maxsize: u64 },
+    /// An interpreter, by its number.
+    Interpreter(u32),
+    /// The method `exec` of the interpreter of a number.
+    Exec(u32),
     /// An object, by its address.
     Object(usize),
 }

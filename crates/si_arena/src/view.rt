@@ -3,7 +3,7 @@
 use crate::characters::Characters;
 use crate::object::Steps;
 use crate::value::{BuiltIn, Ref};
-use si_plain::{Kind, Text};
+use si_plain::{Kind, ModuleName, Text};
 
 /// What a value is: case for case what the language has (Python Language Reference 3.14, 3.2).
 #[derive(Clone, Copy)]
@@ -22,6 +22,14 @@ pub enum View<'a> {
     Tuple(&'a [Ref]),
     /// A kind of exception.
     Kind(Kind),
+    /// A module that was imported.
+    Module(ModuleName),
+    /// A queue, by its number and the most items that it may have, 0 for no bound.
+    Queue(u32, u64),
+    /// An interpreter, by its number.
+    Interpreter(u32),
+    /// The method `exec` of the interpreter of a number.
+    Exec(u32),
     /// An object, by its address.
     Object(usize),
 }

@@ -39,6 +39,7 @@ mutual
   silent_stmt (tree.Define f ps b) h ls first = absurd cc
   silent_stmt (tree.Return a) h ls first = absurd cc
   silent_stmt (tree.Global xs) h ls first = refl
+  silent_stmt (tree.Import m) h ls first = absurd cc
   silent_stmt (tree.Raise a) h ls first = absurd cc
   silent_stmt (tree.Try b tree.NoClauses c) h ls first =
       let two = both (silent_suite b) (silent_suite c) h in
@@ -68,6 +69,7 @@ mutual
   silent_stmt_functions (tree.Define f ps b) h = absurd cc
   silent_stmt_functions (tree.Return a) h = absurd cc
   silent_stmt_functions (tree.Global xs) h = refl
+  silent_stmt_functions (tree.Import m) h = absurd cc
   silent_stmt_functions (tree.Raise a) h = absurd cc
   silent_stmt_functions (tree.Try b tree.NoClauses c) h =
       let two = both (silent_suite b) (silent_suite c) h in
@@ -100,7 +102,8 @@ starts_condition ls (tree.Name x) g = starts_simple ls (tree.Name x) g
 starts_condition ls (tree.Unary o a) g = starts_simple ls (tree.Unary o a) g
 starts_condition ls (tree.Binary o a b) g = starts_simple ls (tree.Binary o a b) g
 starts_condition ls (tree.Subscript a b) g = starts_simple ls (tree.Subscript a b) g
-starts_condition ls (tree.Call f args names) g = starts_simple ls (tree.Call f args names) g
+starts_condition ls (tree.Attribute a x) g = starts_simple ls (tree.Attribute a x) g
+starts_condition ls (tree.Call f x args names) g = starts_simple ls (tree.Call f x args names) g
 starts_condition ls (tree.Tuple items) g = starts_simple ls (tree.Tuple items) g
 starts_condition ls (tree.Boolean o a more) g = starts_boolean ls (early_of o g) o a more g
 starts_condition ls (tree.Compare a cs) g = starts_simple ls (tree.Compare a cs) g
@@ -151,6 +154,7 @@ mutual
   loud_stmt (tree.Define f ps b) h ls first = starts_here _ []
   loud_stmt (tree.Return a) h ls first = starts_return ls a
   loud_stmt (tree.Global xs) h ls first = absurd cc
+  loud_stmt (tree.Import m) h ls first = starts_here _ []
   loud_stmt (tree.Raise a) h ls first = starts_raise ls a
   loud_stmt (tree.Try b tree.NoClauses c) h ls first =
       let last = first + length (functions_in b ++ functions_in_clauses tree.NoClauses) in

@@ -1,7 +1,8 @@
 // The code that binds names, and unbinds them.
 ghost use Rattle.std.specs.Prelude.{◌≡◌, [], ◌∷◌, OnOk};
 ghost use Rattle.si_semantics.specs.Scope.{place_of};
-ghost use Rattle.si_semantics.specs.Value.{Function};
+ghost use Rattle.si_semantics.specs.Text.{module_name};
+ghost use Rattle.si_semantics.specs.Value.{Function, Module};
 ghost use Rattle.si_syntax.specs.Trees.{expr_of};
 ghost use Rattle.si_slots.specs.Code.{assign_code, bind_code, unbind_code};
 ghost use Rattle.si_slots.specs.Contents.{Extends, SourceResolves};
@@ -9,8 +10,8 @@ ghost use Rattle.si_slots.specs.Machine as machine;
 ghost use Rattle.si_slots.specs.Views.{Gains, locals_now, source_of, words_now};
 
 use crate::expression::{emit_expr, emit_operand};
-use si_plain::{Names, NoMemory};
-use si_slots::{CodeTable, FullInstr, Source, Target};
+use si_plain::{ModuleName, Names, NoMemory};
+use si_slots::{CodeTable, Constant, FullInstr, Source, Target};
 use si_syntax::Expr;
 
 /// A name is bound to an operand that speaks of no literal: one of the local names, or else it is global.
@@ -28,6 +29,33 @@ pub(crate) fn emit_bind(
         Some(place) => table.put(FullInstr::Copy(Target::Local(place), operand)),
         None => table.put_store(name, operand),
     }
+}
+
+// The name to which an import binds a module.
+fn name_of(which: ModuleName) -> &'static str
+    ensures { result.now ≡ module_name which }
+{
+    match which {
+        ModuleName::Threading => "threading",
+        ModuleName::Interpreters => "interpreters",
+    }
+}
+
+/// The name of a module is bound to it.
+pub(crate) fn emit_import(
+    table: &mut CodeTable,
+    locals: &Names,
+    which: ModuleName,
+) -> Result<(), NoMemory>
+    ensures ok { OnOk result (Gains table.old table.new (bind_code (module_name which) (place_of (module_name which) locals.now) (machine.Literal (Module which)) ∷ [])) }
+    ensures extends { Extends table.old table.new }
+{
+    emit_bind(
+        table,
+        locals,
+        name_of(which),
+        Source::Literal(Constant::Module(which)),
+    )
 }
 
 /// A name is bound to the function of that name and this number.

@@ -122,6 +122,7 @@ fn emit_functions_of(
         | Stmt::Continue(_)
         | Stmt::Return(_, _)
         | Stmt::Global(_, _)
+        | Stmt::Import(_, _)
         | Stmt::Raise(_) => Ok(()),
     }
 }

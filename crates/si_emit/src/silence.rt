@@ -37,6 +37,7 @@ fn is_silent_stmt(stmt: &Stmt) -> bool
         | Stmt::Continue(_)
         | Stmt::Define(_)
         | Stmt::Return(_, _)
+        | Stmt::Import(_, _)
         | Stmt::Raise(_)
         | Stmt::Finally(_) => false,
     }

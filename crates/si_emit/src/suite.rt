@@ -9,6 +9,7 @@ ghost use Rattle.si_slots.specs.Views.{Gains, locals_now};
 use crate::choosing::emit_if;
 use crate::expression::emit_expr;
 use crate::handlers::{emit_finally, emit_try};
+use crate::naming::emit_import;
 use crate::repeats::{emit_for, emit_while};
 use crate::simple::{emit_assign, emit_augment, emit_define, emit_raise, emit_return};
 use si_plain::{Names, NoMemory};
@@ -61,6 +62,7 @@ fn emit_stmt(
         Stmt::Define(function) => emit_define(table, locals, next, function.name.as_str()),
         Stmt::Return(_, value) => emit_return(table, locals, value),
         Stmt::Global(_, _) => Ok(()),
+        Stmt::Import(_, module) => emit_import(table, locals, *module),
         Stmt::Raise(value) => emit_raise(table, locals, value),
         Stmt::Try(statement) => emit_try(table, locals, next, statement),
         Stmt::Finally(statement) => emit_finally(table, locals, next, statement),

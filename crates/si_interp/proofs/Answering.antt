@@ -1,6 +1,6 @@
 -- Where an answer leads a course and its machine.
-use Rattle.std.proofs.Common.{◌≡◌, ◌≢◌, ◌∙◌, ℕ, zero, suc, ◌++◌, ◌&&◌, Bool, true, false, nat_lt, List, [], ◌∷◌, Option, Some, None, ap, ap₂, refl, sym, subst, ◌+◌, encode_utf8_all}
-use Rattle.std.specs.Prelude.{slice_get, Result, Ok, Err, OnOk, chars}
+use Rattle.std.proofs.Common.{◌≡◌, ◌∙◌, ℕ, zero, suc, ◌++◌, ◌&&◌, Bool, true, false, nat_lt, List, [], ◌∷◌, Option, Some, None, ap, ap₂, refl, sym, subst, ◌+◌, encode_utf8_all}
+use Rattle.std.specs.Prelude.{slice_get, Result, Ok, Err, OnOk, IfOk, chars}
 use Rattle.std.proofs.Common.{lit<}
 use Rattle.std.specs.Str.{IsAscii}
 use Rattle.std.proofs.lemmas.Bool.{ltb-true}
@@ -15,16 +15,21 @@ use Rattle.si_semantics.specs.Life as language
 use Rattle.si_semantics.specs.Life.{not_read}
 use Rattle.si_semantics.specs.Actions as shared
 use Rattle.si_semantics.specs.Actions.{Action, Take, End, fits}
-use Rattle.si_slots.specs.Machine.{Place, At, Calling, Taking, Ending, Closed, Stamped, stamped, Table, Compiler, Course, fetched, on, next, course}
+use Rattle.si_semantics.specs.Replies.{reply}
+use Rattle.si_methods.specs.Given as given
+use Rattle.si_slots.specs.Machine.{Target, Block, Place, At, Calling, Taking, Ending, Closed, Stamped, stamped, Table, Compiler, Course, answered, took, ended, fetched, on, next, course}
 use Rattle.si_slots.specs.Code.{compiled}
 use Rattle.si_slots.specs.Contents.{Contents, Extends, no_code}
 use Rattle.si_slots.specs.Laws.{with_answer}
-use Rattle.si_slots.specs.Running.{NeverCloses, run_at}
+use Rattle.si_slots.specs.Running.{NeverCloses, RunsFor, run_at, with_answers}
 use Rattle.si_slots.specs.Views.{table_of}
 use Rattle.si_slots.proofs.Opened.{stays_open}
-use Rattle.si_slots.proofs.Unanswered.{unanswered, still_unanswered}
 use Rattle.si_steps.specs.declared.state.State.{State as Machine}
-use Rattle.si_steps.specs.Machines.{Stands, Waits, Awaits, IsRunning, bound_to}
+use Rattle.si_steps.specs.declared.step.Step.{Step as Line}
+use Rattle.si_steps.specs.declared.step.Step.TheVariants as line
+use Rattle.si_steps.specs.Machines.{Stands, Waits, Awaits, IsRunning, IsAtRequest, Answers, bound_to, printed_of}
+use Rattle.si_steps.specs.Moments.{IsActionAt}
+use Rattle.si_steps.proofs.Along.{at_request}
 use Rattle.si_parcel.specs.Shared.{action_of, answer_of, outcome_of}
 use Rattle.si_parcel.specs.declared.action.Action.{Action as SharedAction}
 use Rattle.si_parcel.specs.declared.action.Action.TheVariants as action
@@ -34,33 +39,16 @@ use Rattle.si_parcel.specs.declared.job.Job.{Job}
 use Rattle.si_parcel.specs.declared.outcome.Outcome.{Outcome}
 use Rattle.si_reading.specs.Texts.{tree_of_text}
 use Rattle.si_reading.specs.inner.Trees.{tree_in}
+use Rattle.si_interp.specs.declared.arriving.Next.{Next}
 use Rattle.si_interp.specs.Life.{answer_in, bound, is_ascii, values_of}
 use Rattle.si_interp.specs.Meaning.{stand_of}
 use Rattle.si_interp.specs.Meaning as meaning
-use Rattle.si_interp.specs.inner.Keeps.{IsUnderWay, IsWaiting, KnowsSome, with_values}
+use Rattle.si_interp.specs.inner.Keeps.{IsUnderWay, IsWaiting, IsAwaiting, StandsBy, Leads, KnowsSome, IsEnded, HasAsked, Led, with_values}
+use Rattle.si_interp.proofs.Standing.{place_take, place_end, request_there, asked_at, handed_by, is_done, same_given}
+use Rattle.si_interp.proofs.Logs.{next_printed}
+use Rattle.si_interp.proofs.Silent.{nothing_more}
 
 -- ---- where a course stands
-
--- at Take it waits for a job
-place_take : (p : Place) → stand_of p ≡ meaning.At Take → p ≡ Taking
-place_take (At pc ts slots bs) e = cc
-place_take (Calling r g pc ts slots bs) e = elim r [ ]
-place_take Taking e = refl
-place_take (Ending o) e = cc
-place_take Closed e = cc
-
--- at an action that is the end of a run it tells that
-record IsAtEnd (p : Place) (a : Action) : Type 0 where
-  outcome : language.Outcome
-  place : p ≡ Ending outcome
-  action : a ≡ End outcome
-
-place_end : (p : Place) (a : Action) → stand_of p ≡ meaning.At a → a ≢ Take → IsAtEnd p a
-place_end (At pc ts slots bs) a e ne = cc
-place_end (Calling r g pc ts slots bs) a e ne = elim r [ ]
-place_end Taking a e ne = let same : a ≡ Take = cc in absurd (ne same)
-place_end (Ending o) a e ne = let same : a ≡ End o = cc in record { outcome = o; place = refl; action = same }
-place_end Closed a e ne = cc
 
 -- the one answer there is comes next
 next_is : (c : Course) (a : world.Answer) (p : Place) → c.place ≡ p → c.answers ≡ [] → next compiled (with_answer a c) ≡ on compiled p (a ∷ []) (with_answer a c)
@@ -89,26 +77,6 @@ not_given (answer.Ended o) h e = cc
 not_given (answer.Truth b) h e = cc
 not_given (answer.Ids l) h e = cc
 
--- the end of a run is answered by Done
-is_done : (r : shared.Answer) (o : language.Outcome) → fits r (End o) ≡ true → answer_in r ≡ world.Done
-is_done (shared.Given j) o e = cc
-is_done shared.Limit o e = refl
-is_done (shared.Created i) o e = refl
-is_done (shared.QueueMade q) o e = refl
-is_done (shared.Started r) o e = refl
-is_done shared.Done o e = refl
-is_done shared.Full o e = refl
-is_done shared.Empty o e = refl
-is_done (shared.Item p) o e = refl
-is_done (shared.Count n) o e = refl
-is_done shared.NotFound o e = refl
-is_done shared.Running o e = refl
-is_done shared.Current o e = refl
-is_done shared.Main o e = refl
-is_done (shared.Ended q) o e = refl
-is_done (shared.Truth b) o e = refl
-is_done (shared.Ids l) o e = refl
-
 -- ---- the end of a run is answered
 
 done_taken : (c : Course) (o : language.Outcome) (a : Action) (m : Machine) → c.place ≡ Ending o → IsWaiting c a m → IsWaiting (next compiled (with_answer world.Done c)) Take m
@@ -117,33 +85,72 @@ done_taken c o a m e w =
     let stands : IsWaiting there Take m = record { at = refl; answers = refl; waits = w.waits; table = w.table } in
     subst (λ (d : Course). IsWaiting d Take m) (sym (next_is c world.Done (Ending o) e w.answers)) stands
 
-end_taken : (c : Course) (a : Action) (r : shared.Answer) (m : Machine) → a ≢ Take → IsWaiting c a m → fits r a ≡ true → IsWaiting (next compiled (with_answer (answer_in r) c)) Take m
-end_taken c a r m ne w f =
-    let at = place_end c.place a w.at ne in
-    let done : answer_in r ≡ world.Done = is_done r at.outcome (subst (λ (b : Action). fits r b ≡ true) at.action f) in
-    subst (λ (x : world.Answer). IsWaiting (next compiled (with_answer x c)) Take m) (sym done) (done_taken c at.outcome a m at.place w)
-
-take_or_end : (a : SharedAction) → action_of a ≡ Take → a ≡ action.Take
-take_or_end action.Take e = refl
-take_or_end action.Create e = cc
-take_or_end (action.CreateQueue n) e = cc
-take_or_end (action.Put q p) e = cc
-take_or_end (action.PutNow q p) e = cc
-take_or_end (action.Get q) e = cc
-take_or_end (action.GetNow q) e = cc
-take_or_end (action.Size q) e = cc
-take_or_end (action.Prepare i b) e = cc
-take_or_end (action.Start i t) e = cc
-take_or_end (action.Await r) e = cc
-take_or_end (action.IsRunning i) e = cc
-take_or_end (action.Close i) e = cc
-take_or_end action.ListAll e = cc
-take_or_end (action.End o) e = cc
-
--- an action that isn't Take is the end of a run, and its answer leads back to Take
-pub ended_leads : (c : Course) (a : SharedAction) (r : Answer) (m : Machine) → (a ≡ action.Take → ⊥) → IsWaiting c (action_of a) m → fits (answer_of r) (action_of a) ≡ true
+-- the end of a run is answered, which leads back to Take
+pub end_leads : (c : Course) (a : SharedAction) (o : Outcome) (r : Answer) (m : Machine) → a ≡ action.End o → StandsBy c (action_of a) m → fits (answer_of r) (action_of a) ≡ true
     → IsWaiting (next compiled (with_answer (answer_in (answer_of r)) c)) Take m
-ended_leads c a r m ne w f = end_taken c (action_of a) (answer_of r) m (λ e. ne (take_or_end a e)) w f
+end_leads c a o r m e h f =
+    let w : IsWaiting c (End (outcome_of o)) m = subst (λ (b : SharedAction). StandsBy c (action_of b) m) e h in
+    let done : answer_in (answer_of r) ≡ world.Done = is_done (answer_of r) (outcome_of o) (subst (λ (b : SharedAction). fits (answer_of r) (action_of b) ≡ true) e f) in
+    subst (λ (x : world.Answer). IsWaiting (next compiled (with_answer x c)) Take m) (sym done) (done_taken c (outcome_of o) (End (outcome_of o)) m (place_end c.place (outcome_of o) w.at) w)
+
+-- ---- a request is answered
+
+-- a course with one answer to come
+one_to_come : (c : Course) (a : world.Answer) → c.answers ≡ [] → with_answers (a ∷ []) c ≡ with_answer a c
+one_to_come c a used = ap (λ (l : List world.Answer). with_answers (l ++ a ∷ []) c) (sym used)
+
+-- an answer prints nothing
+request_quiet : (c : Course) (a : world.Answer) (m : Machine) → IsAwaiting c m → (next compiled (with_answers (a ∷ []) c)).printed ≡ c.printed
+request_quiet c a m w =
+    let there = request_there c.place (at_request c m w.stands w.waiting) in
+    ap (λ (d : Course). (next compiled d).printed) (one_to_come c a w.stands.answers) ∙ next_printed a (language.Calls there.0) c w.stands.answers there.1
+
+replied_table : (o : world.Replied) (g : Target) (pc : ℕ) (ts : List Value) (slots : List (Option Value)) (bs : List Block) (c : Course) → (answered o g pc ts slots bs c).table ≡ c.table
+replied_table (world.Got v w) g pc ts slots bs c = refl
+replied_table (world.Failed k o w) g pc ts slots bs c = refl
+replied_table (world.Wants r w) g pc ts slots bs c = refl
+
+-- nor does it add code
+request_table : (p : Place) (a : world.Answer) (c : Course) → IsAtRequest p → (on compiled p (a ∷ []) (with_answers (a ∷ []) c)).table ≡ c.table
+request_table (At pc ts slots bs) a c h = absurd h
+request_table (Calling r g pc ts slots bs) a c h = replied_table (reply r a c.world) g pc ts slots bs (with_answers [] c)
+request_table Taking a c h = absurd h
+request_table (Ending o) a c h = absurd h
+request_table Closed a c h = absurd h
+
+-- it prints nothing
+pub replied_silent : (c : Course) (a : world.Answer) (m n : Machine) (r : Line) → IsAwaiting c m → Answers c a m n r → printed_of n ≡ printed_of m
+replied_silent c a m n line.Local w did = nothing_more (with_answers (a ∷ []) c) (next compiled (with_answers (a ∷ []) c)) m n did.printed (request_quiet c a m w)
+replied_silent c a m n line.Ended w did = did.printed
+replied_silent c a m n line.Wants w did = nothing_more (with_answers (a ∷ []) c) (next compiled (with_answers (a ∷ []) c)) m n did.printed (request_quiet c a m w)
+replied_silent c a m n line.Starved w did = did.printed
+
+-- where the machine has come
+pub replied_led : (c : Course) (a : world.Answer) (m n : Machine) (r : Line) → IsAwaiting c m → Answers c a m n r → Led (next compiled (with_answer a c)) n r
+replied_led c a m n r w did = subst (λ (d : Course). Led (next compiled d) n r) (one_to_come c a w.stands.answers) (led_at r did)
+  where
+    led_at : (k : Line) → Answers c a m n k → Led (next compiled (with_answers (a ∷ []) c)) n k
+    led_at line.Local d = record { stands = d.stands; running = d.running }
+    led_at line.Ended d = record { ended = d.ended; table = ap table_of d.table ∙ w.stands.table ∙ sym (request_table c.place a c (at_request c m w.stands w.waiting)) }
+    led_at line.Wants d = record { awaits = record { stands = d.stands; waiting = d.waiting }; action = d.action }
+    led_at line.Starved d = tt
+
+-- where its run has ended, it waits to tell that
+pub ended_waits : (c : Course) (m : Machine) (o : Outcome) → IsEnded c m → c.place ≡ Ending (outcome_of o) → IsWaiting c (End (outcome_of o)) m
+ended_waits c m o h place = record { at = ap stand_of place; answers = h.ended.answers; waits = record { idle = h.ended.idle; world = h.ended.world }; table = h.table }
+
+-- where it asks again, it stands by at that
+pub asks_by : (c : Course) (m n : Machine) (b : SharedAction) → HasAsked c m → n ≡ record m { action = None } → IsActionAt c.place (action_of b) → StandsBy c (action_of b) n
+asks_by c m n b h e asked = handed_by c (action_of b) m n h.awaits.stands h.awaits.waiting e (asked_at c.place (action_of b) asked)
+
+pub same_printed : (m n : Machine) → n ≡ record m { action = None } → printed_of n ≡ printed_of m
+same_printed m n e = ap printed_of e
+
+-- where an answer leads that is the same
+pub leads_same :
+    {E : Type 0} (c : Course) (a : SharedAction) (r : Answer) (m : Machine) (result : Result Next E) → (a ≡ action.Take → ⊥) → fits (answer_of r) (action_of a) ≡ true
+    → IfOk result (λ n. Leads (next compiled (with_answer (given.answer_in (answer_of r)) c)) m n) → IfOk result (λ n. Leads (next compiled (with_answer (answer_in (answer_of r)) c)) m n)
+leads_same c a r m result n f h = subst (λ (x : world.Answer). IfOk result (λ t. Leads (next compiled (with_answer x c)) m t)) (same_given r a n f) h
 
 -- ---- jobs
 
@@ -177,30 +184,83 @@ unread_leads c t o m w none is =
 abbrev counted : ℕ → List Stamped → Course → Course
 counted l ts c = record c { lines = l; printed = ts }
 
--- without an answer a course goes alike, whatever its counts
-on_counted : (compile : Compiler) (p : Place) (l : ℕ) (ts : List Stamped) (c : Course) → (k : ℕ) × (us : List Stamped) × (on compile p [] (counted l ts c) ≡ counted k us (on compile p [] c))
-on_counted compile (At pc vs slots bs) l ts c =
-    let line = fetched c.table.entries (slice_get c.table.lines pc) pc vs slots bs c.world in
-    (l + 1, stamped line.out (l + 1) ts, refl)
-on_counted compile (Calling r g pc vs slots bs) l ts c = (l, ts, refl)
-on_counted compile Taking l ts c = (l, ts, refl)
-on_counted compile (Ending o) l ts c = (l, ts, refl)
-on_counted compile Closed l ts c = (l, ts, refl)
+-- a course goes alike, whatever its counts
+replied_counted : (o : world.Replied) (g : Target) (pc : ℕ) (vs : List Value) (slots : List (Option Value)) (bs : List Block) (l : ℕ) (ts : List Stamped) (c : Course)
+    → answered o g pc vs slots bs (counted l ts c) ≡ counted l ts (answered o g pc vs slots bs c)
+replied_counted (world.Got v w) g pc vs slots bs l ts c = refl
+replied_counted (world.Failed k o w) g pc vs slots bs l ts c = refl
+replied_counted (world.Wants r w) g pc vs slots bs l ts c = refl
 
-course_counted : (compile : Compiler) (n l : ℕ) (ts : List Stamped) (c : Course) → c.answers ≡ [] → (course compile n (counted l ts c)).place ≡ (course compile n c).place
-course_counted compile zero l ts c used = refl
-course_counted compile (suc n) l ts c used =
-    let k = on_counted compile c.place l ts c in
-    let alike : next compile (counted l ts c) ≡ counted k.0 k.1 (next compile c) =
-    ap (λ (k : List world.Answer). on compile c.place k (counted l ts c)) used ∙ k.2 ∙ ap (counted k.0 k.1) (sym (unanswered compile c used)) in
-    ap (λ (d : Course). (course compile n d).place) alike ∙ course_counted compile n k.0 k.1 (next compile c) (still_unanswered compile c used)
+took_counted : (compile : Compiler) (a : world.Answer) (l : ℕ) (ts : List Stamped) (c : Course) → took compile a (counted l ts c) ≡ counted l ts (took compile a c)
+took_counted compile (world.Taken (world.Bind bs)) l ts c = refl
+took_counted compile (world.Taken (world.Run None)) l ts c = refl
+took_counted compile (world.Taken (world.Run (Some m))) l ts c = refl
+took_counted compile (world.Taken world.Closing) l ts c = refl
+took_counted compile world.Done l ts c = refl
+took_counted compile world.Limit l ts c = refl
+took_counted compile (world.Created i) l ts c = refl
+took_counted compile (world.QueueMade i) l ts c = refl
+took_counted compile (world.Started i) l ts c = refl
+took_counted compile world.Full l ts c = refl
+took_counted compile world.Empty l ts c = refl
+took_counted compile (world.Item v) l ts c = refl
+took_counted compile (world.Count i) l ts c = refl
+took_counted compile world.NotFound l ts c = refl
+took_counted compile world.Running l ts c = refl
+took_counted compile world.Current l ts c = refl
+took_counted compile world.Main l ts c = refl
+took_counted compile (world.Ended z) l ts c = refl
+took_counted compile (world.Truth b) l ts c = refl
+
+ended_counted : (a : world.Answer) (l : ℕ) (ts : List Stamped) (c : Course) → ended a (counted l ts c) ≡ counted l ts (ended a c)
+ended_counted world.Done l ts c = refl
+ended_counted (world.Taken j) l ts c = refl
+ended_counted world.Limit l ts c = refl
+ended_counted (world.Created i) l ts c = refl
+ended_counted (world.QueueMade i) l ts c = refl
+ended_counted (world.Started i) l ts c = refl
+ended_counted world.Full l ts c = refl
+ended_counted world.Empty l ts c = refl
+ended_counted (world.Item v) l ts c = refl
+ended_counted (world.Count i) l ts c = refl
+ended_counted world.NotFound l ts c = refl
+ended_counted world.Running l ts c = refl
+ended_counted world.Current l ts c = refl
+ended_counted world.Main l ts c = refl
+ended_counted (world.Ended z) l ts c = refl
+ended_counted (world.Truth b) l ts c = refl
+
+on_counted : (compile : Compiler) (p : Place) (answers : List world.Answer) (l : ℕ) (ts : List Stamped) (c : Course) → (k : ℕ) × (us : List Stamped) × (on compile p answers (counted l ts c) ≡ counted k us (on compile p answers c))
+on_counted compile (At pc vs slots bs) answers l ts c =
+    let one = fetched c.table.entries (slice_get c.table.lines pc) pc vs slots bs c.world in
+    (l + 1, stamped one.out (l + 1) ts, refl)
+on_counted compile (Calling r g pc vs slots bs) [] l ts c = (l, ts, refl)
+on_counted compile (Calling r g pc vs slots bs) (a ∷ more) l ts c = (l, ts, replied_counted (reply r a c.world) g pc vs slots bs l ts (with_answers more c))
+on_counted compile Taking [] l ts c = (l, ts, refl)
+on_counted compile Taking (a ∷ more) l ts c = (l, ts, took_counted compile a l ts (with_answers more c))
+on_counted compile (Ending o) [] l ts c = (l, ts, refl)
+on_counted compile (Ending o) (a ∷ more) l ts c = (l, ts, ended_counted a l ts (with_answers more c))
+on_counted compile Closed answers l ts c = (l, ts, refl)
+
+course_counted : (compile : Compiler) (n l : ℕ) (ts : List Stamped) (c : Course) → (course compile n (counted l ts c)).place ≡ (course compile n c).place
+course_counted compile zero l ts c = refl
+course_counted compile (suc n) l ts c =
+    let k = on_counted compile c.place c.answers l ts c in
+    ap (λ (d : Course). (course compile n d).place) k.2 ∙ course_counted compile n k.0 k.1 (next compile c)
+
+runs_counted : (compile : Compiler) (n l : ℕ) (ts : List Stamped) (c : Course) → RunsFor compile n (counted l ts c) → RunsFor compile n c
+runs_counted compile zero l ts c h = tt
+runs_counted compile (suc n) l ts c h =
+    let k = on_counted compile c.place c.answers l ts c in
+    (h.0, runs_counted compile n k.0 k.1 (next compile c) (subst (RunsFor compile n) k.2 h.1))
 
 stands_counted : (l : ℕ) (ts : List Stamped) (c : Course) (m : Machine) → Stands c m → Stands (counted l ts c) m
 stands_counted l ts c m h = record {
   table = h.table;
+  turn = h.turn;
   place = h.place;
   answers = h.answers;
-  never = λ compile n e. h.never compile n (sym (course_counted compile n l ts c h.answers) ∙ e);
+  never = λ compile answers n runs e. h.never compile answers n (runs_counted compile n l ts (with_answers answers c) runs) (sym (course_counted compile n l ts (with_answers answers c)) ∙ e);
   short = h.short;
 }
 

@@ -94,19 +94,19 @@ go-append (suc l) c a h =
     ap (go l) n ∙ go-append l (next compiled d) a (λ k lt. h (suc k) (omega arith))
 
 -- where it is ready at fewer lines, and at an action after them with no answer left, one answer more leads on from there
-pub go-answer : (l : ℕ) (answers : List Answer) (a : Answer) (b : language.Action) (c : Course) → ((k : ℕ) → k < l → standing_of (go k (start answers)).place ≡ None)
-    → go l (start answers) ≡ c → c.answers ≡ [] → standing_of c.place ≡ Some (Some b) → go l (start (answers ++ a ∷ [])) ≡ next compiled (with_answer a c)
-go-answer l answers a b c h e used at =
-    go-append l (start answers) a h
+pub go-answer : (own l : ℕ) (answers : List Answer) (a : Answer) (b : language.Action) (c : Course) → ((k : ℕ) → k < l → standing_of (go k (start own answers)).place ≡ None)
+    → go l (start own answers) ≡ c → c.answers ≡ [] → standing_of c.place ≡ Some (Some b) → go l (start own (answers ++ a ∷ [])) ≡ next compiled (with_answer a c)
+go-answer own l answers a b c h e used at =
+    go-append l (start own answers) a h
     ∙ ap (λ (d : Course). settled (with_answer a d)) e
     ∙ ap (λ (s : Option (Option language.Action)). settle s (c.answers ++ a ∷ []) (with_answer a c)) at
     ∙ ap (λ (k : List Answer). settle (Some (Some b)) (k ++ a ∷ []) (with_answer a c)) used
 
 -- and at fewer lines it is ready still
-pub ready-answer : (l : ℕ) (answers : List Answer) (a : Answer) → ((k : ℕ) → k < l → standing_of (go k (start answers)).place ≡ None)
-    → (k : ℕ) → k < l → standing_of (go k (start (answers ++ a ∷ []))).place ≡ None
-ready-answer l answers a h k lt =
-    let d = go k (start answers) in
-    let e : go k (start (answers ++ a ∷ [])) ≡ with_answer a d =
-    go-append k (start answers) a (λ j below. h j (omega arith)) ∙ settled-ready (with_answer a d) (h k lt) in
+pub ready-answer : (own l : ℕ) (answers : List Answer) (a : Answer) → ((k : ℕ) → k < l → standing_of (go k (start own answers)).place ≡ None)
+    → (k : ℕ) → k < l → standing_of (go k (start own (answers ++ a ∷ []))).place ≡ None
+ready-answer own l answers a h k lt =
+    let d = go k (start own answers) in
+    let e : go k (start own (answers ++ a ∷ [])) ≡ with_answer a d =
+    go-append k (start own answers) a (λ j below. h j (omega arith)) ∙ settled-ready (with_answer a d) (h k lt) in
     ap (λ (g : Course). standing_of g.place) e ∙ h k lt

@@ -1,5 +1,7 @@
 pub mod Going
 pub mod Living
 pub mod Logs
+pub mod Silent
+pub mod Standing
 pub mod Answering
 pub mod Keeping

@@ -39,8 +39,8 @@ both_begin (x ∷ xs) (y ∷ ys) a b e l =
 
 -- ---- lives
 
-abbrev told : ℕ → List Answer → Told
-told n answers = life_of n (map answer_in answers)
+abbrev told : (id n : ℕ) → List Answer → Told
+told id n answers = life_of id n (map answer_in answers)
 
 told_pieces : (t : Told) → (life_told t).pieces ≡ pieces_of t
 told_pieces (Stops a s) = refl
@@ -56,12 +56,12 @@ told_texts : (t : Told) → texts_of t ≡ map (λ (p : Piece). p.text) (life_to
 told_texts t = ap (map (λ (p : Piece). p.text)) (sym (told_pieces t))
 
 -- more turns only add to what a life prints
-more_turns : (n m : ℕ) (answers : List Answer) → n ≤ m → (more : List Piece) × ((life_told (told n answers)).pieces ++ more ≡ (life_told (told m answers)).pieces)
-more_turns n m answers le =
-    let g = (lives_grow n m (map answer_in answers) [] le).pieces in
-    let there : (state_of (life_of m (map answer_in answers ++ []))).pieces ≡ (life_told (told m answers)).pieces =
-    ap (λ (l : List world.Answer). (state_of (life_of m l)).pieces) (append-nil (map answer_in answers)) ∙ told_state (told m answers) in
-    (g.0, ap (λ (ps : List Piece). ps ++ g.0) (sym (told_state (told n answers))) ∙ sym g.1 ∙ there)
+more_turns : (id n m : ℕ) (answers : List Answer) → n ≤ m → (more : List Piece) × ((life_told (told id n answers)).pieces ++ more ≡ (life_told (told id m answers)).pieces)
+more_turns id n m answers le =
+    let g = (lives_grow id n m (map answer_in answers) [] le).pieces in
+    let there : (state_of (life_of id m (map answer_in answers ++ []))).pieces ≡ (life_told (told id m answers)).pieces =
+    ap (λ (l : List world.Answer). (state_of (life_of id m l)).pieces) (append-nil (map answer_in answers)) ∙ told_state (told id m answers) in
+    (g.0, ap (λ (ps : List Piece). ps ++ g.0) (sym (told_state (told id n answers))) ∙ sym g.1 ∙ there)
 
 -- where a life ends, and a standing at that end
 same_pair : (x y : Option language.Action × ℕ) → Some x ≡ Some y → x ≡ y
@@ -82,49 +82,49 @@ asks_as (IsCut s) b v e = cc
 
 -- ---- what is shown
 
-module _ (id : ℕ) (answers : List Answer) (c : Course) (h : slots.Shows (λ n. told n answers) c) where
+module _ (id : ℕ) (answers : List Answer) (c : Course) (h : slots.Shows (λ n. told id n answers) c) where
   abbrev text : Text
   text = language.joined (texts c.printed)
 
   -- what is printed is a beginning of the texts of a life
-  front : (n m : ℕ) → texts c.printed ≡ take m (texts_of (told n answers)) → (rest : List Text) × (texts c.printed ++ rest ≡ map (λ (p : Piece). p.text) (life_told (told n answers)).pieces)
+  front : (n m : ℕ) → texts c.printed ≡ take m (texts_of (told id n answers)) → (rest : List Text) × (texts c.printed ++ rest ≡ map (λ (p : Piece). p.text) (life_told (told id n answers)).pieces)
   front n m e =
-      let all = texts_of (told n answers) in
-      (drop m all, ap (λ (l : List Text). l ++ drop m all) e ∙ take-append-drop m all ∙ told_texts (told n answers))
+      let all = texts_of (told id n answers) in
+      (drop m all, ap (λ (l : List Text). l ++ drop m all) e ∙ take-append-drop m all ∙ told_texts (told id n answers))
 
   pub shows_beginning : IsBeginning id answers text c.lines
   unfolding life
   shows_beginning =
       let n = h.begins.0 in
       let m = h.begins.1 in
-      let ps = (life_told (told n answers)).pieces in
+      let ps = (life_told (told id n answers)).pieces in
       record {
         turns = n;
         pieces = take m ps;
         rest = drop m ps;
         whole = take-append-drop m ps;
-        text = ap language.joined (h.begins.3 ∙ ap (take m) (told_texts (told n answers)) ∙ take-map (λ (p : Piece). p.text) m ps);
+        text = ap language.joined (h.begins.3 ∙ ap (take m) (told_texts (told id n answers)) ∙ take-map (λ (p : Piece). p.text) m ps);
         few = omega (arith, length-take m ps, h.begins.2);
       }
 
-  due : (n : ℕ) (before : List Piece) (q : Piece) (after : List Piece) → (life_told (told n answers)).pieces ≡ before ++ q ∷ after → q.number * 16 ≤ c.lines
+  due : (n : ℕ) (before : List Piece) (q : Piece) (after : List Piece) → (life_told (told id n answers)).pieces ≡ before ++ q ∷ after → q.number * 16 ≤ c.lines
       → BeginsWith text (joined (before ++ q ∷ []))
   due n before q after e l =
       let k = h.begins.0 in
-      let there : slice_get (pieces_of (told n answers)) (length before) ≡ Some q =
-      ap (λ (ps : List Piece). slice_get ps (length before)) (sym (told_pieces (told n answers)) ∙ e) ∙ slice_get-seam before q after in
+      let there : slice_get (pieces_of (told id n answers)) (length before) ≡ Some q =
+      ap (λ (ps : List Piece). slice_get ps (length before)) (sym (told_pieces (told id n answers)) ∙ e) ∙ slice_get-seam before q after in
       let is : slice_get (texts c.printed) (length before) ≡ Some q.text = h.due n (length before) q there (omega arith) in
       let within : length before < length (texts c.printed) = slice_get_within (texts c.printed) (length before) q.text is in
       let mine = front k h.begins.1 h.begins.3 in
-      let up = more_turns k (n + k) answers (omega arith) in
-      let down = more_turns n (n + k) answers (omega arith) in
+      let up = more_turns id k (n + k) answers (omega arith) in
+      let down = more_turns id n (n + k) answers (omega arith) in
       let t : List Piece → List Text = λ ps. map (λ (p : Piece). p.text) ps in
-      let early : (before ++ q ∷ []) ++ (after ++ down.0) ≡ (life_told (told n answers)).pieces ++ down.0 =
+      let early : (before ++ q ∷ []) ++ (after ++ down.0) ≡ (life_told (told id n answers)).pieces ++ down.0 =
       sym (append_assoc (before ++ q ∷ []) after down.0) ∙ ap (λ (ps : List Piece). ps ++ down.0) (append_assoc before (q ∷ []) after ∙ sym e) in
       let left : texts c.printed ++ (mine.0 ++ t up.0) ≡ t (before ++ q ∷ []) ++ t (after ++ down.0) =
       sym (append_assoc (texts c.printed) mine.0 (t up.0))
       ∙ ap (λ (l : List Text). l ++ t up.0) mine.1
-      ∙ sym (map-append (λ (p : Piece). p.text) (life_told (told k answers)).pieces up.0)
+      ∙ sym (map-append (λ (p : Piece). p.text) (life_told (told id k answers)).pieces up.0)
       ∙ ap t (up.1 ∙ sym down.1 ∙ sym early)
       ∙ map-append (λ (p : Piece). p.text) (before ++ q ∷ []) (after ++ down.0) in
       let few : length (t (before ++ q ∷ [])) ≤ length (texts c.printed) =
@@ -134,7 +134,7 @@ module _ (id : ℕ) (answers : List Answer) (c : Course) (h : slots.Shows (λ n.
 
   pub shows_on_time : IsOnTime id answers text c.lines (stand_of c.place)
   unfolding life
-  shows_on_time = record { due = due; over = λ n. over_told (told n answers) (h.done n) }
+  shows_on_time = record { due = due; over = λ n. over_told (told id n answers) (h.done n) }
     where
       over_told : (t : Told) → ((a : Option language.Action) (v : ℕ) → end_of t ≡ Some (a, v) → 16 * v ≤ c.lines → (standing_of c.place ≡ Some a) × (texts c.printed ≡ texts_of t))
           → (life_told t).fate ≢ Cut → (life_told t).visits * 16 ≤ c.lines → (text ≡ joined (life_told t).pieces) × StandsAs (life_told t).fate (stand_of c.place)
@@ -151,8 +151,8 @@ module _ (id : ℕ) (answers : List Answer) (c : Course) (h : slots.Shows (λ n.
     where
       whole_at : (s : Option (Option language.Action)) → standing_of c.place ≡ s → IsWhole id answers text (stand_at s)
       whole_at None e = tt
-      whole_at (Some None) e = let g = h.stands None e in (g.0, stands_as (told g.0 answers) None g.1 g.2, whole_text (told g.0 answers) g.3)
-      whole_at (Some (Some b)) e = let g = h.stands (Some b) e in (g.0, stands_as (told g.0 answers) (Some b) g.1 g.2, whole_text (told g.0 answers) g.3)
+      whole_at (Some None) e = let g = h.stands None e in (g.0, stands_as (told id g.0 answers) None g.1 g.2, whole_text (told id g.0 answers) g.3)
+      whole_at (Some (Some b)) e = let g = h.stands (Some b) e in (g.0, stands_as (told id g.0 answers) (Some b) g.1 g.2, whole_text (told id g.0 answers) g.3)
 
   pub shows_asks : (b : language.Action) → standing_of c.place ≡ Some (Some b) → AsksAt id answers (asked b) text
   unfolding life
@@ -160,6 +160,6 @@ module _ (id : ℕ) (answers : List Answer) (c : Course) (h : slots.Shows (λ n.
       let g = h.stands (Some b) e in
       record {
         turns = g.0;
-        asks = asks_as (told g.0 answers) b g.1 g.2;
-        begins = ([], append-nil _ ∙ sym (whole_text (told g.0 answers) g.3));
+        asks = asks_as (told id g.0 answers) b g.1 g.2;
+        begins = ([], append-nil _ ∙ sym (whole_text (told id g.0 answers) g.3));
       }

@@ -2,13 +2,15 @@
 use Rattle.std.proofs.Common.{◌≡◌, ℕ, ◌+◌, ◌<◌, ◌≤◌, List, [], ◌∷◌, ◌++◌, Option, Some, None, refl, ap, sym, ◌∙◌, subst, arith, append_assoc, append-nil, add-one, below_more}
 use Rattle.std.specs.Prelude.{map, slice_get}
 use Rattle.std.proofs.lemmas.List.{map-append}
-use Rattle.si_semantics.specs.Value.{Text}
+use Rattle.si_semantics.specs.Value.{Text, Value}
 use Rattle.si_semantics.specs.Tree.{Function, functions_in}
 use Rattle.si_semantics.specs.World as world
+use Rattle.si_semantics.specs.World.{Replied, Got, Failed, Wants}
+use Rattle.si_semantics.specs.Replies.{reply}
 use Rattle.si_semantics.specs.Life as language
 use Rattle.si_semantics.specs.Life.{joined}
 use Rattle.si_semantics.specs.Actions.{Action, Take, Answer}
-use Rattle.si_slots.specs.Machine.{Place, At, Calling, Taking, Ending, Closed, Stamped, stamped, Line, Course, on, next, took, ended, start, fetched, after}
+use Rattle.si_slots.specs.Machine.{Target, Block, Place, At, Calling, Taking, Ending, Closed, Stamped, stamped, Line, Course, on, next, answered, took, ended, start, fetched, after}
 use Rattle.si_slots.specs.Code.{compiled}
 use Rattle.si_slots.specs.Correct.{Knows}
 use Rattle.si_slots.specs.Shows.{standing_of, texts}
@@ -102,14 +104,48 @@ took_is (world.Taken (world.Run (Some m))) c d l p t =
     record { lines = l; printed = p; knows = λ fs k. (fs ++ functions_in m.body, knows_more d.table fs m (subst (λ t. Knows t fs) (sym t) k)) }
 took_is (world.Taken world.Closing) c d l p t = none_read c _ l p t
 took_is world.Done c d l p t = none_read c _ l p t
+took_is world.Limit c d l p t = none_read c _ l p t
+took_is (world.Created i) c d l p t = none_read c _ l p t
+took_is (world.QueueMade i) c d l p t = none_read c _ l p t
+took_is (world.Started i) c d l p t = none_read c _ l p t
+took_is world.Full c d l p t = none_read c _ l p t
+took_is world.Empty c d l p t = none_read c _ l p t
+took_is (world.Item v) c d l p t = none_read c _ l p t
+took_is (world.Count i) c d l p t = none_read c _ l p t
+took_is world.NotFound c d l p t = none_read c _ l p t
+took_is world.Running c d l p t = none_read c _ l p t
+took_is world.Current c d l p t = none_read c _ l p t
+took_is world.Main c d l p t = none_read c _ l p t
+took_is (world.Ended z) c d l p t = none_read c _ l p t
+took_is (world.Truth b) c d l p t = none_read c _ l p t
 
 ended_is : (a : world.Answer) (c d : Course) → d.lines ≡ c.lines → d.printed ≡ c.printed → d.table ≡ c.table → IsAnswered c (ended a d)
 ended_is world.Done c d l p t = none_read c _ l p t
 ended_is (world.Taken j) c d l p t = none_read c _ l p t
+ended_is world.Limit c d l p t = none_read c _ l p t
+ended_is (world.Created i) c d l p t = none_read c _ l p t
+ended_is (world.QueueMade i) c d l p t = none_read c _ l p t
+ended_is (world.Started i) c d l p t = none_read c _ l p t
+ended_is world.Full c d l p t = none_read c _ l p t
+ended_is world.Empty c d l p t = none_read c _ l p t
+ended_is (world.Item v) c d l p t = none_read c _ l p t
+ended_is (world.Count i) c d l p t = none_read c _ l p t
+ended_is world.NotFound c d l p t = none_read c _ l p t
+ended_is world.Running c d l p t = none_read c _ l p t
+ended_is world.Current c d l p t = none_read c _ l p t
+ended_is world.Main c d l p t = none_read c _ l p t
+ended_is (world.Ended z) c d l p t = none_read c _ l p t
+ended_is (world.Truth b) c d l p t = none_read c _ l p t
+
+replied_is : (o : Replied) (g : Target) (pc : ℕ) (ts : List Value) (slots : List (Option Value)) (bs : List Block) (c d : Course) → d.lines ≡ c.lines → d.printed ≡ c.printed → d.table ≡ c.table
+    → IsAnswered c (answered o g pc ts slots bs d)
+replied_is (Got v w) g pc ts slots bs c d l p t = none_read c _ l p t
+replied_is (Failed k o w) g pc ts slots bs c d l p t = none_read c _ l p t
+replied_is (Wants r w) g pc ts slots bs c d l p t = none_read c _ l p t
 
 answered_is : (p : Place) (a : world.Answer) (b : language.Action) (c : Course) → standing_of p ≡ Some (Some b) → IsAnswered c (on compiled p (a ∷ []) (with_answer a c))
 answered_is (At pc ts slots bs) a b c e = cc
-answered_is (Calling r g pc ts slots bs) a b c e = elim r [ ]
+answered_is (Calling r g pc ts slots bs) a b c e = replied_is (reply r a c.world) g pc ts slots bs c (record c { answers = [] }) refl refl refl
 answered_is Taking a b c e = took_is a c (record c { answers = [] }) refl refl refl
 answered_is (Ending o) a b c e = ended_is a c (record c { answers = [] }) refl refl refl
 answered_is Closed a b c e = cc
@@ -124,19 +160,19 @@ next_printed a b c used e = (next_answered a b c used e).printed
 
 -- ---- the course's text and standing
 
-course_at : (id : ℕ) (rs : List Answer) (l : ℕ) (c : Course) → go l (start (map answer_in rs)) ≡ c → course_stand id rs l ≡ stand_of c.place
+course_at : (id : ℕ) (rs : List Answer) (l : ℕ) (c : Course) → go l (start id (map answer_in rs)) ≡ c → course_stand id rs l ≡ stand_of c.place
 unfolding course_stand
 course_at id rs l c e = ap (λ (d : Course). stand_of d.place) e
 
-text_at : (id : ℕ) (rs : List Answer) (l : ℕ) (c : Course) → go l (start (map answer_in rs)) ≡ c → course_text id rs l ≡ joined (texts c.printed)
+text_at : (id : ℕ) (rs : List Answer) (l : ℕ) (c : Course) → go l (start id (map answer_in rs)) ≡ c → course_text id rs l ≡ joined (texts c.printed)
 unfolding course_text
 text_at id rs l c e = ap (λ (d : Course). joined (texts d.printed)) e
 
-none_before : (id : ℕ) (rs : List Answer) (l : ℕ) → ((k : ℕ) → k < l → course_stand id rs k ≡ Ready) → (k : ℕ) → k < l → standing_of (go k (start (map answer_in rs))).place ≡ None
+none_before : (id : ℕ) (rs : List Answer) (l : ℕ) → ((k : ℕ) → k < l → course_stand id rs k ≡ Ready) → (k : ℕ) → k < l → standing_of (go k (start id (map answer_in rs))).place ≡ None
 unfolding course_stand
 none_before id rs l h k lt = ready_none _ (h k lt)
 
-ready_before : (id : ℕ) (rs : List Answer) (l : ℕ) → ((k : ℕ) → k < l → standing_of (go k (start (map answer_in rs))).place ≡ None) → (k : ℕ) → k < l → course_stand id rs k ≡ Ready
+ready_before : (id : ℕ) (rs : List Answer) (l : ℕ) → ((k : ℕ) → k < l → standing_of (go k (start id (map answer_in rs))).place ≡ None) → (k : ℕ) → k < l → course_stand id rs k ≡ Ready
 unfolding course_stand
 ready_before id rs l h k lt = ap stand_at (h k lt)
 
@@ -144,22 +180,22 @@ ready_before id rs l h k lt = ap stand_at (h k lt)
 pub course_more : (id l : ℕ) (rs : List Answer) (r : Answer) → ((k : ℕ) → k < l → course_stand id rs k ≡ Ready) → (k : ℕ) → k < l → course_stand id (rs ++ r ∷ []) k ≡ Ready
 course_more id l rs r h =
     ready_before id (rs ++ r ∷ []) l
-    (subst (λ (inputs : List world.Answer). (k : ℕ) → k < l → standing_of (go k (start inputs)).place ≡ None) (sym (map-append answer_in rs (r ∷ []))) (ready-answer l (map answer_in rs) (answer_in r) (none_before id rs l h)))
+    (subst (λ (inputs : List world.Answer). (k : ℕ) → k < l → standing_of (go k (start id inputs)).place ≡ None) (sym (map-append answer_in rs (r ∷ []))) (ready-answer id l (map answer_in rs) (answer_in r) (none_before id rs l h)))
 
 -- ---- the track
 
-pub track_first : (id : ℕ) → Track id [] 0 (start [])
-track_first id = record { after = new_is_after; ran = refl; lines = refl; asked = tt; stood = omega arith; ready = λ k lt. absurd (omega arith); functions = []; knows = tt }
+pub track_first : (id : ℕ) → Track id [] 0 (start id [])
+track_first id = record { after = new_is_after id; ran = refl; lines = refl; asked = tt; stood = omega arith; ready = λ k lt. absurd (omega arith); functions = []; knows = tt }
 
 -- one line more
 pub track_line : (id : ℕ) (log : List Logged) (l : ℕ) (c : Course) → standing_of c.place ≡ None → Track id log l c → Track id log (l + 1) (next compiled c)
 track_line id log l c e t =
     let d = next compiled c in
     let one : IsLine c d = line_is c.place c.answers c e in
-    let further = line_keeps (inputs log) c t.after in
+    let further = line_keeps id (inputs log) c t.after in
     record {
       after = further;
-      ran = rw add-one (go-more l (start (inputs log)) ∙ ap (λ (x : Course). settled (next compiled x)) t.ran ∙ settled-none d further.used);
+      ran = rw add-one (go-more l (start id (inputs log)) ∙ ap (λ (x : Course). settled (next compiled x)) t.ran ∙ settled-none d further.used);
       lines = omega (arith, one.lines, t.lines);
       asked = Asked-grown id [] log _ _ one.more t.asked;
       stood = Stood-high id [] 0 l (l + 1) log t.stood (omega arith);
@@ -181,11 +217,11 @@ track_answer id log l c b r e t =
     let inputs_more = inputs-more log x in
     let none = none_before id rs l t.ready in
     let text : joined (texts c.printed) ≡ joined (texts d.printed) = ap (λ ts. joined (texts ts)) (sym one.printed) in
-    let asks = shows_asks id rs c (after_shows (inputs log) c t.after) b e in
+    let asks = shows_asks id rs c (after_shows id (inputs log) c t.after) b e in
     let known = one.knows t.functions t.knows in
     record {
-      after = subst (λ k. IsAfter k d) (sym inputs_more) (answer_keeps (inputs log) c a b e t.after);
-      ran = ap (λ k. go l (start k)) inputs_more ∙ go-answer l (inputs log) a b c none t.ran t.after.used e;
+      after = subst (λ k. IsAfter id k d) (sym inputs_more) (answer_keeps id (inputs log) c a b e t.after);
+      ran = ap (λ k. go l (start id k)) inputs_more ∙ go-answer id l (inputs log) a b c none t.ran t.after.used e;
       lines = one.lines ∙ t.lines;
       asked = subst (Asked id [] (log ++ x ∷ [])) text (Asked-more id [] log x _ t.asked asks);
       stood = Stood-more id [] 0 l log x t.stood (omega arith) (record { here = course_at id rs l c t.ran ∙ ap stand_at e; ready = t.ready });
@@ -198,7 +234,7 @@ track_answer id log l c b r e t =
 pub shows : (id : ℕ) (log : List Logged) (l : ℕ) (c : Course) → Track id log l c → ShowsMeaning id log (joined (texts c.printed)) l (stand_of c.place)
 shows id log l c t =
     let rs = answers_of log in
-    let h = after_shows (inputs log) c t.after in
+    let h = after_shows id (inputs log) c t.after in
     record {
       begins = subst (λ n. IsBeginning id rs (joined (texts c.printed)) n) t.lines (shows_beginning id rs c h);
       asked = t.asked;

@@ -34,10 +34,10 @@ stand_of place = stand_at (standing_of place)
 
 -- The text and the standing after l lines of the machine's code under these answers.
 unfoldable pub course_text : (id : ℕ) → List Answer → (l : ℕ) → Text
-course_text id answers l = language.joined (texts (go l (start (map answer_in answers))).printed)
+course_text id answers l = language.joined (texts (go l (start id (map answer_in answers))).printed)
 
 unfoldable pub course_stand : (id : ℕ) → List Answer → (l : ℕ) → Stand
-course_stand id answers l = stand_of (go l (start (map answer_in answers))).place
+course_stand id answers l = stand_of (go l (start id (map answer_in answers))).place
 
 -- the texts of pieces, one after the other
 abbrev pub joined : List Piece → Text

@@ -1,16 +1,17 @@
 // How an interpreter comes to stand at an action.
 
-ghost use Rattle.std.specs.Prelude.{◌≡◌, ◌<◌, ◌-◌, ◌++◌, ◌∷◌, [], Some, IfOk, OnOk, vec_len, vec_capacity};
+ghost use Rattle.std.specs.Prelude.{◌≡◌, ◌<◌, ◌-◌, ◌++◌, ◌∷◌, [], Some, None, IfOk, OnOk, vec_len, vec_capacity};
 ghost use Rattle.si_parcel.specs.Shared.{outcome_of};
 ghost use Rattle.si_slots.specs.Machine.{Course, Ending};
 ghost use Rattle.si_steps.specs.Machines.{HasEnded};
-ghost use Rattle.si_interp.specs.inner.Keeps.{Arrived, EndsSo, IsKept};
+ghost use Rattle.si_steps.specs.Moments.{HasAction};
+ghost use Rattle.si_interp.specs.inner.Keeps.{Arrived, Comes, ComesSo, IsKept, Leaves};
 ghost use Rattle.si_interp.specs.declared.interp.State.TheVariants.{AtAction};
 
 use crate::interp::{Logged, State};
 use si_parcel::{Action, BoxedText, Outcome};
 use si_plain::NoMemory;
-use si_steps::{Machine, Outcome as Ended};
+use si_steps::{Machine, Outcome as Ended, Step as Line};
 use std::alloc::Global;
 
 /// Where a line or an answer leads.
@@ -20,6 +21,8 @@ pub enum Next {
     Runs,
     /// It waits for a job.
     Takes,
+    /// It asks this of what all share.
+    Asks(Action),
     /// A run has ended so.
     Ends(Outcome),
     /// It is gone.
@@ -64,6 +67,7 @@ fn keep(
 
 /// Stands where a line or an answer has led. `NoMemory` where memory was refused to keep the action at which it stands.
 pub fn arrive(
+    alloc: Global,
     next: Next,
     log: &mut Vec<Logged>,
     kept: &mut Option<Action>,
@@ -79,6 +83,11 @@ pub fn arrive(
             keep(Action::Take, Action::Take, log, kept, offered)?;
             Ok(State::AtAction)
         }
+        Next::Asks(action) => {
+            let copy = action.clone_action(alloc)?;
+            keep(action, copy, log, kept, offered)?;
+            Ok(State::AtAction)
+        }
         Next::Ends(outcome) => {
             let copy = outcome.clone_outcome()?;
             keep(Action::End(outcome), Action::End(copy), log, kept, offered)?;
@@ -87,8 +96,12 @@ pub fn arrive(
     }
 }
 
-// How the run ended that has come to its end. `NoMemory` where memory was refused.
-fn told(alloc: Global, machine: &Machine) -> Result<Outcome, NoMemory>
+/// How the run ended that has come to its end.
+///
+/// # Errors
+///
+/// `NoMemory` where memory was refused.
+pub fn told(alloc: Global, machine: &Machine) -> Result<Outcome, NoMemory>
     ghost c: { Course }
     requires { HasEnded c machine.now }
     ensures { IfOk result (λ o. c.place ≡ Ending (outcome_of o)) }
@@ -99,12 +112,10 @@ fn told(alloc: Global, machine: &Machine) -> Result<Outcome, NoMemory>
     }
 }
 
-/// Stands at the end of a run, to which the next line of this log and these lines has come; of them the contract speaks
-/// alone. `NoMemory` where memory was refused, to tell how the run ended or to keep that.
-pub fn come_to_end(
+// Stands at the end of a run. `NoMemory` where memory was refused, to tell how the run ended or to keep that.
+fn come_to_end(
     alloc: Global,
     machine: &Machine,
-    locals: u64,
     log: &mut Vec<Logged>,
     kept: &mut Option<Action>,
     offered: &mut Option<Action>,
@@ -112,9 +123,57 @@ pub fn come_to_end(
     ghost c: { Course }
     requires { HasEnded c machine.now }
     ensures log { log.new.items ≡ log.old.items }
-    ensures ok { IfOk result (λ s. EndsSo c s kept.new offered.new (vec_capacity log.new - vec_len log.new)) }
+    ensures ok { IfOk result (λ s. ComesSo c s kept.new offered.new (vec_capacity log.new - vec_len log.new)) }
 {
-    let _ = locals;
     let outcome = told(alloc, machine)?;
-    arrive(Next::Ends(outcome), log, kept, offered)
+    arrive(alloc, Next::Ends(outcome), log, kept, offered)
+}
+
+// Stands at a request, whose action is taken out of the machine. `NoMemory` where memory was refused to keep the action.
+fn come_to_request(
+    alloc: Global,
+    machine: &mut Machine,
+    log: &mut Vec<Logged>,
+    kept: &mut Option<Action>,
+    offered: &mut Option<Action>,
+) -> Result<State, NoMemory>
+    ghost c: { Course }
+    requires { HasAction c.place machine.old.action }
+    ensures rest { machine.new ≡ record machine.old { action = None } }
+    ensures log { log.new.items ≡ log.old.items }
+    ensures ok { IfOk result (λ s. ComesSo c s kept.new offered.new (vec_capacity log.new - vec_len log.new)) }
+{
+    let action = machine.take_request();
+    arrive(alloc, Next::Asks(action), log, kept, offered)
+}
+
+/// Stands at the action to which the next line of this number, log and lines has come; of these the contract speaks alone.
+///
+/// # Errors
+///
+/// `NoMemory` where memory was refused, to tell how the run ended or to keep the action.
+pub fn come_to_action(
+    alloc: Global,
+    machine: &mut Machine,
+    came: Line,
+    id: u32,
+    locals: u64,
+    log: &mut Vec<Logged>,
+    kept: &mut Option<Action>,
+    offered: &mut Option<Action>,
+) -> Result<State, NoMemory>
+    ghost c: { Course }
+    requires { Comes c machine.old came }
+    ensures rest { Leaves came machine.old machine.new }
+    ensures log { log.new.items ≡ log.old.items }
+    ensures ok { IfOk result (λ s. ComesSo c s kept.new offered.new (vec_capacity log.new - vec_len log.new)) }
+{
+    let _ = id;
+    let _ = locals;
+    match came {
+        Line::Ended => come_to_end(alloc, machine, log, kept, offered),
+        Line::Wants => come_to_request(alloc, machine, log, kept, offered),
+        Line::Local => unreachable!(),
+        Line::Starved => unreachable!(),
+    }
 }

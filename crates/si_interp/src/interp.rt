@@ -11,7 +11,7 @@ ghost use Rattle.si_interp.specs.View.{view_of, action_at, FitsStand, Answers, S
 ghost use Rattle.si_slots.specs.Machine.{Course};
 ghost use Rattle.si_interp.specs.inner.Keeps.{IsUnderWay};
 
-use crate::arriving::{arrive, come_to_end, note, put};
+use crate::arriving::{arrive, come_to_action, note, put};
 use crate::taking::answered;
 use si_parcel::{Action, Answer};
 use si_plain::NoMemory;
@@ -78,13 +78,14 @@ pub struct Interp {
     alloc: Global,
 }
 
-// One line of a machine that is at the moment of this log and these lines, of which the contract speaks alone.
+// One line of a machine that is at the moment of this number, log and lines, of which the contract speaks alone.
 #[inline(always)]
-fn line(machine: &mut Machine, log: &[Logged], locals: u64) -> Line
+fn line(machine: &mut Machine, id: u32, log: &Vec<Logged>, locals: u64) -> Line
     ghost c: { Course }
     requires { IsUnderWay c machine.old }
     ensures { Steps c machine.old machine.new result }
 {
+    let _ = id;
     let _ = log;
     let _ = locals;
     machine.step()
@@ -122,7 +123,7 @@ impl Interp {
         log.reserve(1)?;
         Ok(Interp {
             id,
-            machine: Machine::new(alloc),
+            machine: Machine::new(alloc, id),
             log,
             locals: 0,
             state: State::AtAction,
@@ -222,8 +223,9 @@ impl Interp {
         self.state = State::Starved;
     }
 
-    /// Runs one line, where it has one. With that it may come to the end of its run, at which it then stands. Where memory is
-    /// refused, also that to tell how the run ended, it stands still for good, and the line doesn't count.
+    /// Runs one line, where it has one. With that it may come to the end of its run or to a request, at which it then stands.
+    /// Where memory is refused, also that to tell how the run ended or what is asked, it stands still for good, and the line
+    /// doesn't count.
     #[inline(always)]
     pub fn step(&mut self) -> Step
         requires { self.old.locals < 2 ^ 40 }
@@ -235,7 +237,7 @@ impl Interp {
             State::Starved => Step::Starved,
             State::AtAction => Step::Asks,
             State::Gone => Step::Gone,
-            State::Ready => match line(&mut self.machine, self.log.as_slice(), self.locals) {
+            State::Ready => match line(&mut self.machine, self.id, &self.log, self.locals) {
                 Line::Local => {
                     self.locals += 1;
                     Step::Local
@@ -244,9 +246,11 @@ impl Interp {
                     self.state = State::Starved;
                     Step::Starved
                 }
-                Line::Ended => match come_to_end(
+                came => match come_to_action(
                     self.alloc,
-                    &self.machine,
+                    &mut self.machine,
+                    came,
+                    self.id,
                     self.locals,
                     &mut self.log,
                     &mut self.kept,
@@ -266,8 +270,9 @@ impl Interp {
         }
     }
 
-    /// Answers the action that it handed out, which then is the last of its log. It goes on with the job that it is given, or
-    /// waits for the next. Where memory is refused it stands still for good.
+    /// Answers the action that it handed out, which then is the last of its log. It goes on with the job that it is given, waits
+    /// for the next, or goes on with the answer to what its script asked: it runs, stands at the end of its run where an exception
+    /// has left it, or asks again. Where memory is refused it stands still for good.
     pub fn answer(&mut self, answer: Answer)
         requires taken { self.old.taken ≡ true }
         requires fits { FitsStand (answer_of answer) self.old.stand }
@@ -280,6 +285,7 @@ impl Interp {
         match answered(
             self.alloc,
             &mut self.machine,
+            self.id,
             self.log.as_slice(),
             at,
             &action,
@@ -291,7 +297,13 @@ impl Interp {
             }
             Ok(next) => {
                 note(&mut self.log, Logged { action, answer, at });
-                match arrive(next, &mut self.log, &mut self.kept, &mut self.offered) {
+                match arrive(
+                    self.alloc,
+                    next,
+                    &mut self.log,
+                    &mut self.kept,
+                    &mut self.offered,
+                ) {
                     Err(_) => self.state = State::Starved,
                     Ok(state) => self.state = state,
                 }

@@ -1,6 +1,7 @@
 // What an answer makes of an interpreter.
 
 ghost use Rattle.std.specs.Prelude.{◌≡◌, ◌∷◌, [], true, IfOk, OnOk, OnErr};
+ghost use Rattle.si_methods.specs.Given as requests;
 ghost use Rattle.si_plain.specs.declared.kind.Kind.TheVariants.{SyntaxError};
 ghost use Rattle.si_semantics.specs.World as language;
 ghost use Rattle.si_semantics.specs.World.{World};
@@ -15,9 +16,9 @@ ghost use Rattle.si_steps.specs.Machines.{Waits, printed_of};
 ghost use Rattle.si_parcel.specs.Shared.{action_of, answer_of, job_of, outcome_of};
 ghost use Rattle.si_reading.specs.Texts.{tree_of_text};
 ghost use Rattle.si_interp.specs.Life.{answer_in, job_in, values_of, is_ascii};
-ghost use Rattle.si_interp.specs.inner.Keeps.{IsUnderWay, IsWaiting, KnowsSome, Leads, with_values};
+ghost use Rattle.si_interp.specs.inner.Keeps.{IsUnderWay, IsWaiting, IsAwaiting, StandsBy, KnowsSome, Leads, Led, with_values};
 
-use crate::arriving::Next;
+use crate::arriving::{Next, told};
 use crate::interp::Logged;
 use si_emit::compile;
 use si_parcel::{Action, Answer, BoxedText, Job, Outcome, Parcel};
@@ -25,26 +26,32 @@ use si_parse::ParseFault;
 use si_plain::{Kind, NoMemory, Text};
 use si_reading::read;
 use si_scope::Scoped;
-use si_steps::Machine;
+use si_steps::{Machine, Step as Line};
 use std::alloc::{AllocError, Global};
 
-/// Where the answer to an action leads, at which a machine waits that is at the moment of this log and these lines; of them
-/// the contract speaks alone. `NoMemory` where memory was refused on the way.
+/// Where the answer to an action leads, at which a machine stands that is at the moment of this number, log and lines; of these
+/// the contract speaks alone.
+///
+/// # Errors
+///
+/// `NoMemory` where memory was refused on the way.
 pub fn answered(
     alloc: Global,
     machine: &mut Machine,
+    id: u32,
     log: &[Logged],
     locals: u64,
     action: &Action,
     answer: &Answer,
 ) -> Result<Next, NoMemory>
     ghost c: { Course }
-    requires waits { IsWaiting c (action_of action.now) machine.old }
+    requires stands { StandsBy c (action_of action.now) machine.old }
     requires knows { KnowsSome c }
     requires fits { fits (answer_of answer.now) (action_of action.now) ≡ true }
     ensures leads { IfOk result (λ n. Leads (next compiled (with_answer (answer_in (answer_of answer.now)) c)) machine.new n) }
     ensures printed { printed_of machine.new ≡ printed_of machine.old }
 {
+    let _ = id;
     let _ = log;
     let _ = locals;
     match action {
@@ -52,7 +59,35 @@ pub fn answered(
             Answer::Given(job) => take(alloc, machine, job),
             _ => unreachable!(),
         },
-        _ => Ok(Next::Takes),
+        Action::End(_) => Ok(Next::Takes),
+        _ => replied(alloc, machine, answer),
+    }
+}
+
+// Where the answer to a request leads.
+fn replied(alloc: Global, machine: &mut Machine, answer: &Answer) -> Result<Next, NoMemory>
+    ghost c: { Course }
+    requires { IsAwaiting c machine.old }
+    ensures leads { IfOk result (λ n. Leads (next compiled (with_answer (requests.answer_in (answer_of answer.now)) c)) machine.new n) }
+    ensures printed { printed_of machine.new ≡ printed_of machine.old }
+{
+    let came = machine.answer(answer);
+    led(alloc, machine, answer, came)
+}
+
+// Where this answer has led a machine; of the answer the contract speaks alone.
+fn led(alloc: Global, machine: &mut Machine, answer: &Answer, came: Line) -> Result<Next, NoMemory>
+    ghost c: { Course }
+    requires { Led c machine.old came }
+    ensures leads { IfOk result (λ n. Leads c machine.new n) }
+    ensures printed { printed_of machine.new ≡ printed_of machine.old }
+{
+    let _ = answer;
+    match came {
+        Line::Local => Ok(Next::Runs),
+        Line::Ended => Ok(Next::Ends(told(alloc, machine)?)),
+        Line::Wants => Ok(Next::Asks(machine.take_request())),
+        Line::Starved => Err(AllocError),
     }
 }
 

@@ -1,7 +1,7 @@
 // One interpreter, with a test as its host.
 
 use crate::{Interp, State, Step};
-use si_parcel::{Action, Answer, BoxedText, Job, Outcome};
+use si_parcel::{Action, Answer, BoxedText, Job, Outcome, Parcel};
 use si_plain::{Kind, Text};
 use std::alloc::{AllocError, Global};
 use std::test::Fail;
@@ -86,6 +86,80 @@ fn second_run_sees_the_names_of_the_first(rt: HostRuntime) -> Result<(), Fail> {
     Ok(())
 }
 
+// What a host answers that has one queue, whose one item is held, and one other interpreter.
+fn host_answer(
+    alloc: Global,
+    action: &Action,
+    held: &mut Option<Parcel>,
+) -> Result<Answer, AllocError> {
+    match action {
+        Action::CreateQueue(_) => Ok(Answer::QueueMade(0)),
+        Action::Put(_, parcel) => {
+            *held = Some(parcel.clone_parcel(alloc)?);
+            Ok(Answer::Done)
+        }
+        Action::Get(_) => match held.take() {
+            Some(parcel) => Ok(Answer::Item(parcel)),
+            None => Ok(Answer::Empty),
+        },
+        Action::Create => Ok(Answer::Created(1)),
+        Action::Start(_, _) => Ok(Answer::Started(4)),
+        Action::Await(_) => Ok(Answer::Ended(Outcome::Returned)),
+        _ => Ok(Answer::Done),
+    }
+}
+
+// Runs lines up to an action, and answers it as the host does, so many times.
+fn go_on_answered(
+    alloc: Global,
+    interp: &mut Interp,
+    held: &mut Option<Parcel>,
+    times: u32,
+) -> Result<(), AllocError> {
+    for _ in 0..times {
+        go_on(interp);
+        let answer = match interp.pending() {
+            Some(action) => host_answer(alloc, action, held)?,
+            None => return Ok(()),
+        };
+        give(interp, answer);
+    }
+    Ok(())
+}
+
+// Whether it stands at the end of a run that an exception of this kind has left.
+fn has_raised(interp: &Interp, wanted: Kind) -> bool {
+    matches!(interp.pending(), Some(Action::End(Outcome::Raised(kind, _))) if *kind == wanted)
+}
+
+#[test]
+fn answered_by_its_host(rt: HostRuntime) -> Result<(), Fail> {
+    let text =
+        "from concurrent import interpreters\nq = interpreters.create_queue()\nq.put(35)\nx = q.get()\ni = interpreters.create()\ni.exec('pass')\nprint(x + 7)\n";
+    let mut interp = given(rt.alloc(), text)?;
+    let mut held = None;
+    go_on_answered(rt.alloc(), &mut interp, &mut held, 6)?;
+    assert_eq!(rt; interp.state(), State::Ready);
+    assert_eq!(rt; go_on(&mut interp), Step::Asks);
+    assert!(rt; has_returned(&interp));
+    assert!(rt; interp.printed() == "42\n");
+    assert_eq!(rt; interp.log().len(), 7);
+    Ok(())
+}
+
+#[test]
+fn run_left_by_the_exception_of_an_answer(rt: HostRuntime) -> Result<(), Fail> {
+    let text = "from concurrent import interpreters\ninterpreters.create()\nprint(1)\n";
+    let mut interp = given(rt.alloc(), text)?;
+    assert_eq!(rt; go_on(&mut interp), Step::Asks);
+    let before = interp.locals();
+    assert!(rt; give(&mut interp, Answer::Limit));
+    assert_eq!(rt; interp.locals(), before);
+    assert!(rt; has_raised(&interp, Kind::InterpreterError));
+    assert!(rt; interp.printed().is_empty());
+    Ok(())
+}
+
 #[test]
 fn text_that_is_not_read_is_left_at_once(rt: HostRuntime) -> Result<(), Fail> {
     let mut interp = given(rt.alloc(), "x = = 6\n")?;
@@ -105,6 +179,19 @@ fn refused_text(rt: HostRuntime) -> Result<(), Fail> {
         interp = given(rt.alloc(), "x = 'seven' * 7\n")?;
     }
     assert_eq!(rt; interp.state(), State::Ready);
+    Ok(())
+}
+
+#[test]
+fn refused_request(rt: HostRuntime) -> Result<(), Fail> {
+    let text = "from concurrent import interpreters\ninterpreters.create_queue().put('seven')\n";
+    let mut interp = given(rt.alloc(), text)?;
+    let mut held = None;
+    go_on_answered(rt.alloc(), &mut interp, &mut held, 1)?;
+    go_on(&mut interp);
+    let is_at_put = matches!(interp.pending(), Some(Action::Put(_, _)));
+    assert!(rt; is_at_put || interp.state() == State::Starved);
+    assert!(rt; interp.printed().is_empty());
     Ok(())
 }
 

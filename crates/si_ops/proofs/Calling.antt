@@ -10,7 +10,7 @@ use Rattle.si_semantics.specs.Text.{Written, Whole, Broken, written, max_length}
 use Rattle.si_semantics.specs.Operations.{gave, text}
 use Rattle.si_arena.specs.declared.value.Ref.{Ref}
 use Rattle.si_arena.specs.declared.cause.Cause.{Cause}
-use Rattle.si_arena.specs.declared.cause.Cause.TheVariants.{Arithmetic, TooLong, WrongType, NotCallable, WrongArguments, TooDeep, NoneActive, Outside, NotDefined, NotBound}
+use Rattle.si_arena.specs.declared.cause.Cause.TheVariants.{Arithmetic, TooLong, WrongType, NotCallable, WrongArguments, TooDeep, NoneActive, Outside, NotDefined, NotBound, NoAttribute, Refused}
 use Rattle.si_arena.specs.declared.cause.Fault.{Fault}
 use Rattle.si_arena.specs.declared.cause.Fault.TheVariants.{Raises, NoMemory}
 use Rattle.si_arena.specs.Memory.{Memory, value_of, all_of, PlacesText}
@@ -100,6 +100,8 @@ text_throws o m NoneActive h = absurd h
 text_throws o m Outside h = absurd h
 text_throws o m (NotDefined s) h = absurd h
 text_throws o m (NotBound s) h = absurd h
+text_throws o m (NoAttribute s) h = absurd h
+text_throws o m (Refused s) h = absurd h
 
 -- what was not added can't be placed
 pub text_refused : {Z : Type 0} (U : Type 0) (o : List pure.Object → Written) (longest : List ℕ) (s t : String Z) (m : Memory) (fault : Fault) → Appends {U = U} (written (o m.store)) longest s t (Err fault) → Runs (λ w. text (written (o w.store)) w) m m (Err fault)

@@ -5,20 +5,16 @@ use Rattle.std.proofs.Math.IntN.{suc_ℤ-*ℤ, +ℤ_idr, zero-*ℤ, +ℤ_assoc}
 use Rattle.std.proofs.lemmas.List.{map-append}
 use Rattle.std.proofs.Math.ListN.{drop_of_length-le}
 use Rattle.si_plain.specs.declared.kind.Kind.{Kind}
-use Rattle.si_plain.specs.Kinds.{is_a}
 use Rattle.si_semantics.specs.Value as pure
-use Rattle.si_semantics.specs.Value.{Value, Int, Str, tuple_of}
+use Rattle.si_semantics.specs.Value.{Value, Truth, Int, Str, tuple_of}
 use Rattle.si_semantics.specs.World.{World}
 use Rattle.si_semantics.specs.Tuples.{characters_in, numbers_in, integers_in, copies}
-use Rattle.si_semantics.specs.Operations.{stepped, range_items, range_length, bytes_in, byte_meant, more_bytes, integer_in, is_of_one, catches, tested}
+use Rattle.si_semantics.specs.Operations.{stepped, range_items, range_length, bytes_in, byte_meant, more_bytes, integer_in, is_of, is_of_one, catches, tested, gave}
 use Rattle.si_arena.specs.declared.value.Ref.{Ref}
 use Rattle.si_arena.specs.declared.view.View.{View}
 use Rattle.si_arena.specs.declared.view.View.TheVariants as view
 use Rattle.si_arena.specs.Views.{value_in}
 use Rattle.si_arena.specs.declared.object.Object.{Object}
-use Rattle.si_arena.specs.declared.object.Object.TheVariants.{Bare, Made, Caused}
-use Rattle.si_arena.specs.Objects.{kind_in}
-use Rattle.si_arena.specs.Causes.{message_of}
 use Rattle.si_arena.specs.Memory.{Memory, value_of, all_of, object_of, AllLie}
 use Rattle.si_ops.proofs.Compared.{behind}
 use Rattle.si_ops.proofs.Providing.{values_behind}
@@ -147,20 +143,20 @@ one_of_more : (a t : Bool) (o : Option Bool) → option_map (λ b. a || b) (opti
 one_of_more a t None = refl
 one_of_more a t (Some b) = ap Some (or_assoc a t b)
 
-module _ (m : Memory) (rs : List Ref) (i : ℕ) (r : Ref) (a : Bool) (kind : Kind) (x : Option Value) (whole : Option Bool) (h : i < length rs) (e : r ≡ get_or rs i r) (k : option_map (λ b. a || b) (is_of_one (all_of m (drop i rs)) (Some (pure.Exception kind x))) ≡ whole) where
-  kind_from : option_map (λ b. a || b) (is_of_one (value_of m r ∷ all_of m (drop (i + 1) rs)) (Some (pure.Exception kind x))) ≡ whole
-  kind_from = ap (λ vs. option_map (λ b. a || b) (is_of_one vs (Some (pure.Exception kind x)))) (sym (values_behind m rs i r h e)) ∙ k
+module _ (m : Memory) (rs : List Ref) (i : ℕ) (r : Ref) (a : Bool) (o : Object) (whole : Option Bool) (h : i < length rs) (e : r ≡ get_or rs i r) (k : option_map (λ b. a || b) (is_of_one (all_of m (drop i rs)) (Some (object_of m o))) ≡ whole) where
+  kind_from : option_map (λ b. a || b) (is_of_one (value_of m r ∷ all_of m (drop (i + 1) rs)) (Some (object_of m o))) ≡ whole
+  kind_from = ap (λ vs. option_map (λ b. a || b) (is_of_one vs (Some (object_of m o)))) (sym (values_behind m rs i r h e)) ∙ k
 
-  pub kind_next : (top : Kind) → pure.Class top ≡ value_of m r → option_map (λ b. (a || is_a kind top) || b) (is_of_one (all_of m (drop (i + 1) rs)) (Some (pure.Exception kind x))) ≡ whole
+  pub kind_next : (top : Kind) → pure.Class top ≡ value_of m r → option_map (λ b. (a || is_of top (Some (object_of m o))) || b) (is_of_one (all_of m (drop (i + 1) rs)) (Some (object_of m o))) ≡ whole
   kind_next top f =
-      sym (one_of_more a (is_a kind top) (is_of_one (all_of m (drop (i + 1) rs)) (Some (pure.Exception kind x))))
-      ∙ ap (λ v. option_map (λ b. a || b) (is_of_one (v ∷ all_of m (drop (i + 1) rs)) (Some (pure.Exception kind x)))) f
+      sym (one_of_more a (is_of top (Some (object_of m o))) (is_of_one (all_of m (drop (i + 1) rs)) (Some (object_of m o))))
+      ∙ ap (λ v. option_map (λ b. a || b) (is_of_one (v ∷ all_of m (drop (i + 1) rs)) (Some (object_of m o)))) f
       ∙ kind_from
 
   pub kind_none : ((top : Kind) → value_of m r ≢ pure.Class top) → whole ≡ None
   kind_none f = sym kind_from ∙ ap (option_map (λ b. a || b)) (none_by (value_of m r) f)
     where
-      none_by : (v : Value) → ((top : Kind) → v ≢ pure.Class top) → is_of_one (v ∷ all_of m (drop (i + 1) rs)) (Some (pure.Exception kind x)) ≡ None
+      none_by : (v : Value) → ((top : Kind) → v ≢ pure.Class top) → is_of_one (v ∷ all_of m (drop (i + 1) rs)) (Some (object_of m o)) ≡ None
       none_by (pure.Class top) g = absurd (g top refl)
       none_by _ g = refl
 
@@ -173,26 +169,27 @@ pub kinds_first : (o : Option Bool) → option_map (λ b. false || b) o ≡ o
 kinds_first None = refl
 kinds_first (Some b) = refl
 
-pub kinds_end : (m : Memory) (rs : List Ref) (i : ℕ) (a : Bool) (kind : Kind) (x : Option Value) (whole : Option Bool) → length rs ≤ i → option_map (λ b. a || b) (is_of_one (all_of m (drop i rs)) (Some (pure.Exception kind x))) ≡ whole → Some a ≡ whole
-kinds_end m rs i a kind x whole h k =
-    ap Some (sym (or_false a)) ∙ ap (λ xs. option_map (λ b. a || b) (is_of_one (all_of m xs) (Some (pure.Exception kind x)))) (sym (drop_of_length-le rs h)) ∙ k
+pub kinds_end : (m : Memory) (rs : List Ref) (i : ℕ) (a : Bool) (o : Object) (whole : Option Bool) → length rs ≤ i → option_map (λ b. a || b) (is_of_one (all_of m (drop i rs)) (Some (object_of m o))) ≡ whole → Some a ≡ whole
+kinds_end m rs i a o whole h k =
+    ap Some (sym (or_false a)) ∙ ap (λ xs. option_map (λ b. a || b) (is_of_one (all_of m xs) (Some (object_of m o)))) (sym (drop_of_length-le rs h)) ∙ k
   where
     or_false : (b : Bool) → (b || false) ≡ b
     or_false true = refl
     or_false false = refl
 
--- an object is an exception of its kind
-an_exception : (m : Memory) (o : Object) → (a : Option Value) × (object_of m o ≡ pure.Exception (kind_in o) a)
-an_exception m (Bare kind) = (None, refl)
-an_exception m (Made kind r) = (Some (value_of m r), refl)
-an_exception m (Caused cause) = (Some (Str (message_of m.names cause)), refl)
-
 -- what a tuple of kinds catches
-pub caught : (m : Memory) (u : Value) (rs : List Ref) (address : ℕ) (o : Object) (kind : Kind) (r : Option Bool) (w : World) → tuple_of (all_of m rs) ≡ u → slice_get m.store address ≡ Some (object_of m o) → kind ≡ kind_in o → ((a : Option Value) → r ≡ is_of_one (all_of m rs) (Some (pure.Exception kind a))) → w.store ≡ m.store → catches u address w ≡ tested r w
-caught m u rs address o kind r w e f g h k =
-    let x = an_exception m o in
+pub caught : (m : Memory) (u : Value) (rs : List Ref) (address : ℕ) (o : Object) (r : Option Bool) (w : World) → tuple_of (all_of m rs) ≡ u → slice_get m.store address ≡ Some (object_of m o) → r ≡ is_of_one (all_of m rs) (Some (object_of m o)) → w.store ≡ m.store → catches u address w ≡ tested r w
+caught m u rs address o r w e f h k =
     ap (λ v. catches v address w) (sym e)
     ∙ ap (λ vs. tested (is_of_one vs (slice_get w.store address)) w) (items_back (all_of m rs))
     ∙ ap (λ s. tested (is_of_one (all_of m rs) (slice_get s address)) w) k
-    ∙ ap (λ p. tested (is_of_one (all_of m rs) p) w) (f ∙ ap Some (x.1 ∙ ap (λ j. pure.Exception j x.0) (sym g)))
-    ∙ ap (λ p. tested p w) (sym (h x.0))
+    ∙ ap (λ p. tested (is_of_one (all_of m rs) p) w) f
+    ∙ ap (λ p. tested p w) (sym h)
+
+-- what one kind catches
+pub caught_by : (m : Memory) (u : Value) (top : Kind) (address : ℕ) (o : Object) (b : Bool) (w : World) → pure.Class top ≡ u → slice_get m.store address ≡ Some (object_of m o) → b ≡ is_of top (Some (object_of m o)) → w.store ≡ m.store → catches u address w ≡ gave (Truth b) w
+caught_by m u top address o b w e f h k =
+    ap (λ v. catches v address w) (sym e)
+    ∙ ap (λ s. gave (Truth (is_of top (slice_get s address))) w) k
+    ∙ ap (λ p. gave (Truth (is_of top p)) w) f
+    ∙ ap (λ p. gave (Truth p) w) (sym h)

@@ -40,6 +40,10 @@ lies_text m (value.Function n x) h = tt
 lies_text m (value.Range p) h = tt
 lies_text m (value.Tuple p) h = tt
 lies_text m (value.Kind k) h = tt
+lies_text m (value.Module mo) h = tt
+lies_text m (value.Queue qu qm) h = tt
+lies_text m (value.Interpreter it) h = tt
+lies_text m (value.Exec it) h = tt
 lies_text m (value.Object x) h = tt
 
 text_kept : {old new : Memory} (r : Ref) → Extends old new → Lies old r → text_of new.texts r ≡ text_of old.texts r

@@ -26,6 +26,10 @@ text_is m (value.Function n x) h = absurd h
 text_is m (value.Range p) h = absurd h
 text_is m (value.Tuple p) h = absurd h
 text_is m (value.Kind k) h = absurd h
+text_is m (value.Module mo) h = absurd h
+text_is m (value.Queue qu qm) h = absurd h
+text_is m (value.Interpreter it) h = absurd h
+text_is m (value.Exec it) h = absurd h
 text_is m (value.Object x) h = absurd h
 
 -- the characters that are shown are those that it denotes

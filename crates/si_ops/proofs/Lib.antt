@@ -21,4 +21,5 @@ pub mod Tupled
 pub mod Providing
 pub mod Equal
 pub mod Gathered
+pub mod Raising
 pub mod RunningTuples

@@ -152,8 +152,8 @@ flip x y false e = other_is y x (λ p. differ (sym (same_self x) ∙ ap (same_te
 pub told_main : (x : Text) (r b : Bool) → r ≡ same_text x (characters_of (codes "__name__")) → r ≡ b → same_text x (codes "__name__") ≡ b
 told_main x r b f g = ap (same_text x) (sym main_characters) ∙ sym f ∙ g
 
-pub is_main : (x : Text) (v : Option Value) → same_text x (codes "__name__") ≡ true → v ≡ Some (Str (codes "__main__")) → v ≡ first_world.globals x
-is_main x v e f = f ∙ ap (λ b. cond b (Some (Str (codes "__main__"))) None) (sym (flip x (codes "__name__") true e))
+pub is_main : (own : ℕ) (x : Text) (v : Option Value) → same_text x (codes "__name__") ≡ true → v ≡ Some (Str (codes "__main__")) → v ≡ (first_world own).globals x
+is_main own x v e f = f ∙ ap (λ b. cond b (Some (Str (codes "__main__"))) None) (sym (flip x (codes "__name__") true e))
 
-pub is_none : (x : Text) → same_text x (codes "__name__") ≡ false → None ≡ first_world.globals x
-is_none x e = ap (λ b. cond b (Some (Str (codes "__main__"))) None) (sym (flip x (codes "__name__") false e))
+pub is_none : (own : ℕ) (x : Text) → same_text x (codes "__name__") ≡ false → None ≡ (first_world own).globals x
+is_none own x e = ap (λ b. cond b (Some (Str (codes "__main__"))) None) (sym (flip x (codes "__name__") false e))

@@ -7,7 +7,7 @@ use Rattle.si_plain.specs.Characters.{characters_of}
 use Rattle.si_plain.specs.declared.kind.Kind.TheVariants.{OverflowError, RecursionError}
 use Rattle.si_semantics.specs.Value.{Text}
 use Rattle.si_semantics.specs.Text.{Written, Whole, Broken, behind, followed, between, written, max_length}
-use Rattle.si_arena.specs.declared.cause.Cause.TheVariants.{Arithmetic, TooLong, WrongType, NotCallable, WrongArguments, TooDeep, NoneActive, Outside, NotDefined, NotBound}
+use Rattle.si_arena.specs.declared.cause.Cause.TheVariants.{Arithmetic, TooLong, WrongType, NotCallable, WrongArguments, TooDeep, NoneActive, Outside, NotDefined, NotBound, NoAttribute, Refused}
 use Rattle.si_arena.specs.declared.cause.Fault.{Fault}
 use Rattle.si_arena.specs.declared.cause.Fault.TheVariants.{Raises, NoMemory}
 use Rattle.si_ops.specs.Writing.{Adds, Lacks, Begins, Overruns, Puts, Writes, text_written, spelled, judged_by, max_bytes}
@@ -71,6 +71,8 @@ puts_behind V t b start x y z (Err (Raises NoneActive)) p q = q
 puts_behind V t b start x y z (Err (Raises Outside)) p q = q
 puts_behind V t b start x y z (Err (Raises (NotDefined n))) p q = q
 puts_behind V t b start x y z (Err (Raises (NotBound n))) p q = q
+puts_behind V t b start x y z (Err (Raises (NoAttribute n))) p q = q
+puts_behind V t b start x y z (Err (Raises (Refused n))) p q = q
 
 -- it was written whole, and then what follows
 pub puts_next : {Z : Type 0} (U V : Type 0) (a b : Written) (start : ℕ) (x y z : String Z) (u : U) (r : Result V Fault) → Puts {U = U} a start x y (Ok u) → Puts {U = V} b start y z r → Puts {U = V} (followed a b) start x z r
@@ -89,6 +91,8 @@ puts_ends U V a b start x y (Raises NoneActive) p = p
 puts_ends U V a b start x y (Raises Outside) p = p
 puts_ends U V a b start x y (Raises (NotDefined n)) p = p
 puts_ends U V a b start x y (Raises (NotBound n)) p = p
+puts_ends U V a b start x y (Raises (NoAttribute n)) p = p
+puts_ends U V a b start x y (Raises (Refused n)) p = p
 
 -- ---- its length
 
@@ -133,6 +137,8 @@ judged {Z = Z} w start s t long r q e p h is = subst (λ x. Writes {U = Unit {0}
     by (Err (Raises Outside)) long p h = absurd p
     by (Err (Raises (NotDefined n))) long p h = absurd p
     by (Err (Raises (NotBound n))) long p h = absurd p
+    by (Err (Raises (NoAttribute n))) long p h = absurd p
+    by (Err (Raises (Refused n))) long p h = absurd p
 
 -- what was put stands behind what was there
 pub begins_puts : {Z : Type 0} (U : Type 0) (w : Written) (start : ℕ) (s t : String Z) (r : Result U Fault) → Puts {U = U} w start s t r → Begins s t
@@ -148,6 +154,8 @@ begins_puts U w start s t (Err (Raises NoneActive)) p = absurd p
 begins_puts U w start s t (Err (Raises Outside)) p = absurd p
 begins_puts U w start s t (Err (Raises (NotDefined n))) p = absurd p
 begins_puts U w start s t (Err (Raises (NotBound n))) p = absurd p
+begins_puts U w start s t (Err (Raises (NoAttribute n))) p = absurd p
+begins_puts U w start s t (Err (Raises (Refused n))) p = absurd p
 
 -- ---- pieces and rows
 

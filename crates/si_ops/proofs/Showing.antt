@@ -7,14 +7,14 @@ use Rattle.si_plain.specs.declared.kind.Kind.{Kind}
 use Rattle.si_plain.specs.declared.kind.Kind.TheVariants as kind
 use Rattle.si_plain.specs.Kinds.{name_of}
 use Rattle.si_semantics.specs.Value as pure
-use Rattle.si_semantics.specs.Opened.{Atom, opened, opened_at}
+use Rattle.si_semantics.specs.Opened.{Atom, InThread, opened, opened_at}
 use Rattle.si_semantics.specs.Text.{Written, Whole, Broken, behind, followed, between, rest_by, items_by, tuple_end, repr_opened, repr_of, str_opened, str_exception, str_of, repr_atom, repr_text}
 use Rattle.si_arena.specs.declared.value.Ref.{Ref}
 use Rattle.si_arena.specs.declared.view.View.{View}
 use Rattle.si_arena.specs.declared.view.View.TheVariants as view
 use Rattle.si_arena.specs.declared.cause.Cause.{Cause}
 use Rattle.si_arena.specs.declared.object.Object.{Object}
-use Rattle.si_arena.specs.declared.object.Object.TheVariants.{Bare, Made, Caused}
+use Rattle.si_arena.specs.declared.object.Object.TheVariants.{Bare, Made, Caused, Thread, Started}
 use Rattle.si_arena.specs.Causes.{kind_of, message_of, CauseLies}
 use Rattle.si_arena.specs.Memory.{Memory, value_of, all_of, object_of, Lies, ObjectLies}
 use Rattle.si_arena.specs.Views.{value_in}
@@ -82,6 +82,10 @@ atomic m (view.Function n f) p q = refl
 atomic m (view.Range s) p q = refl
 atomic m (view.Tuple xs) p q = absurd (p xs refl)
 atomic m (view.Kind k) p q = refl
+atomic m (view.Module mo) p q = refl
+atomic m (view.Queue qu qm) p q = refl
+atomic m (view.Interpreter it) p q = refl
+atomic m (view.Exec it) p q = refl
 atomic m (view.Object x) p q = absurd (q x refl)
 
 pub repr_shown : (n : ℕ) (m : Memory) (v : View) (r : Ref) → ((xs : _) → v ≢ view.Tuple xs) → ((x : ℕ) → v ≢ view.Object x) → value_in m v ≡ value_of m r → repr_of n m.store (value_of m r) ≡ Whole (repr_atom (value_in m v))
@@ -174,6 +178,10 @@ unlike m (view.Function n g) f w p q = refl
 unlike m (view.Range s) f w p q = refl
 unlike m (view.Tuple xs) f w p q = refl
 unlike m (view.Kind k) f w p q = refl
+unlike m (view.Module mo) f w p q = refl
+unlike m (view.Queue qu qm) f w p q = refl
+unlike m (view.Interpreter it) f w p q = refl
+unlike m (view.Exec it) f w p q = refl
 unlike m (view.Object x) f w p q = absurd (q x refl)
 
 -- of what is shown and is neither a str nor an object it is the repr
@@ -184,13 +192,48 @@ str_is_repr (suc n) m v p q = sym (unlike m v (str_exception (repr_of n m.store)
 pub str_shown : (n : ℕ) (m : Memory) (v : View) (r : Ref) → ((s : _) → v ≢ view.Str s) → ((x : ℕ) → v ≢ view.Object x) → value_in m v ≡ value_of m r → repr_of n m.store (value_of m r) ≡ str_of n m.store (value_of m r)
 str_shown n m v r p q e = ap (repr_of n m.store) (sym e) ∙ str_is_repr n m v p q ∙ ap (str_of n m.store) e
 
--- no deeper
-none_at : (x : ℕ) (o : Option pure.Object) → str_opened (λ k a. Broken []) (repr_opened (λ opening vs closing. Broken []) (opened_at x o)) (opened_at x o) ≡ Broken []
+-- where nothing may be within an object, its str is its repr
+none_at : (x : ℕ) (o : Option pure.Object) → str_opened (λ k a. Broken []) (repr_opened (λ opening vs closing. Broken []) (opened_at x o)) (opened_at x o) ≡ repr_opened (λ opening vs closing. Broken []) (opened_at x o)
 none_at x None = refl
 none_at x (Some (pure.Exception k a)) = refl
+none_at x (Some (pure.Thread i t)) = refl
+none_at x (Some (pure.Started r)) = refl
 
-pub none_str : (n : ℕ) (store : List pure.Object) (x : ℕ) (v : pure.Value) → n ≡ 0 → pure.Address x ≡ v → str_of n store v ≡ Broken []
-none_str n store x v e h = ap (λ k. str_of k store v) e ∙ ap (str_of 0 store) (sym h) ∙ none_at x (slice_get store x)
+pub repr_bottom : (n : ℕ) (store : List pure.Object) (x : ℕ) (v : pure.Value) → n ≡ 0 → pure.Address x ≡ v → repr_of 0 store (pure.Address x) ≡ repr_of n store v
+repr_bottom n store x v e h = ap (repr_of 0 store) h ∙ ap (λ k. repr_of k store v) (sym e)
+
+pub str_bottom : (n : ℕ) (store : List pure.Object) (x : ℕ) (v : pure.Value) → n ≡ 0 → pure.Address x ≡ v → repr_of 0 store (pure.Address x) ≡ str_of n store v
+str_bottom n store x v e h = sym (none_at x (slice_get store x)) ∙ ap (str_of 0 store) h ∙ ap (λ k. str_of k store v) (sym e)
+
+-- ---- threads
+
+repr_in_thread : (n : ℕ) (store : List pure.Object) (x : ℕ) → opened store (pure.Address x) ≡ InThread x → repr_of n store (pure.Address x) ≡ Whole (codes "<Thread>")
+repr_in_thread zero store x e = ap (repr_opened (λ opening vs closing. Broken [])) e
+repr_in_thread (suc n) store x e = ap (repr_opened (λ opening vs closing. between opening (items_by (repr_of n store) vs) closing)) e
+
+str_in_thread : (n : ℕ) (store : List pure.Object) (x : ℕ) → opened store (pure.Address x) ≡ InThread x → str_of (suc n) store (pure.Address x) ≡ Whole (codes "<Thread>")
+str_in_thread n store x e =
+    ap (str_opened (str_exception (repr_of n store) (str_of n store)) (repr_of (suc n) store (pure.Address x))) e ∙ repr_in_thread (suc n) store x e
+
+pub repr_thread : (n : ℕ) (m : Memory) (x : ℕ) (o : Object) (i : ℕ) (r : Ref) → slice_get m.store x ≡ Some (object_of m o) → o ≡ Thread i r → repr_of n m.store (pure.Address x) ≡ Whole (codes "<Thread>")
+repr_thread n m x o i r at is = repr_in_thread n m.store x (opened_object m x o (Thread i r) at is)
+
+pub repr_started : (n : ℕ) (m : Memory) (x : ℕ) (o : Object) (r : ℕ) → slice_get m.store x ≡ Some (object_of m o) → o ≡ Started r → repr_of n m.store (pure.Address x) ≡ Whole (codes "<Thread>")
+repr_started n m x o r at is = repr_in_thread n m.store x (opened_object m x o (Started r) at is)
+
+pub str_thread : (n : ℕ) (m : Memory) (x : ℕ) (o : Object) (i : ℕ) (r : Ref) → slice_get m.store x ≡ Some (object_of m o) → o ≡ Thread i r → str_of (suc n) m.store (pure.Address x) ≡ Whole (codes "<Thread>")
+str_thread n m x o i r at is = str_in_thread n m.store x (opened_object m x o (Thread i r) at is)
+
+pub str_started : (n : ℕ) (m : Memory) (x : ℕ) (o : Object) (r : ℕ) → slice_get m.store x ≡ Some (object_of m o) → o ≡ Started r → str_of (suc n) m.store (pure.Address x) ≡ Whole (codes "<Thread>")
+str_started n m x o r at is = str_in_thread n m.store x (opened_object m x o (Started r) at is)
+
+-- what is no thread can't be written where nothing may be within it
+pub too_deep_at : (m : Memory) (x : ℕ) (o : Object) → slice_get m.store x ≡ Some (object_of m o) → ((i : ℕ) (r : Ref) → o ≢ Thread i r) → ((r : ℕ) → o ≢ Started r) → repr_of 0 m.store (pure.Address x) ≡ Broken []
+too_deep_at m x (Bare k) at p q = ap (repr_opened (λ opening vs closing. Broken [])) (ap (opened_at x) at)
+too_deep_at m x (Made k r) at p q = ap (repr_opened (λ opening vs closing. Broken [])) (ap (opened_at x) at)
+too_deep_at m x (Caused c) at p q = ap (repr_opened (λ opening vs closing. Broken [])) (ap (opened_at x) at)
+too_deep_at m x (Thread i r) at p q = absurd (p i r refl)
+too_deep_at m x (Started r) at p q = absurd (q r refl)
 
 -- the str of an exception that an operation raised
 caused_by : (repr str : pure.Value → Written) (k : Kind) (s : pure.Text) → repr (pure.Str s) ≡ Whole (repr_text s) → str (pure.Str s) ≡ Whole s → str_exception repr str k (Some (pure.Str s)) ≡ Whole (caused_str k s)

@@ -1,5 +1,5 @@
 -- What pieces are together, in UTF-8.
-use Rattle.std.proofs.Common.{◌≡◌, ℕ, ℤ, pos, Bool, true, false, cond, List, ◌++◌, flat_map, encode_utf8, encode_utf8_all, refl, sym, ap, ap₂, ◌∙◌, append_assoc}
+use Rattle.std.proofs.Common.{◌≡◌, ℕ, ℤ, pos, Bool, true, false, cond, List, ◌++◌, flat_map, encode_utf8, encode_utf8_all, refl, sym, ap, ap₂, ◌∙◌, append_assoc, append-nil}
 use Rattle.std.specs.Prelude.{codes}
 use Rattle.std.proofs.lemmas.Str.{encodes-append}
 use Rattle.std.proofs.lemmas.List.Concat.{flat_map-append}
@@ -11,8 +11,12 @@ use Rattle.std.specs.Str.{IsUtf8}
 use Rattle.std.proofs.lemmas.Str.{encodes_same}
 use Rattle.si_plain.specs.Characters.{characters_of}
 use Rattle.si_semantics.specs.Value.{BuiltIn, Print, MakeRange, MakeStr, Repr, Len, MakeBool, Abs, MakeInt, Ord, Chr, Min, Max, MakeBytes, MakeTuple}
-use Rattle.si_semantics.specs.Text.{decimal, repr_range, same_int, built_in_name}
-use Rattle.si_arena.specs.Causes.{not_defined, not_bound}
+use Rattle.si_plain.specs.declared.modules.ModuleName.{ModuleName}
+use Rattle.si_plain.specs.declared.modules.ModuleName.TheVariants.{Threading, Interpreters}
+use Rattle.si_semantics.specs.Text.{decimal, repr_range, same_int, built_in_name, full_name}
+use Rattle.si_arena.specs.declared.refusal.Refusal.{Refusal}
+use Rattle.si_arena.specs.declared.refusal.Refusal.TheVariants as refusal
+use Rattle.si_arena.specs.Causes.{not_defined, not_bound, no_attribute, refusal_message}
 use Rattle.si_ops.specs.Writing.{range_end, step_bytes}
 use Rattle.si_ops.proofs.Quoting.{quoted, encoded_characters}
 
@@ -60,6 +64,31 @@ unfolding lib.Utf8.encode
 class_is k s e =
     ap (λ y. codes "<class '" ++ (y ++ codes "'>")) (e ∙ name_is k) ∙ three (codes "<class '") (name_of k) (codes "'>")
     ∙ ap encode_utf8_all (sym (append_assoc (codes "<class '") (name_of k) (codes "'>")))
+
+-- the name of a module is ASCII
+full_name_is : (m : ModuleName) → full_name m ≡ encode_utf8_all (full_name m)
+unfolding lib.Utf8.encode
+full_name_is Threading = refl
+full_name_is Interpreters = refl
+
+pub module_is : (m : ModuleName) (s : List ℕ) → s ≡ full_name m → codes "<module '" ++ (s ++ codes "'>") ≡ encode_utf8_all (codes "<module '" ++ full_name m ++ codes "'>")
+unfolding lib.Utf8.encode
+module_is m s e =
+    ap (λ y. codes "<module '" ++ (y ++ codes "'>")) (e ∙ full_name_is m) ∙ three (codes "<module '") (full_name m) (codes "'>")
+    ∙ ap encode_utf8_all (sym (append_assoc (codes "<module '") (full_name m) (codes "'>")))
+
+-- numbers between two texts
+pub queue_is : (n : ℤ) → codes "Queue(" ++ (encode_utf8_all (decimal n) ++ codes ")") ≡ encode_utf8_all (codes "Queue(" ++ decimal n ++ codes ")")
+unfolding lib.Utf8.encode
+queue_is n = three (codes "Queue(") (decimal n) (codes ")") ∙ ap encode_utf8_all (sym (append_assoc (codes "Queue(") (decimal n) (codes ")")))
+
+pub interpreter_is : (n : ℤ) → codes "Interpreter(" ++ (encode_utf8_all (decimal n) ++ codes ")") ≡ encode_utf8_all (codes "Interpreter(" ++ decimal n ++ codes ")")
+unfolding lib.Utf8.encode
+interpreter_is n = three (codes "Interpreter(") (decimal n) (codes ")") ∙ ap encode_utf8_all (sym (append_assoc (codes "Interpreter(") (decimal n) (codes ")")))
+
+pub exec_is : (n : ℤ) → codes "<exec of Interpreter(" ++ (encode_utf8_all (decimal n) ++ codes ")>") ≡ encode_utf8_all (codes "<exec of Interpreter(" ++ decimal n ++ codes ")>")
+unfolding lib.Utf8.encode
+exec_is n = three (codes "<exec of Interpreter(") (decimal n) (codes ")>") ∙ ap encode_utf8_all (sym (append_assoc (codes "<exec of Interpreter(") (decimal n) (codes ")>")))
 
 -- the end of a range
 end_is : (c : ℤ) → step_bytes c ≡ encode_utf8_all (range_end c)
@@ -135,3 +164,20 @@ not_defined_is x s e = named_is (codes "name ") x (codes " is not defined") s re
 pub not_bound_is : (x s : List ℕ) → s ≡ encode_utf8_all x → codes "local " ++ (s ++ codes " is not bound") ≡ encode_utf8_all (not_bound x)
 unfolding lib.Utf8.encode
 not_bound_is x s e = named_is (codes "local ") x (codes " is not bound") s refl refl e
+
+pub no_attribute_is : (x s : List ℕ) → s ≡ encode_utf8_all x → codes "no attribute " ++ (s ++ codes "") ≡ encode_utf8_all (no_attribute x)
+unfolding lib.Utf8.encode
+no_attribute_is x s e = ap (λ y. codes "no attribute " ++ y) (append-nil s ∙ e) ∙ sym (encodes-append (codes "no attribute ") x)
+
+-- the message of a refusal is ASCII
+pub refusal_is : (r : Refusal) → refusal_message r ≡ encode_utf8_all (refusal_message r)
+unfolding lib.Utf8.encode
+refusal_is refusal.NotShareable = refl
+refusal_is refusal.AlreadyStarted = refl
+refusal_is refusal.NotStarted = refl
+refusal_is refusal.TooManyInterpreters = refl
+refusal_is refusal.TooManyQueues = refl
+refusal_is refusal.QueueIsFull = refl
+refusal_is refusal.QueueIsEmpty = refl
+refusal_is refusal.Current = refl
+refusal_is refusal.Main = refl

@@ -1,6 +1,6 @@
 // How values that are no objects are written.
 
-ghost use Rattle.std.specs.Prelude.{codes, ◌≡◌, ◌++◌, OnOk, OnErr, encode_utf8_all};
+ghost use Rattle.std.specs.Prelude.{codes, pos, ◌≡◌, ◌++◌, OnOk, OnErr, encode_utf8_all};
 ghost use Rattle.si_plain.specs.Kinds.{name_of};
 ghost use Rattle.si_semantics.specs.Text as semantics;
 ghost use Rattle.si_arena.specs.Memory.{Memory, built_in_of};
@@ -10,7 +10,7 @@ ghost use Rattle.si_ops.specs.Writing.{Adds, Lacks, step_bytes};
 use crate::pieces::{put, put_int, put_within};
 use crate::quoted::{put_bytes, put_quoted};
 use si_arena::{BuiltIn, View};
-use si_plain::{Kind, NoMemory, Text};
+use si_plain::{Kind, ModuleName, NoMemory, Text};
 
 // Adds the `repr` of what is shown; of what holds values nothing.
 pub fn put_view(out: &mut String, view: View) -> Result<(), NoMemory>
@@ -28,6 +28,10 @@ pub fn put_view(out: &mut String, view: View) -> Result<(), NoMemory>
         View::Function(_, name) => put_function(out, name),
         View::Range(steps) => put_range(out, steps.start, steps.stop, steps.step),
         View::Kind(kind) => put_class(out, kind),
+        View::Module(name) => put_module(out, name),
+        View::Queue(id, _) => put_queue(out, id),
+        View::Interpreter(id) => put_interpreter(out, id),
+        View::Exec(id) => put_exec(out, id),
         View::Tuple(_) => Ok(()),
         View::Object(_) => Ok(()),
     }
@@ -77,6 +81,58 @@ fn put_class(out: &mut String, kind: Kind) -> Result<(), NoMemory>
     ensures err { OnErr result (Lacks (encode_utf8_all (codes "<class '" ++ name_of kind ++ codes "'>")) out.old out.new) }
 {
     put_within(out, "<class '", kind.name(), "'>")
+}
+
+// Adds how a module is written.
+fn put_module(out: &mut String, name: ModuleName) -> Result<(), NoMemory>
+    ensures ok { OnOk result (Adds (encode_utf8_all (codes "<module '" ++ semantics.full_name name ++ codes "'>")) out.old out.new) }
+    ensures err { OnErr result (Lacks (encode_utf8_all (codes "<module '" ++ semantics.full_name name ++ codes "'>")) out.old out.new) }
+{
+    put_within(out, "<module '", full_name(name), "'>")
+}
+
+// The name of a module.
+fn full_name(name: ModuleName) -> &'static str
+    ensures { result.now ≡ semantics.full_name name }
+{
+    match name {
+        ModuleName::Threading => "threading",
+        ModuleName::Interpreters => "concurrent.interpreters",
+    }
+}
+
+// Adds how a queue is written, by its number.
+fn put_queue(out: &mut String, id: u32) -> Result<(), NoMemory>
+    ensures ok { OnOk result (Adds (encode_utf8_all (codes "Queue(" ++ semantics.decimal (pos id) ++ codes ")")) out.old out.new) }
+    ensures err { OnErr result (Lacks (encode_utf8_all (codes "Queue(" ++ semantics.decimal (pos id) ++ codes ")")) out.old out.new) }
+{
+    put_numbered(out, "Queue(", id, ")")
+}
+
+// Adds how an interpreter is written, by its number.
+fn put_interpreter(out: &mut String, id: u32) -> Result<(), NoMemory>
+    ensures ok { OnOk result (Adds (encode_utf8_all (codes "Interpreter(" ++ semantics.decimal (pos id) ++ codes ")")) out.old out.new) }
+    ensures err { OnErr result (Lacks (encode_utf8_all (codes "Interpreter(" ++ semantics.decimal (pos id) ++ codes ")")) out.old out.new) }
+{
+    put_numbered(out, "Interpreter(", id, ")")
+}
+
+// Adds how the method `exec` of an interpreter is written, by its number.
+fn put_exec(out: &mut String, id: u32) -> Result<(), NoMemory>
+    ensures ok { OnOk result (Adds (encode_utf8_all (codes "<exec of Interpreter(" ++ semantics.decimal (pos id) ++ codes ")>")) out.old out.new) }
+    ensures err { OnErr result (Lacks (encode_utf8_all (codes "<exec of Interpreter(" ++ semantics.decimal (pos id) ++ codes ")>")) out.old out.new) }
+{
+    put_numbered(out, "<exec of Interpreter(", id, ")>")
+}
+
+// Adds a number between two texts.
+fn put_numbered(out: &mut String, front: &str, number: u32, back: &str) -> Result<(), NoMemory>
+    ensures ok { OnOk result (Adds (front.now ++ (encode_utf8_all (semantics.decimal (pos number)) ++ back.now)) out.old out.new) }
+    ensures err { OnErr result (Lacks (front.now ++ (encode_utf8_all (semantics.decimal (pos number)) ++ back.now)) out.old out.new) }
+{
+    put(out, front)?;
+    put_int(out, i64::from(number))?;
+    put(out, back)
 }
 
 // Adds a range; its step is left out where it is 1.

@@ -13,6 +13,7 @@ use crate::ranges::is_same_range;
 use crate::refusal::Refusal;
 use crate::truth::int_of_truth;
 use si_arena::{Arena, BuiltIn, Characters, Ref, View};
+use si_plain::ModuleName;
 use si_plain::limits::MAX_NESTED;
 
 /// `x == y` (Python Language Reference 3.14, 6.10.1). Two functions have no answer, nor have tuples that are more than
@@ -83,8 +84,23 @@ fn are_equal_bare(x: View, y: View) -> Result<bool, Refusal>
         (View::Range(a), View::Range(b)) => Ok(is_same_range(a, b)),
         (View::Tuple(_), View::Tuple(_)) => Err(Refusal::TooDeep),
         (View::Kind(a), View::Kind(b)) => Ok(a.is_same(b)),
+        (View::Module(a), View::Module(b)) => Ok(is_same_module(a, b)),
+        (View::Queue(a, _), View::Queue(b, _)) => Ok(a == b),
+        (View::Interpreter(a), View::Interpreter(b)) => Ok(a == b),
+        (View::Exec(a), View::Exec(b)) => Ok(a == b),
         (View::Object(a), View::Object(b)) => Ok(a == b),
         _ => Ok(false),
+    }
+}
+
+// Whether two modules have one name.
+fn is_same_module(x: ModuleName, y: ModuleName) -> bool
+    ensures { result ≡ operations.same_module x y }
+{
+    match (x, y) {
+        (ModuleName::Threading, ModuleName::Threading) => true,
+        (ModuleName::Interpreters, ModuleName::Interpreters) => true,
+        _ => false,
     }
 }
 

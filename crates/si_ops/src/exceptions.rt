@@ -1,11 +1,12 @@
 // Which except clause catches which exception, and what `raise` raises.
 
-ghost use Rattle.std.specs.Prelude.{◌≡◌, Option, ℕ, ◌<◌, length, IsOk, IsSome, Some, IfSome, IfOk, OnErr};
+ghost use Rattle.std.specs.Prelude.{◌≡◌, Option, ℕ, ◌<◌, length, slice_get, IsOk, IsSome, Some, IfSome, IfOk, OnErr};
+ghost use Rattle.si_plain.specs.declared.kind.Kind.{Kind};
 ghost use Rattle.si_semantics.specs.Value as pure;
 ghost use Rattle.si_semantics.specs.Operations as operations;
 ghost use Rattle.si_arena.specs.declared.value.Ref.TheVariants as ref;
 ghost use Rattle.si_arena.specs.Causes.{kind_of, message_of, CauseLies};
-ghost use Rattle.si_arena.specs.Memory.{value_of, all_of, object_of, Lies, AllLie, ObjectLies, IsMade};
+ghost use Rattle.si_arena.specs.Memory.{Memory, value_of, all_of, object_of, Lies, AllLie, ObjectLies, IsMade};
 ghost use Rattle.si_ops.specs.Runs.{Decides};
 ghost use Rattle.si_ops.specs.Raised.{IsRaised};
 
@@ -20,8 +21,8 @@ pub fn catches(arena: &Arena, clause: Ref, address: usize) -> Result<bool, Cause
     ensures { Decides (λ w. operations.catches (value_of arena.now clause) address w) arena.now result }
 {
     match arena.view(&clause) {
-        View::Kind(top) => Ok(arena.object(address).kind().is_a(top)),
-        View::Tuple(kinds) => match is_of_one(arena, kinds, arena.object(address).kind()) {
+        View::Kind(top) => Ok(is_of(arena.object(address), top)),
+        View::Tuple(kinds) => match is_of_one(arena, kinds, arena.object(address)) {
             Some(truth) => Ok(truth),
             None => Err(Cause::WrongType),
         },
@@ -29,32 +30,50 @@ pub fn catches(arena: &Arena, clause: Ref, address: usize) -> Result<bool, Cause
     }
 }
 
-// Whether a kind is one of these, or under one; there is no answer where one of these is no kind.
-fn is_of_one(arena: &Arena, kinds: &[Ref], kind: Kind) -> Option<bool>
+// Whether an object is an exception of a kind, or of one under it; a thread is none.
+fn is_of(object: Object, top: Kind) -> bool
+    ensures { (m : Memory) → result ≡ operations.is_of top (Some (object_of m object)) }
+{
+    match object {
+        Object::Bare(kind) => kind.is_a(top),
+        Object::Made(kind, _) => kind.is_a(top),
+        Object::Caused(cause) => cause.kind().is_a(top),
+        Object::Thread { .. } => false,
+        Object::Started(_) => false,
+    }
+}
+
+// Whether an object is an exception of one of these kinds, or of one under it; there is no answer where one of these is
+// no kind.
+fn is_of_one(arena: &Arena, kinds: &[Ref], object: Object) -> Option<bool>
     requires { AllLie arena.now kinds.now }
-    ensures { (a : Option pure.Value) → result ≡ operations.is_of_one (all_of arena.now kinds.now) (Some (pure.Exception kind a)) }
+    ensures { result ≡ operations.is_of_one (all_of arena.now kinds.now) (Some (object_of arena.now object)) }
 {
     let mut matches = false;
     for i in 0..kinds.len() {
         let View::Kind(top) = arena.view(&kinds[i]) else {
             return None;
         };
-        matches = matches || kind.is_a(top);
+        matches = matches || is_of(object, top);
     }
     Some(matches)
 }
 
 /// The exception that `raise` with a value raises, by its address (Python Language Reference 3.14, 7.8): an exception
-/// itself, of a kind a new one without argument, and for any other value a new TypeError. Memory is asked for only where
+/// itself, of a kind a new one without argument, and for any other value, a thread too, a new TypeError. Memory is asked for only where
 /// one is made; where it is refused, the arena is as before.
 pub fn raised_by(arena: &mut Arena, value: Ref) -> Result<usize, NoMemory>
     requires { Lies arena.old value }
     ensures ok { IfOk result (λ x. IsRaised (λ w. operations.raised_by (value_of arena.old value) w) arena.old arena.new x) }
     ensures err { OnErr result (arena.new ≡ arena.old) }
-    ensures memory { (x : ℕ) → value ≡ ref.Object x → (arena.new ≡ arena.old) × IsOk result }
+    ensures memory { (x : ℕ) (k : Kind) (a : Option pure.Value) → value ≡ ref.Object x → slice_get arena.old.store x ≡ Some (pure.Exception k a) → (arena.new ≡ arena.old) × IsOk result }
 {
     match value {
-        Ref::Object(address) => Ok(address),
+        Ref::Object(address) => match arena.object(address) {
+            Object::Thread { .. } => raised_for(arena, Cause::WrongType),
+            Object::Started(_) => raised_for(arena, Cause::WrongType),
+            _ => Ok(address),
+        },
         Ref::Kind(kind) => make_at(arena, Object::Bare(kind)),
         Ref::Range(place) => {
             let _steps = arena.steps(place);

@@ -1,6 +1,6 @@
 // The names that are there from the first.
 
-ghost use Rattle.std.specs.Prelude.{◌≡◌, codes, Some, map, option_map};
+ghost use Rattle.std.specs.Prelude.{◌≡◌, ℕ, codes, Some, map, option_map};
 ghost use Rattle.si_plain.specs.Characters.{characters_of};
 ghost use Rattle.si_semantics.specs.Operations as operations;
 ghost use Rattle.si_semantics.specs.World.{first_world};
@@ -28,7 +28,7 @@ pub fn built_in(name: &str) -> Ref
 
 /// What is bound to a global name before a script binds it (Python Language Reference 3.14, 9.1): `__name__` alone is.
 pub fn first_global(name: &str) -> Ref
-    ensures value { (m : Memory) → bound_of m result ≡ first_world.globals (characters_of name.now) }
+    ensures value { (m : Memory) (own : ℕ) → bound_of m result ≡ (first_world own).globals (characters_of name.now) }
     ensures holds { (m : Memory) → Holds m result }
 {
     if is_spelled(name, "__name__") {

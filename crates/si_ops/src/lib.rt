@@ -37,6 +37,8 @@ mod ranges;
 mod refusal;
 mod shown;
 mod subscripts;
+#[cfg(test)]
+mod tests;
 mod truth;
 mod tuples;
 

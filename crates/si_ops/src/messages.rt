@@ -48,6 +48,12 @@ fn parts_of<'a>(arena: &'a Arena, cause: Cause) -> Parts<'a>
             name: arena.name(name).as_str(),
             back: " is not bound",
         },
+        Cause::NoAttribute(name) => Parts {
+            front: "no attribute ",
+            name: arena.name(name).as_str(),
+            back: "",
+        },
+        Cause::Refused(refusal) => fixed(refusal.message()),
     }
 }
 

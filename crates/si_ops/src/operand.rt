@@ -40,6 +40,10 @@ impl Operand {
             View::Range(_) => Operand::Other,
             View::Tuple(_) => Operand::Tuple,
             View::Kind(_) => Operand::Other,
+            View::Module(_) => Operand::Other,
+            View::Queue(_, _) => Operand::Other,
+            View::Interpreter(_) => Operand::Other,
+            View::Exec(_) => Operand::Other,
             View::Object(_) => Operand::Other,
         }
     }
@@ -62,6 +66,10 @@ pub fn integer_in(arena: &Arena, value: Ref) -> Result<i64, Cause>
         View::Range(_) => Err(Cause::WrongType),
         View::Tuple(_) => Err(Cause::WrongType),
         View::Kind(_) => Err(Cause::WrongType),
+        View::Module(_) => Err(Cause::WrongType),
+        View::Queue(_, _) => Err(Cause::WrongType),
+        View::Interpreter(_) => Err(Cause::WrongType),
+        View::Exec(_) => Err(Cause::WrongType),
         View::Object(_) => Err(Cause::WrongType),
     }
 }

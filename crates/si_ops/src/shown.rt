@@ -1,6 +1,6 @@
 // `str` and `repr`.
 
-ghost use Rattle.std.specs.Prelude.{codes, suc, ◌≡◌, ◌<◌, ◌+◌, ◌++◌, nat_lt, length, drop, OnOk, OnErr, string_bytes};
+ghost use Rattle.std.specs.Prelude.{codes, ℕ, suc, ◌≡◌, ◌<◌, ◌+◌, ◌++◌, nat_lt, length, drop, OnOk, OnErr, string_bytes};
 ghost use Rattle.std.specs.Str.{IsCharBoundary};
 ghost use Rattle.si_plain.specs.Characters.{characters_of};
 ghost use Rattle.si_plain.specs.Kinds.{name_of};
@@ -128,17 +128,17 @@ fn put_str(
         }
         View::Object(address) => {
             if depth == 0 {
-                return Err(Fault::Raises(Cause::TooDeep));
+                return put_bottom(out, arena, address);
             }
-            put_exception_str(out, arena, address, depth - 1, start)
+            put_object_str(out, arena, address, depth - 1, start)
         }
         _ => put_repr(out, arena, value, depth, start),
     }
 }
 
-// Adds the `str` of the exception at an address, where tuples and objects are within it at most so deep.
+// Adds the `str` of the object at an address, where tuples and objects are within it at most so deep.
 #[cycle(str)]
-fn put_exception_str(
+fn put_object_str(
     out: &mut String,
     arena: &Arena,
     address: usize,
@@ -158,6 +158,8 @@ fn put_exception_str(
             Kind::KeyError => put_repr(out, arena, argument, depth, start),
             _ => put_str(out, arena, argument, depth, start),
         },
+        Object::Thread { .. } => put_thread(out),
+        Object::Started(_) => put_thread(out),
     }
 }
 
@@ -183,9 +185,9 @@ fn put_repr(
         }
         View::Object(address) => {
             if depth == 0 {
-                return Err(Fault::Raises(Cause::TooDeep));
+                return put_bottom(out, arena, address);
             }
-            put_exception(out, arena, address, depth - 1, start)
+            put_object(out, arena, address, depth - 1, start)
         }
         _ => {
             put_view(out, view)?;
@@ -273,10 +275,10 @@ fn is_past_all(out: &String, start: usize) -> bool
     out.len().saturating_sub(start) > MAX_STR_BYTES
 }
 
-// Adds the `repr` of the exception at an address, where tuples and objects are within it at most so deep (Python
-// Standard Library 3.14, "Built-in Exceptions").
+// Adds the `repr` of the object at an address, where tuples and objects are within it at most so deep (Python Standard
+// Library 3.14, "Built-in Exceptions").
 #[cycle(repr)]
-fn put_exception(
+fn put_object(
     out: &mut String,
     arena: &Arena,
     address: usize,
@@ -301,7 +303,30 @@ fn put_exception(
             put(out, ")")?;
             Ok(())
         }
+        Object::Thread { .. } => put_thread(out),
+        Object::Started(_) => put_thread(out),
     }
+}
+
+// Adds the `str` and the `repr` of the object at an address where nothing may be within it: of a thread, which holds no
+// values.
+fn put_bottom(out: &mut String, arena: &Arena, address: usize) -> Result<(), Fault>
+    requires { address < length arena.now.store }
+    ensures { (start : ℕ) → Puts (semantics.repr_of 0 arena.now.store (pure.Address address)) start out.old out.new result }
+{
+    match arena.object(address) {
+        Object::Thread { .. } => put_thread(out),
+        Object::Started(_) => put_thread(out),
+        _ => Err(Fault::Raises(Cause::TooDeep)),
+    }
+}
+
+// Adds how a thread is written.
+fn put_thread(out: &mut String) -> Result<(), Fault>
+    ensures { (start : ℕ) → Puts (semantics.Whole (codes "<Thread>")) start out.old out.new result }
+{
+    put(out, "<Thread>")?;
+    Ok(())
 }
 
 // Adds a kind, and brackets with nothing between them.

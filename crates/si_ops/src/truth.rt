@@ -62,6 +62,10 @@ fn is_shown_true(view: View) -> bool
         View::Range(steps) => is_item(steps.start, steps.stop, steps.step),
         View::Tuple(items) => !items.is_empty(),
         View::Kind(_) => true,
+        View::Module(_) => true,
+        View::Queue(_, _) => true,
+        View::Interpreter(_) => true,
+        View::Exec(_) => true,
         View::Object(_) => true,
     }
 }

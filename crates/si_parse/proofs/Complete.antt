@@ -3,14 +3,14 @@ use Rattle.std.proofs.Common.{◌≡◌, ℕ, zero, suc, ◌+◌, ◌-◌, ◌<�
 use Rattle.std.specs.Prelude.{nat_lt, not, ◌&&◌, if◌then◌else◌}
 use Rattle.std.proofs.lemmas.Bool.Decides.{nat_tests}
 use Rattle.std.proofs.lemmas.List.{append-nil}
-use Rattle.si_semantics.specs.Value.{Nothing, Truth, Int, Str, Bytes, Provided, Function, Range, Tuple, Class, Address}
-use Rattle.si_semantics.specs.Tree.{BinaryOperator, UnaryOperator, ComparisonOperator, BooleanOperator, Expr, Exprs}
+use Rattle.si_semantics.specs.Value.{Nothing, Truth, Int, Str, Bytes, Provided, Function, Range, Tuple, Class, Module, Queue, Interpreter, Exec, Address}
+use Rattle.si_semantics.specs.Tree.{BinaryOperator, UnaryOperator, ComparisonOperator, BooleanOperator, Expr, Exprs, callee_of}
 use Rattle.si_semantics.specs.Tree as tree
 use Rattle.si_semantics.specs.Tokens.{Symbol, Keyword}
 use Rattle.si_semantics.specs.Tokens as token
 use Rattle.si_semantics.specs.Text.{max_length}
 use Rattle.si_semantics.specs.Grammar.{Terminal, NAME, NUMBER, STRING, Sign, Word, level_of, left_level, right_level, symbol_of, prefix_level, prefix_of, boolean_level, item_level, word_of, comparison_of, is_identity, Many, Behind, Separated, Ended, Argument, Positional, ByName, Passes, IsPassed, exprs_of, items_of, Link, links_of, chain_of, Compares, Strings, Spells, BYTES, Octets}
-use Rattle.si_parse.specs.inner.Reading.{short, named_at, argument_from, argument_by, called, comparison, boolean, continuation_at, strength_of, strength_at, then_read, after_boolean, with_word, comparison_at, identity_from, Found, Parsed, Parser, arguments_from, arguments_by, within, call_by, indexed, subscript_by, is_singleton, compared_to, compared_by, other_by, conditional_by, extended_by, continued_by, items_from, tupled, grouped, bracketed_from, strings_by, bracketed_by, operand_from, operand_by, expression_at, after, begins_literal, octets_by}
+use Rattle.si_parse.specs.inner.Reading.{short, named_at, argument_from, argument_by, call_of, called, comparison, boolean, continuation_at, strength_of, strength_at, then_read, after_boolean, with_word, comparison_at, identity_from, Found, Parsed, Parser, arguments_from, arguments_by, within, call_by, indexed, subscript_by, is_singleton, compared_to, compared_by, other_by, conditional_by, extended_by, continued_by, items_from, tupled, grouped, bracketed_from, strings_by, bracketed_by, operand_from, operand_by, expression_at, after, begins_literal, octets_by}
 use Rattle.si_parse.proofs.Laws.{some_inj, named_at_some, exprs_of_items, chain_of_links}
 use Rattle.si_parse.proofs.Levels.{right_weaker, right_bound, level_under, role_of_symbol, prefix_gap, prefix_bound, prefix_begins, conditional_gap, boolean_strength, item_bound, role_of_word, after_word, role_of_comparison, boolean_none, comparison_none}
 use Rattle.si_parse.proofs.Lists.{le_to}
@@ -355,22 +355,31 @@ module _ (n : ℕ) (sub : Parser) (complete : IsComplete n sub) where
         ∙ within_ok (n + 1) (tree.Binary op a b) d rest shallow
         )
 
-    call_reached : (m : ℕ) → (le : m ≤ n) → Hypothesis m → (a : Expr) (args : tree.Exprs) (names : List (List ℕ)) (passed : List Argument) (f g rest : List Terminal) → Spells m 18 a f
-        → IsPassed passed (items_of args) names → Separated (Passes (Spells m)) token.Comma passed g → Reaches (suc m) (tree.Call a args names) (f ++ Sign token.LeftParenthesis ∷ (g ++ Sign token.RightParenthesis ∷ [])) rest
-    call_reached m le ih a args names passed f g rest ha once hs =
-        let tail = Sign token.LeftParenthesis ∷ (g ++ Sign token.RightParenthesis ∷ []) in
+    attribute_reached : (m : ℕ) → m ≤ n → Hypothesis m → (a : Expr) (x : List ℕ) (f rest : List Terminal) → Spells m 18 a f → Reaches (suc m) (tree.Attribute a x) (f ++ Sign token.Dot ∷ (NAME x ∷ [])) rest
+    attribute_reached m le ih a x f rest ha =
+        let tail = Sign token.Dot ∷ (NAME x ∷ []) in
         let left = ih 18 a f (tail ++ rest) ha (omega arith) refl (omega arith) in
+        let d = left.0 + 1 in
+        let shallow : d ≤ n + 1 = omega (arith, left.2) in
+        extends m a (tree.Attribute a x) f tail rest d left (omega arith) (omega (arith, left.2)) (omega arith) (within_ok (n + 1) (tree.Attribute a x) d rest shallow)
+
+    call_reached : (m : ℕ) → (le : m ≤ n) → Hypothesis m → (a : Expr) (y : Option (List ℕ)) (args : tree.Exprs) (names : List (List ℕ)) (p : Expr) (passed : List Argument) (f g rest : List Terminal) → Spells m 18 p f → callee_of p ≡ (a, y)
+        → IsPassed passed (items_of args) names → Separated (Passes (Spells m)) token.Comma passed g → Reaches (suc m) (tree.Call a y args names) (f ++ Sign token.LeftParenthesis ∷ (g ++ Sign token.RightParenthesis ∷ [])) rest
+    call_reached m le ih a y args names p passed f g rest hp is once hs =
+        let tail = Sign token.LeftParenthesis ∷ (g ++ Sign token.RightParenthesis ∷ []) in
+        let left = ih 18 p f (tail ++ rest) hp (omega arith) refl (omega arith) in
         let right = arguments_complete m le passed g rest hs in
         let d = max left.0 right.0 + 1 in
         let shallow : d ≤ n + 1 = omega (arith, left.2, right.1) in
         let same : (g ++ Sign token.RightParenthesis ∷ []) ++ rest ≡ g ++ Sign token.RightParenthesis ∷ rest = append_assoc g (Sign token.RightParenthesis ∷ []) rest in
-        extends m a (tree.Call a args names) f tail rest d left (omega arith) (omega (arith, left.2, right.1)) (omega arith)
+        extends m p (tree.Call a y args names) f tail rest d left (omega arith) (omega (arith, left.2, right.1)) (omega arith)
         (
-        ap (λ t. call_by sub (n + 1) a left.0 t) same
-        ∙ ap (λ r. then_read r (called (n + 1) a left.0)) right.2
-        ∙ ap (λ p. then_read p (λ p. within (n + 1) (tree.Call a (exprs_of p.0) p.1) d rest)) (passed_complete passed (items_of args) names once)
-        ∙ ap (λ t. within (n + 1) (tree.Call a t names) d rest) (exprs_of_items args)
-        ∙ within_ok (n + 1) (tree.Call a args names) d rest shallow
+        ap (λ t. call_by sub (n + 1) p left.0 t) same
+        ∙ ap (λ r. then_read r (called (n + 1) p left.0)) right.2
+        ∙ ap (λ o. then_read o (λ q. within (n + 1) (call_of p q) d rest)) (passed_complete passed (items_of args) names once)
+        ∙ ap (λ c. within (n + 1) (tree.Call c.0 c.1 (exprs_of (items_of args)) names) d rest) is
+        ∙ ap (λ t. within (n + 1) (tree.Call a y t names) d rest) (exprs_of_items args)
+        ∙ within_ok (n + 1) (tree.Call a y args names) d rest shallow
         )
 
     subscript_reached : (m : ℕ) → m ≤ n → Hypothesis m → (a b : Expr) (f g rest : List Terminal) → Spells m 18 a f → Spells m 1 b g
@@ -500,10 +509,16 @@ module _ (n : ℕ) (sub : Parser) (complete : IsComplete n sub) where
     reached (suc m) le level (tree.Constant (Range a b c)) front rest (inl h) weak plain at = absurd h
     reached (suc m) le level (tree.Constant (Tuple us)) front rest (inl h) weak plain at = absurd h
     reached (suc m) le level (tree.Constant (Class i)) front rest (inl h) weak plain at = absurd h
+    reached (suc m) le level (tree.Constant (Module i)) front rest (inl h) weak plain at = absurd h
+    reached (suc m) le level (tree.Constant (Queue i k)) front rest (inl h) weak plain at = absurd h
+    reached (suc m) le level (tree.Constant (Interpreter i)) front rest (inl h) weak plain at = absurd h
+    reached (suc m) le level (tree.Constant (Exec i)) front rest (inl h) weak plain at = absurd h
     reached (suc m) le level (tree.Constant (Address x)) front rest (inl h) weak plain at = absurd h
-    reached (suc m) le level (tree.Call a args names) front rest (inl h) weak plain at =
-        moved (suc m) (tree.Call a args names) (h.0 ++ Sign token.LeftParenthesis ∷ (h.1 ++ Sign token.RightParenthesis ∷ [])) front rest h.3
-        (call_reached m (omega arith) (reached m (omega arith)) a args names h.2 h.0 h.1 rest h.5 h.6 h.7)
+    reached (suc m) le level (tree.Attribute a x) front rest (inl h) weak plain at =
+        moved (suc m) (tree.Attribute a x) (h.0 ++ Sign token.Dot ∷ (NAME x ∷ [])) front rest h.1 (attribute_reached m (omega arith) (reached m (omega arith)) a x h.0 rest h.3)
+    reached (suc m) le level (tree.Call a y args names) front rest (inl h) weak plain at =
+        moved (suc m) (tree.Call a y args names) (h.0 ++ Sign token.LeftParenthesis ∷ (h.1 ++ Sign token.RightParenthesis ∷ [])) front rest h.4
+        (call_reached m (omega arith) (reached m (omega arith)) a y args names h.2 h.3 h.0 h.1 rest h.6 h.7 h.8 h.9)
     reached (suc m) le level (tree.Subscript a b) front rest (inl h) weak plain at =
         moved (suc m) (tree.Subscript a b) (h.0 ++ Sign token.LeftBracket ∷ (h.1 ++ Sign token.RightBracket ∷ [])) front rest h.2
         (subscript_reached m (omega arith) (reached m (omega arith)) a b h.0 h.1 rest h.4 h.5)

@@ -1,7 +1,7 @@
 -- Laws of the grammar: a limit may be raised, and a looser level asked.
 use Rattle.std.proofs.Common.{◌≡◌, ℕ, zero, suc, ◌+◌, ◌≤◌, List, [], ◌∷◌, ◌++◌, inl, inr, Option, Some, None, refl, sym, ap, ◌∙◌, subst, arith, add-one}
 use Rattle.std.specs.Prelude.{option_map}
-use Rattle.si_semantics.specs.Value.{Nothing, Truth, Int, Str, Bytes, Provided, Function, Range, Tuple, Class, Address}
+use Rattle.si_semantics.specs.Value.{Nothing, Truth, Int, Str, Bytes, Provided, Function, Range, Tuple, Class, Module, Queue, Interpreter, Exec, Address}
 use Rattle.si_semantics.specs.Tree.{UnaryOperator, ComparisonOperator, BooleanOperator, Expr, Exprs, Comparisons}
 use Rattle.si_semantics.specs.Tree as tree
 use Rattle.si_semantics.specs.Tokens.{Symbol, Keyword}
@@ -62,8 +62,13 @@ produces_mono E F w l (tree.Constant (Function x k)) ts h = h
 produces_mono E F w l (tree.Constant (Range a b c)) ts h = h
 produces_mono E F w l (tree.Constant (Tuple us)) ts h = h
 produces_mono E F w l (tree.Constant (Class k)) ts h = h
+produces_mono E F w l (tree.Constant (Module m)) ts h = h
+produces_mono E F w l (tree.Constant (Queue i j)) ts h = h
+produces_mono E F w l (tree.Constant (Interpreter i)) ts h = h
+produces_mono E F w l (tree.Constant (Exec i)) ts h = h
 produces_mono E F w l (tree.Constant (Address x)) ts h = h
-produces_mono E F w l (tree.Call a args names) ts h = (h.0, h.1, h.2, h.3, h.4, w _ a h.0 h.5, h.6, separated_mono (Passes E) (Passes F) token.Comma (passes_mono E F w) h.2 h.1 h.7)
+produces_mono E F w l (tree.Attribute a x) ts h = (h.0, h.1, h.2, w _ a h.0 h.3)
+produces_mono E F w l (tree.Call a x args names) ts h = (h.0, h.1, h.2, h.3, h.4, h.5, w _ h.2 h.0 h.6, h.7, h.8, separated_mono (Passes E) (Passes F) token.Comma (passes_mono E F w) h.3 h.1 h.9)
 produces_mono E F w l (tree.Subscript a b) ts h = (h.0, h.1, h.2, h.3, w _ a h.0 h.4, w _ b h.1 h.5)
 produces_mono E F w l (tree.Tuple items) ts h = (h.0, h.1, ended_mono (E 1) (F 1) token.Comma (w 1) (items_of items) h.0 h.2)
 produces_mono E F w l (tree.Compare a cs) ts h = (h.0, h.1, h.2, h.3, w 10 a h.0 h.4, h.5, many_mono (Compares E) (Compares F) (compares_mono E F w) (links_of cs) h.1 h.6)
@@ -92,8 +97,13 @@ produces_looser E k l (tree.Constant (Function x i)) ts le h = h
 produces_looser E k l (tree.Constant (Range a b c)) ts le h = h
 produces_looser E k l (tree.Constant (Tuple us)) ts le h = h
 produces_looser E k l (tree.Constant (Class i)) ts le h = h
+produces_looser E k l (tree.Constant (Module m)) ts le h = h
+produces_looser E k l (tree.Constant (Queue i m)) ts le h = h
+produces_looser E k l (tree.Constant (Interpreter i)) ts le h = h
+produces_looser E k l (tree.Constant (Exec i)) ts le h = h
 produces_looser E k l (tree.Constant (Address x)) ts le h = h
-produces_looser E k l (tree.Call a args names) ts le h = (h.0, h.1, h.2, h.3, omega (arith, h.4), h.5, h.6, h.7)
+produces_looser E k l (tree.Attribute a x) ts le h = (h.0, h.1, omega (arith, h.2), h.3)
+produces_looser E k l (tree.Call a x args names) ts le h = (h.0, h.1, h.2, h.3, h.4, omega (arith, h.5), h.6, h.7, h.8, h.9)
 produces_looser E k l (tree.Subscript a b) ts le h = (h.0, h.1, h.2, omega (arith, h.3), h.4, h.5)
 produces_looser E k l (tree.Tuple items) ts le h = h
 produces_looser E k l (tree.Compare a cs) ts le h = (h.0, h.1, h.2, omega (arith, h.3), h.4, h.5, h.6)
@@ -222,6 +232,16 @@ pub name_at_some : (ts : List Terminal) (n : List ℕ × List Terminal) → name
 name_at_some [] n h = cc
 name_at_some (NAME x ∷ ts) n h = ap (λ p. NAME p.0 ∷ p.1) (some_inj (x, ts) n h)
 name_at_some (_ ∷ ts) n h = cc
+
+pub after_import_some : (ts rest : List Terminal) → after (Word token.ImportWord) ts ≡ Some rest → ts ≡ Word token.ImportWord ∷ rest
+after_import_some [] rest h = cc
+after_import_some (Word token.ImportWord ∷ ts) rest h = let e : ts ≡ rest = cc in ap (λ l. Word token.ImportWord ∷ l) e
+after_import_some (_ ∷ ts) rest h = cc
+
+pub after_from_some : (ts rest : List Terminal) → after (Word token.FromWord) ts ≡ Some rest → ts ≡ Word token.FromWord ∷ rest
+after_from_some [] rest h = cc
+after_from_some (Word token.FromWord ∷ ts) rest h = let e : ts ≡ rest = cc in ap (λ l. Word token.FromWord ∷ l) e
+after_from_some (_ ∷ ts) rest h = cc
 
 pub after_raise_some : (ts rest : List Terminal) → after (Word token.RaiseWord) ts ≡ Some rest → ts ≡ Word token.RaiseWord ∷ rest
 after_raise_some [] rest h = cc

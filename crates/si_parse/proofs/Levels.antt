@@ -5,7 +5,7 @@ use Rattle.si_semantics.specs.Tree as tree
 use Rattle.si_semantics.specs.Tokens.{Symbol}
 use Rattle.si_semantics.specs.Tokens as token
 use Rattle.si_semantics.specs.Grammar.{Terminal, Sign, Word, level_of, left_level, right_level, symbol_of, prefix_level, prefix_of, boolean_level, item_level, word_of, comparison_of}
-use Rattle.si_parse.specs.inner.Reading.{Continuation, operator, arguments, index, comparison, boolean, condition, nothing, role_of, continuation_at, strength_of, strength_at, after_boolean, comparison_at, prefix_at, after}
+use Rattle.si_parse.specs.inner.Reading.{Continuation, operator, attribute, arguments, index, comparison, boolean, condition, nothing, role_of, continuation_at, strength_of, strength_at, after_boolean, comparison_at, prefix_at, after}
 
 -- ---- operators between two operands
 
@@ -118,6 +118,7 @@ role_of_symbol tree.Power = refl
 
 strength_bound : (c : Continuation) → strength_of c ≤ 18
 strength_bound (operator op) = left_most op
+strength_bound attribute = omega arith
 strength_bound arguments = omega arith
 strength_bound index = omega arith
 strength_bound comparison = omega arith
@@ -132,6 +133,7 @@ strength_at_most ts = strength_bound (continuation_at ts)
 -- no terminal has the strength of a sign or of a power
 gap : (c : Continuation) → strength_of c ≤ 17 → strength_of c < 16
 gap (operator op) h = left_gap op h
+gap attribute h = absurd (omega arith)
 gap arguments h = absurd (omega arith)
 gap index h = absurd (omega arith)
 gap comparison h = omega arith
@@ -146,6 +148,7 @@ strength_gap ts h = gap (continuation_at ts) h
 -- none has that of `not`
 not_gap : (c : Continuation) → strength_of c ≤ 7 → strength_of c < 7
 not_gap (operator op) h = omega (arith, left_least op)
+not_gap attribute h = omega arith
 not_gap arguments h = omega arith
 not_gap index h = omega arith
 not_gap comparison h = omega arith
@@ -169,6 +172,7 @@ prefix_bound tree.Not = omega arith
 -- none has that of a conditional expression
 condition_gap : (c : Continuation) → strength_of c ≤ 1 → strength_of c < 1
 condition_gap (operator op) h = omega (arith, left_least op)
+condition_gap attribute h = omega arith
 condition_gap arguments h = omega arith
 condition_gap index h = omega arith
 condition_gap comparison h = omega arith
@@ -339,6 +343,7 @@ and_not (_ ∷ ts) h e = cc
 
 or_ends : (c : Continuation) → (c ≡ boolean tree.Or → ⊥) → strength_of c < 5 → strength_of c ≤ 3
 or_ends (operator op) other s = absurd (omega (arith, left_least op))
+or_ends attribute other s = absurd (omega arith)
 or_ends arguments other s = absurd (omega arith)
 or_ends index other s = absurd (omega arith)
 or_ends comparison other s = absurd (omega arith)
@@ -349,6 +354,7 @@ or_ends nothing other s = omega arith
 
 and_ends : (c : Continuation) → (c ≡ boolean tree.And → ⊥) → strength_of c < 7 → strength_of c ≤ 5
 and_ends (operator op) other s = absurd (omega (arith, left_least op))
+and_ends attribute other s = absurd (omega arith)
 and_ends arguments other s = absurd (omega arith)
 and_ends index other s = absurd (omega arith)
 and_ends comparison other s = absurd (omega arith)

@@ -1,13 +1,13 @@
 -- A tree that is derived is within the limits.
 use Rattle.std.proofs.Common.{◌≡◌, ℕ, zero, suc, ◌+◌, ◌≤◌, List, [], ◌∷◌, ◌++◌, Bool, true, false, inl, inr, map, Option, Some, None, refl, sym, ap, ◌∙◌, subst, arith}
 use Rattle.std.specs.Prelude.{flat_map, if◌then◌else◌}
-use Rattle.si_semantics.specs.Value.{Text, Nothing, Truth, Int, Str, Bytes, Provided, Function, Range, Tuple, Class, Address}
+use Rattle.si_semantics.specs.Value.{Text, Nothing, Truth, Int, Str, Bytes, Provided, Function, Range, Tuple, Class, Module, Queue, Interpreter, Exec, Address}
 use Rattle.si_semantics.specs.Tree as tree
-use Rattle.si_semantics.specs.Tree.{BooleanOperator, Expr, Exprs, Comparisons, Stmt, Stmts, Clauses}
+use Rattle.si_semantics.specs.Tree.{BooleanOperator, Expr, Exprs, Comparisons, Stmt, Stmts, Clauses, callee_of}
 use Rattle.si_semantics.specs.Tokens as token
 use Rattle.si_semantics.specs.Text.{max_length}
 use Rattle.si_semantics.specs.Grammar.{Terminal, Word, left_level, right_level, prefix_level, item_level, word_of, Many, Behind, Following, Separated, Ended, Argument, Positional, ByName, Passes, IsPassed, items_of, exprs_of, links_of, Compares, Spells, max_depth, max_item_depth, IsExpressions, max_parameters, Small, Simple, stmts_of, Lines, Suite, Branch, Tested, Otherwise, elifs_of, clause_list, Excepts, Handlers, Compound, Nests, max_nesting, Derives}
-use Rattle.si_semantics.specs.Limits.{depth_of, depth_of_all, depth_of_chain, longest_literal, longest_literal_of_all, longest_literal_of_chain, greatest_of, greatest_in, greatest_in_clauses, most_parameters_of, most_parameters_in, most_parameters_in_clauses, is_elif, nesting_of, nesting_in, nesting_in_clauses, IsWithinLimits}
+use Rattle.si_semantics.specs.Limits.{depth_called, depth_of, depth_of_all, depth_of_chain, longest_literal, longest_literal_of_all, longest_literal_of_chain, greatest_of, greatest_in, greatest_in_clauses, most_parameters_of, most_parameters_in, most_parameters_in_clauses, is_elif, nesting_of, nesting_in, nesting_in_clauses, IsWithinLimits}
 use Rattle.si_parse.proofs.Laws.{exprs_of_items, items_of_exprs}
 
 -- ---- expressions
@@ -88,6 +88,38 @@ operands_bounded n b op (tree.MoreExprs e es) g h = more_low n e es (b (item_lev
 leaf_low : (n : ℕ) (e : Expr) → depth_of e ≡ 1 → longest_literal e ≡ 0 → IsLow (suc n) e
 leaf_low n e h k = record { depth = omega (arith, h); literals = omega (arith, k) }
 
+-- a callee is as low as the tree that is called
+callee_depth : (e : Expr) → depth_called (callee_of e).1 (depth_of (callee_of e).0) ≡ depth_of e
+callee_depth (tree.Attribute a x) = refl
+callee_depth (tree.Name x) = refl
+callee_depth (tree.Constant v) = refl
+callee_depth (tree.Unary op a) = refl
+callee_depth (tree.Binary op a b) = refl
+callee_depth (tree.Call a x args names) = refl
+callee_depth (tree.Subscript a b) = refl
+callee_depth (tree.Tuple items) = refl
+callee_depth (tree.Boolean op a others) = refl
+callee_depth (tree.Compare a cs) = refl
+callee_depth (tree.Conditional test value other) = refl
+
+callee_literals : (e : Expr) → longest_literal (callee_of e).0 ≡ longest_literal e
+callee_literals (tree.Attribute a x) = refl
+callee_literals (tree.Name x) = refl
+callee_literals (tree.Constant v) = refl
+callee_literals (tree.Unary op a) = refl
+callee_literals (tree.Binary op a b) = refl
+callee_literals (tree.Call a x args names) = refl
+callee_literals (tree.Subscript a b) = refl
+callee_literals (tree.Tuple items) = refl
+callee_literals (tree.Boolean op a others) = refl
+callee_literals (tree.Compare a cs) = refl
+callee_literals (tree.Conditional test value other) = refl
+
+callee_low : (n : ℕ) (a : Expr) (x : Option Text) (e : Expr) → callee_of e ≡ (a, x) → IsLow n e → (depth_called x (depth_of a) ≤ n) × (longest_literal a ≤ max_length)
+callee_low n a x e is h =
+    let P : Expr × Option Text → Type 0 = λ c. (depth_called c.1 (depth_of c.0) ≤ n) × (longest_literal c.0 ≤ max_length) in
+    subst P is (omega (arith, callee_depth e, h.depth), omega (arith, callee_literals e, h.literals))
+
 bounded : (n : ℕ) → Bounded n
 bounded zero l e f h = absurd h
 bounded (suc n) l e f (inr h) = let x = bounded n 1 e h.0 h.2 in record { depth = omega (arith, x.depth); literals = x.literals }
@@ -102,14 +134,19 @@ bounded (suc n) l (tree.Constant (Function x k)) f (inl h) = absurd h
 bounded (suc n) l (tree.Constant (Range a b c)) f (inl h) = absurd h
 bounded (suc n) l (tree.Constant (Tuple us)) f (inl h) = absurd h
 bounded (suc n) l (tree.Constant (Class k)) f (inl h) = absurd h
+bounded (suc n) l (tree.Constant (Module m)) f (inl h) = absurd h
+bounded (suc n) l (tree.Constant (Queue i m)) f (inl h) = absurd h
+bounded (suc n) l (tree.Constant (Interpreter i)) f (inl h) = absurd h
+bounded (suc n) l (tree.Constant (Exec i)) f (inl h) = absurd h
 bounded (suc n) l (tree.Constant (Address x)) f (inl h) = absurd h
 bounded (suc n) l (tree.Unary op a) f (inl h) = let x = bounded n (prefix_level op) a h.0 h.3 in record { depth = omega (arith, x.depth); literals = x.literals }
 bounded (suc n) l (tree.Binary op a b) f (inl h) =
     let x = bounded n (left_level op) a h.0 h.4 in
     let y = bounded n (right_level op) b h.1 h.5 in record { depth = omega (arith, x.depth, y.depth); literals = omega (arith, x.literals, y.literals) }
-bounded (suc n) l (tree.Call a args names) f (inl h) =
-    let x = bounded n 18 a h.0 h.5 in
-    let y = arguments_bounded n (bounded n) h.2 args names h.1 h.6 h.7 in record { depth = omega (arith, x.depth, y.depth); literals = omega (arith, x.literals, y.literals) }
+bounded (suc n) l (tree.Attribute a x) f (inl h) = let y = bounded n 18 a h.0 h.3 in record { depth = omega (arith, y.depth); literals = y.literals }
+bounded (suc n) l (tree.Call a x args names) f (inl h) =
+    let p = callee_low n a x h.2 h.7 (bounded n 18 h.2 h.0 h.6) in
+    let y = arguments_bounded n (bounded n) h.3 args names h.1 h.8 h.9 in record { depth = omega (arith, p.0, y.depth); literals = omega (arith, p.1, y.literals) }
 bounded (suc n) l (tree.Subscript a b) f (inl h) =
     let x = bounded n 18 a h.0 h.4 in
     let y = bounded n 1 b h.1 h.5 in record { depth = omega (arith, x.depth, y.depth); literals = omega (arith, x.literals, y.literals) }
@@ -221,6 +258,7 @@ small_keeps n tree.Continue f h = of_none n tree.Continue refl refl refl refl
 small_keeps n (tree.Return None) f h = of_none n (tree.Return None) refl refl refl refl
 small_keeps n (tree.Return (Some e)) f h = of_expression n (tree.Return (Some e)) e refl refl refl refl (expressions_bounded e h.0 h.2)
 small_keeps n (tree.Global xs) f h = of_none n (tree.Global xs) refl refl refl refl
+small_keeps n (tree.Import m) f h = of_none n (tree.Import m) refl refl refl refl
 small_keeps n (tree.Define x ps body) f h = absurd h
 small_keeps n (tree.If test body other) f h = absurd h
 small_keeps n (tree.While test body other) f h = absurd h
@@ -371,6 +409,7 @@ module _ (n : ℕ) (L : Lines) (kept : Kept n L) where
   compound_keeps (tree.Raise a) f h = absurd h
   compound_keeps (tree.Return a) f h = absurd h
   compound_keeps (tree.Global xs) f h = absurd h
+  compound_keeps (tree.Import m) f h = absurd h
   compound_keeps (tree.Evaluate e) f h = absurd h
   compound_keeps (tree.Assign t e) f h = absurd h
   compound_keeps (tree.Augment t op e) f h = absurd h

@@ -11,8 +11,8 @@ use Rattle.si_semantics.specs.Tokens.{Symbol, Keyword}
 use Rattle.si_semantics.specs.Tokens as token
 use Rattle.si_semantics.specs.Text.{max_length}
 use Rattle.si_semantics.specs.Grammar.{Terminal, NAME, NUMBER, STRING, Sign, Word, value_of_int, value_of_str, level_of, left_level, right_level, symbol_of, prefix_level, prefix_of, boolean_level, item_level, word_of, comparison_of, is_identity, Many, Behind, Separated, Ended, Argument, Positional, ByName, Passes, IsPassed, exprs_of, items_of, links_of, chain_of, Compares, Strings, Spells, BYTES, value_of_bytes, Octets}
-use Rattle.si_parse.specs.inner.Reading.{short, str_by, Argued, named_at, argument_from, argument_by, passed_from, called, boolean, continuation_at, strength_of, strength_at, then_read, rest_of, after_boolean, with_word, comparison_at, Found, Parser, arguments_from, arguments_by, within, binary_by, call_by, indexed, subscript_by, operands_by, boolean_by, is_singleton, compared_to, compared_by, links_by, compare_by, other_by, conditional_by, extended_by, identity_from, continued_by, items_from, items_by, tupled, closed, grouped, bracketed_from, strings_by, prefix_at, unary_by, bracketed_by, atom_by, operand_from, operand_by, expression_at, after, octets_by, bytes_by}
-use Rattle.si_parse.proofs.Laws.{Items, named_at_some, passes_mono, spells_looser, spells_deeper, node, bracketed, then_read_some, some_inj, after_close_some, after_bracket_some, after_comma_some, after_else_some, with_word_some, with_word_none, prefix_at_some, comparison_at_some, links_of_chain, items_of_exprs, separated_mono, many_mono, compares_mono, behind_mono}
+use Rattle.si_parse.specs.inner.Reading.{short, str_by, Argued, named_at, argument_from, argument_by, passed_from, name_at, attributed, attribute_by, call_of, called, boolean, continuation_at, strength_of, strength_at, then_read, rest_of, after_boolean, with_word, comparison_at, Found, Parser, arguments_from, arguments_by, within, binary_by, call_by, indexed, subscript_by, operands_by, boolean_by, is_singleton, compared_to, compared_by, links_by, compare_by, other_by, conditional_by, extended_by, identity_from, continued_by, items_from, items_by, tupled, closed, grouped, bracketed_from, strings_by, prefix_at, unary_by, bracketed_by, atom_by, operand_from, operand_by, expression_at, after, octets_by, bytes_by}
+use Rattle.si_parse.proofs.Laws.{Items, named_at_some, passes_mono, spells_looser, spells_deeper, node, bracketed, then_read_some, some_inj, name_at_some, after_close_some, after_bracket_some, after_comma_some, after_else_some, with_word_some, with_word_none, prefix_at_some, comparison_at_some, links_of_chain, items_of_exprs, separated_mono, many_mono, compares_mono, behind_mono}
 use Rattle.si_parse.proofs.Levels.{strength_at_most, right_stops, right_bound, level_reached, Apart, high, at_condition, at_disjunction, at_comparison, right_apart, level_apart, prefix_apart, prefix_bound, boolean_apart, item_apart, item_bound, condition_up, condition_down, comparison_up, comparison_down, boolean_up, boolean_down, boolean_strength, after_word, boolean_ends, comparison_ends}
 use Rattle.si_parse.proofs.Lists.{le_from, chosen}
 use Rattle.si_parse.proofs.Enclosed.{enclosed_sound}
@@ -340,13 +340,31 @@ module _ (n : ℕ) (sub : Parser) (sound : IsSound n sub) where
         level_apart op,
       )
 
+  attribute_reads : (front : List Terminal) (e : Expr) (d m : ℕ) (ts : List Terminal) (l : ℕ) (r : Found) → Spells d m e front → 18 ≤ m → l ≤ 16
+      → attribute_by (n + 1) e d ts ≡ Some r → Longer front (Sign token.Dot ∷ ts) l r
+  attribute_reads front e d m ts l r spelled low le h =
+      let s = then_read_some (name_at ts) (attributed (n + 1) e d) r h in
+      let w = within_some (n + 1) (tree.Attribute e s.0.0) (d + 1) s.0.1 r s.2 in
+      let P : Found → Type 0 = Longer front (Sign token.Dot ∷ ts) l in
+      let left = spells_looser d 18 m e front low spelled in
+      subst P w.1 (
+        Sign token.Dot ∷ (NAME s.0.0 ∷ []),
+        ap (λ l. Sign token.Dot ∷ l) (name_at_some ts s.0 s.1),
+        18,
+        node d 18 (tree.Attribute e s.0.0) (front ++ Sign token.Dot ∷ (NAME s.0.0 ∷ [])) (front, refl, omega arith, left),
+        strength_at_most s.0.1,
+        omega arith,
+        w.0,
+        high 18 (omega arith),
+      )
+
   call_reads : (front : List Terminal) (e : Expr) (d m : ℕ) (ts : List Terminal) (l : ℕ) (r : Found) → Spells d m e front → 18 ≤ m → l ≤ 16
       → call_by sub (n + 1) e d ts ≡ Some r → Longer front (Sign token.LeftParenthesis ∷ ts) l r
   call_reads front e d m ts l r spelled low le h =
       let s = then_read_some (arguments_by sub ts) (called (n + 1) e d) r h in
       let a = arguments_read ts (after (Sign token.RightParenthesis) ts) refl s.0 s.1 in
-      let p = then_read_some (passed_from ([], []) s.0.0.0) (λ p. within (n + 1) (tree.Call e (exprs_of p.0) p.1) (max d s.0.0.1 + 1) s.0.1) r s.2 in
-      let w = within_some (n + 1) (tree.Call e (exprs_of p.0.0) p.0.1) (max d s.0.0.1 + 1) s.0.1 r p.2 in
+      let p = then_read_some (passed_from ([], []) s.0.0.0) (λ p. within (n + 1) (call_of e p) (max d s.0.0.1 + 1) s.0.1) r s.2 in
+      let w = within_some (n + 1) (call_of e p.0) (max d s.0.0.1 + 1) s.0.1 r p.2 in
       let P : Found → Type 0 = Longer front (Sign token.LeftParenthesis ∷ ts) l in
       let top = max d s.0.0.1 in
       let read = separated_mono (Passes (Spells s.0.0.1)) (Passes (Spells top)) token.Comma (deeper s.0.0.1 top (omega arith)) s.0.0.0 a.0 a.3 in
@@ -356,7 +374,7 @@ module _ (n : ℕ) (sub : Parser) (sound : IsSound n sub) where
         Sign token.LeftParenthesis ∷ (a.0 ++ Sign token.RightParenthesis ∷ []),
         ap (λ l. Sign token.LeftParenthesis ∷ l) (a.1 ∙ sym (append_assoc a.0 (Sign token.RightParenthesis ∷ []) s.0.1)),
         18,
-        node top 18 (tree.Call e (exprs_of p.0.0) p.0.1) (front ++ Sign token.LeftParenthesis ∷ (a.0 ++ Sign token.RightParenthesis ∷ [])) (front, a.0, s.0.0.0, refl, omega arith, left, passed, read),
+        node top 18 (call_of e p.0) (front ++ Sign token.LeftParenthesis ∷ (a.0 ++ Sign token.RightParenthesis ∷ [])) (front, a.0, e, s.0.0.0, refl, omega arith, left, refl, passed, read),
         strength_at_most s.0.1,
         omega arith,
         w.0,
@@ -529,6 +547,7 @@ module _ (n : ℕ) (sub : Parser) (sound : IsSound n sub) where
   extended_reads front e d m (Sign token.DoubleSlash ∷ ts) l r spelled low high le am al h = operator_reads front e d m tree.FloorDivide ts l r spelled low high le h
   extended_reads front e d m (Sign token.Percent ∷ ts) l r spelled low high le am al h = operator_reads front e d m tree.Modulo ts l r spelled low high le h
   extended_reads front e d m (Sign token.DoubleStar ∷ ts) l r spelled low high le am al h = operator_reads front e d m tree.Power ts l r spelled low high le h
+  extended_reads front e d m (Sign token.Dot ∷ ts) l r spelled low high le am al h = attribute_reads front e d m ts l r spelled low le h
   extended_reads front e d m (Sign token.LeftParenthesis ∷ ts) l r spelled low high le am al h = call_reads front e d m ts l r spelled low le h
   extended_reads front e d m (Sign token.LeftBracket ∷ ts) l r spelled low high le am al h = subscript_reads front e d m ts l r spelled low le h
   extended_reads front e d m (Sign token.Less ∷ ts) l r spelled low high le am al h =

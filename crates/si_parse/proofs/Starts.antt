@@ -1,12 +1,12 @@
 -- How an expression begins: with a terminal of its own kind, and at least one.
 use Rattle.std.proofs.Common.{◌≡◌, ℕ, zero, suc, ◌<◌, ◌≤◌, List, [], ◌∷◌, ◌++◌, inl, inr, length, Bool, None, true, false, refl, sym, ap, ◌∙◌, subst, arith, append_assoc, length-append}
-use Rattle.si_semantics.specs.Value.{Nothing, Truth, Int, Str, Bytes, Provided, Function, Range, Tuple, Class, Address}
+use Rattle.si_semantics.specs.Value.{Nothing, Truth, Int, Str, Bytes, Provided, Function, Range, Tuple, Class, Module, Queue, Interpreter, Exec, Address}
 use Rattle.si_semantics.specs.Tree.{UnaryOperator, Expr}
 use Rattle.si_semantics.specs.Tree as tree
 use Rattle.si_semantics.specs.Tokens.{Keyword}
 use Rattle.si_semantics.specs.Tokens as token
 use Rattle.si_semantics.specs.Grammar.{Terminal, NAME, NUMBER, STRING, BYTES, Sign, Word, NEWLINE, DEDENT, symbol_of, left_level, prefix_of, prefix_level, item_level, truth_word, Strings, Octets, Spells}
-use Rattle.si_parse.specs.inner.Reading.{header_at, ends_small, ends_items, is_dedent, word_statement, is_singleton, after}
+use Rattle.si_parse.specs.inner.Reading.{header_at, ends_small, ends_items, is_dedent, word_statement, import_at, is_singleton, after}
 
 -- whether an operand may begin so
 abbrev pub is_operand : Terminal → Bool
@@ -65,11 +65,17 @@ expression_begins (suc m) l (tree.Constant (Function i k)) f (inl h) x = absurd 
 expression_begins (suc m) l (tree.Constant (Range a b c)) f (inl h) x = absurd h
 expression_begins (suc m) l (tree.Constant (Tuple us)) f (inl h) x = absurd h
 expression_begins (suc m) l (tree.Constant (Class k)) f (inl h) x = absurd h
+expression_begins (suc m) l (tree.Constant (Module i)) f (inl h) x = absurd h
+expression_begins (suc m) l (tree.Constant (Queue i k)) f (inl h) x = absurd h
+expression_begins (suc m) l (tree.Constant (Interpreter i)) f (inl h) x = absurd h
+expression_begins (suc m) l (tree.Constant (Exec i)) f (inl h) x = absurd h
 expression_begins (suc m) l (tree.Constant (Address i)) f (inl h) x = absurd h
-expression_begins (suc m) l (tree.Call a args names) f (inl h) x =
-    ap (λ t. begins (t ++ x)) h.3
+expression_begins (suc m) l (tree.Attribute a i) f (inl h) x =
+    ap (λ t. begins (t ++ x)) h.1 ∙ ap begins (append_assoc h.0 (Sign token.Dot ∷ (NAME i ∷ [])) x) ∙ expression_begins m 18 a h.0 h.3 (Sign token.Dot ∷ (NAME i ∷ x))
+expression_begins (suc m) l (tree.Call a i args names) f (inl h) x =
+    ap (λ t. begins (t ++ x)) h.4
     ∙ ap begins (append_assoc h.0 (Sign token.LeftParenthesis ∷ (h.1 ++ Sign token.RightParenthesis ∷ [])) x)
-    ∙ expression_begins m 18 a h.0 h.5 (Sign token.LeftParenthesis ∷ ((h.1 ++ Sign token.RightParenthesis ∷ []) ++ x))
+    ∙ expression_begins m 18 h.2 h.0 h.6 (Sign token.LeftParenthesis ∷ ((h.1 ++ Sign token.RightParenthesis ∷ []) ++ x))
 expression_begins (suc m) l (tree.Subscript a b) f (inl h) x =
     ap (λ t. begins (t ++ x)) h.2
     ∙ ap begins (append_assoc h.0 (Sign token.LeftBracket ∷ (h.1 ++ Sign token.RightBracket ∷ [])) x)
@@ -122,6 +128,12 @@ global_not [] h = cc
 global_not (Word token.GlobalWord ∷ ts) h = cc
 global_not (_ ∷ ts) h = refl
 
+pub import_not : (ts : List Terminal) → begins ts ≡ true → import_at ts ≡ None
+import_not [] h = cc
+import_not (Word token.ImportWord ∷ ts) h = cc
+import_not (Word token.FromWord ∷ ts) h = cc
+import_not (_ ∷ ts) h = refl
+
 pub raise_not : (ts : List Terminal) → begins ts ≡ true → after (Word token.RaiseWord) ts ≡ None
 raise_not [] h = cc
 raise_not (Word token.RaiseWord ∷ ts) h = cc
@@ -141,6 +153,8 @@ is_start (Word token.BreakWord) = true
 is_start (Word token.ContinueWord) = true
 is_start (Word token.ReturnWord) = true
 is_start (Word token.GlobalWord) = true
+is_start (Word token.ImportWord) = true
+is_start (Word token.FromWord) = true
 is_start (Word token.RaiseWord) = true
 is_start t = is_operand t
 
@@ -155,6 +169,8 @@ starts_operand (Word token.BreakWord ∷ ts) h = refl
 starts_operand (Word token.ContinueWord ∷ ts) h = refl
 starts_operand (Word token.ReturnWord ∷ ts) h = refl
 starts_operand (Word token.GlobalWord ∷ ts) h = refl
+starts_operand (Word token.ImportWord ∷ ts) h = refl
+starts_operand (Word token.FromWord ∷ ts) h = refl
 starts_operand (Word token.RaiseWord ∷ ts) h = refl
 starts_operand (_ ∷ ts) h = h
 
@@ -241,9 +257,14 @@ singleton (suc m) (tree.Constant (Function x k)) w (inl h) = absurd h
 singleton (suc m) (tree.Constant (Range a b c)) w (inl h) = absurd h
 singleton (suc m) (tree.Constant (Tuple us)) w (inl h) = absurd h
 singleton (suc m) (tree.Constant (Class k)) w (inl h) = absurd h
+singleton (suc m) (tree.Constant (Module i)) w (inl h) = absurd h
+singleton (suc m) (tree.Constant (Queue i k)) w (inl h) = absurd h
+singleton (suc m) (tree.Constant (Interpreter i)) w (inl h) = absurd h
+singleton (suc m) (tree.Constant (Exec i)) w (inl h) = absurd h
 singleton (suc m) (tree.Constant (Address x)) w (inl h) = absurd h
-singleton (suc m) (tree.Call a args names) w (inl h) =
-    absurd (omega (arith, ap length h.3, length-append h.0 (Sign token.LeftParenthesis ∷ (h.1 ++ Sign token.RightParenthesis ∷ [])), some_terminals m 18 a h.0 h.5))
+singleton (suc m) (tree.Attribute a i) w (inl h) = absurd (omega (arith, ap length h.1, length-append h.0 (Sign token.Dot ∷ (NAME i ∷ [])), some_terminals m 18 a h.0 h.3))
+singleton (suc m) (tree.Call a i args names) w (inl h) =
+    absurd (omega (arith, ap length h.4, length-append h.0 (Sign token.LeftParenthesis ∷ (h.1 ++ Sign token.RightParenthesis ∷ [])), some_terminals m 18 h.2 h.0 h.6))
 singleton (suc m) (tree.Subscript a b) w (inl h) =
     absurd (omega (arith, ap length h.2, length-append h.0 (Sign token.LeftBracket ∷ (h.1 ++ Sign token.RightBracket ∷ [])), some_terminals m 18 a h.0 h.4))
 singleton (suc m) (tree.Tuple items) w (inl h) = cc (h.1)

@@ -1,18 +1,23 @@
 -- Small statements and lines: what is read is in the grammar, and what is in the grammar is read.
-use Rattle.std.proofs.Common.{◌≡◌, ℕ, ◌+◌, ◌<◌, List, [], ◌∷◌, ◌++◌, length, Bool, Option, Some, None, true, false, refl, ⊎_elim, sym, ap, ◌∙◌, subst, map, arith, append_assoc, length-append}
+use Rattle.std.proofs.Common.{codes, ◌≡◌, ℕ, ◌+◌, ◌<◌, List, [], ◌∷◌, ◌++◌, length, Bool, Option, Some, None, true, false, refl, ⊎_elim, sym, ap, ◌∙◌, subst, map, arith, append_assoc, length-append}
 use Rattle.std.specs.Prelude.{option_map, if◌then◌else◌}
 use Rattle.std.proofs.lemmas.List.{append-nil, length-map}
+use Rattle.std.proofs.lemmas.Option.{cond_some}
+use Rattle.si_plain.specs.declared.modules.ModuleName.{ModuleName}
+use Rattle.si_plain.specs.declared.modules.ModuleName.TheVariants.{Threading, Interpreters}
 use Rattle.si_semantics.specs.Value.{Text}
+use Rattle.si_semantics.specs.Text.{same_text}
 use Rattle.si_semantics.specs.Tree as tree
 use Rattle.si_semantics.specs.Tree.{BinaryOperator, Expr, Stmt}
 use Rattle.si_semantics.specs.Tokens.{Symbol}
 use Rattle.si_semantics.specs.Tokens as token
-use Rattle.si_semantics.specs.Grammar.{Terminal, Sign, Word, NEWLINE, Following, Separated, max_depth, IsExpression, IsExpressions, exprs_of, augmented_of, Small, Simple}
-use Rattle.si_parse.specs.inner.Reading.{Found, Parsed, ends_items, expressions_by, then_read, rest_of, strength_at, begins_literal, no_comma, names_by, ends_small, value_by, returned_by, raised_by, global_by, expression_at, assignment_symbol, assignment_at, assigned, statement_from, spelled_by, word_statement, small_from, statement_by, with_statement, line_by, after}
-use Rattle.si_parse.proofs.Laws.{then_read_some, some_inj, spells_deeper, after_semicolon_some, after_newline_some, after_return_some, after_global_some, after_raise_some}
+use Rattle.si_semantics.specs.Grammar.{Terminal, NAME, Sign, Word, NEWLINE, Following, Separated, max_depth, IsExpression, IsExpressions, exprs_of, augmented_of, import_of, Small, Simple}
+use Rattle.si_parse.specs.inner.Reading.{Found, Parsed, ends_items, expressions_by, then_read, rest_of, strength_at, begins_literal, no_comma, names_by, ends_small, value_by, returned_by, raised_by, global_by, expression_at, assignment_symbol, assignment_at, assigned, statement_from, spelled_by, word_statement, name_at, named, after_name, after_import, after_from, after_interpreters, imported, import_at, small_from, statement_by, with_statement, line_by, after}
+use Rattle.si_semantics.proofs.Names.{same_is}
+use Rattle.si_parse.proofs.Laws.{then_read_some, some_inj, spells_deeper, after_semicolon_some, after_newline_some, name_at_some, after_import_some, after_from_some, after_return_some, after_global_some, after_raise_some}
 use Rattle.si_parse.proofs.Levels.{at_condition}
 use Rattle.si_parse.proofs.Lists.{chosen, added, Pairwise, separated_sound, separated_complete}
-use Rattle.si_parse.proofs.Starts.{begins, expression_begins, word_not, return_not, global_not, raise_not, ends_not, starts, starts_operand, newline_not}
+use Rattle.si_parse.proofs.Starts.{begins, expression_begins, word_not, import_not, return_not, global_not, raise_not, ends_not, starts, starts_operand, newline_not}
 use Rattle.si_parse.proofs.Sound.{expression_sound}
 use Rattle.si_parse.proofs.Names.{names_reads, names_complete}
 use Rattle.si_parse.proofs.Complete.{expression_complete}
@@ -108,7 +113,8 @@ from_reads f ts (tree.Name x) (Some a) is spelled r h =
 from_reads f ts (tree.Constant v) (Some a) is spelled r h = cc
 from_reads f ts (tree.Unary op e) (Some a) is spelled r h = cc
 from_reads f ts (tree.Binary op e g) (Some a) is spelled r h = cc
-from_reads f ts (tree.Call e args names) (Some a) is spelled r h = cc
+from_reads f ts (tree.Attribute e x) (Some a) is spelled r h = cc
+from_reads f ts (tree.Call e x args names) (Some a) is spelled r h = cc
 from_reads f ts (tree.Subscript e i) (Some a) is spelled r h = cc
 from_reads f ts (tree.Tuple items) (Some a) is spelled r h = cc
 from_reads f ts (tree.Boolean op e others) (Some a) is spelled r h = cc
@@ -183,19 +189,51 @@ global_reads ts r h =
     let P : Stmt × List Terminal → Type 0 = SmallRead (Word token.GlobalWord ∷ ts) in
     subst P (some_inj (tree.Global s.0.0, s.0.1) r s.2) (Word token.GlobalWord ∷ n.0, ap (λ t. Word token.GlobalWord ∷ t) n.1, (n.0, refl, n.2))
 
-small_reads : (ts : List Terminal) (o : Option Stmt) (p q x : Option (List Terminal)) → word_statement ts ≡ o → after (Word token.ReturnWord) ts ≡ p → after (Word token.GlobalWord) ts ≡ q → after (Word token.RaiseWord) ts ≡ x → (r : Stmt × List Terminal)
-    → small_from (expression_at max_depth) ts o p q x ≡ Some r → SmallRead ts r
-small_reads ts (Some s) p q x is also too last r h = let P : Stmt × List Terminal → Type 0 = SmallRead ts in subst P (some_inj (s, rest_of ts) r h) (word_reads ts s is)
-small_reads ts None (Some rest) q x is also too last r h =
+-- the name that stands first is this one
+name_reads : (x : Text) (ts rest : List Terminal) → after_name x ts ≡ Some rest → ts ≡ NAME x ∷ rest
+name_reads x ts rest h =
+    let n = then_read_some (name_at ts) (named x) rest h in
+    let c = cond_some (same_text n.0.0 x) n.0.1 rest n.2 in
+    name_at_some ts n.0 n.1 ∙ ap (λ y. NAME y ∷ n.0.1) (same_is n.0.0 x c.0) ∙ ap (λ l. NAME x ∷ l) c.1
+
+behind_import : (x : Text) (ts rest : List Terminal) → after_import x ts ≡ Some rest → ts ≡ Word token.ImportWord ∷ (NAME x ∷ rest)
+behind_import x ts rest h =
+    let s = then_read_some (after (Word token.ImportWord) ts) (after_name x) rest h in after_import_some ts s.0 s.1 ∙ ap (λ l. Word token.ImportWord ∷ l) (name_reads x s.0 rest s.2)
+
+behind_from : (x : Text) (ts rest : List Terminal) → after_from x ts ≡ Some rest → ts ≡ Word token.FromWord ∷ (NAME x ∷ rest)
+behind_from x ts rest h =
+    let s = then_read_some (after (Word token.FromWord) ts) (after_name x) rest h in after_from_some ts s.0 s.1 ∙ ap (λ l. Word token.FromWord ∷ l) (name_reads x s.0 rest s.2)
+
+imported_reads : (ts : List Terminal) (o p : Option (List Terminal)) → after_import (codes "threading") ts ≡ o → after_interpreters ts ≡ p → (i : ModuleName × List Terminal) → imported o p ≡ Some i → SmallRead ts (tree.Import i.0, i.1)
+imported_reads ts (Some rest) p is also i h =
+    let P : ModuleName × List Terminal → Type 0 = λ i. SmallRead ts (tree.Import i.0, i.1) in
+    subst P (some_inj (Threading, rest) i h) (import_of Threading, behind_import (codes "threading") ts rest is, refl)
+imported_reads ts None (Some rest) is also i h =
+    let P : ModuleName × List Terminal → Type 0 = λ i. SmallRead ts (tree.Import i.0, i.1) in
+    let s = then_read_some (after_from (codes "concurrent") ts) (after_import (codes "interpreters")) rest also in
+    subst P (some_inj (Interpreters, rest) i h) (
+      import_of Interpreters,
+      behind_from (codes "concurrent") ts s.0 s.1 ∙ ap (λ l. Word token.FromWord ∷ (NAME (codes "concurrent") ∷ l)) (behind_import (codes "interpreters") s.0 rest s.2),
+      refl,
+    )
+imported_reads ts None None is also i h = cc
+
+small_reads : (ts : List Terminal) (o : Option Stmt) (i : Option (ModuleName × List Terminal)) (p q x : Option (List Terminal)) → word_statement ts ≡ o → import_at ts ≡ i → after (Word token.ReturnWord) ts ≡ p → after (Word token.GlobalWord) ts ≡ q → after (Word token.RaiseWord) ts ≡ x → (r : Stmt × List Terminal)
+    → small_from (expression_at max_depth) ts o i p q x ≡ Some r → SmallRead ts r
+small_reads ts (Some s) i p q x is in_front also too last r h = let P : Stmt × List Terminal → Type 0 = SmallRead ts in subst P (some_inj (s, rest_of ts) r h) (word_reads ts s is)
+small_reads ts None (Some i) p q x is in_front also too last r h =
+    let P : Stmt × List Terminal → Type 0 = SmallRead ts in
+    subst P (some_inj (tree.Import i.0, i.1) r h) (imported_reads ts (after_import (codes "threading") ts) (after_interpreters ts) refl refl i in_front)
+small_reads ts None None (Some rest) q x is in_front also too last r h =
     let P : List Terminal → Type 0 = λ t. SmallRead t r in subst P (sym (after_return_some ts rest also)) (returned_reads rest r h)
-small_reads ts None None (Some rest) x is also too last r h =
+small_reads ts None None None (Some rest) x is in_front also too last r h =
     let P : List Terminal → Type 0 = λ t. SmallRead t r in subst P (sym (after_global_some ts rest too)) (global_reads rest r h)
-small_reads ts None None None (Some rest) is also too last r h =
+small_reads ts None None None None (Some rest) is in_front also too last r h =
     let P : List Terminal → Type 0 = λ t. SmallRead t r in subst P (sym (after_raise_some ts rest last)) (raised_reads rest r h)
-small_reads ts None None None None is also too last r h = spelled_reads ts r h
+small_reads ts None None None None None is in_front also too last r h = spelled_reads ts r h
 
 statement_reads : (ts : List Terminal) (r : Stmt × List Terminal) → statement_by (expression_at max_depth) ts ≡ Some r → SmallRead ts r
-statement_reads ts r h = small_reads ts (word_statement ts) (after (Word token.ReturnWord) ts) (after (Word token.GlobalWord) ts) (after (Word token.RaiseWord) ts) refl refl refl refl r h
+statement_reads ts r h = small_reads ts (word_statement ts) (import_at ts) (after (Word token.ReturnWord) ts) (after (Word token.GlobalWord) ts) (after (Word token.RaiseWord) ts) refl refl refl refl refl r h
 
 -- what may stand after a statement
 abbrev Follows : List Terminal → Type 0
@@ -228,10 +266,11 @@ whole_read e f more h ends = let over = no_item more ends.3 in expressions_compl
 
 by_expression : (ts : List Terminal) → begins ts ≡ true → statement_by (expression_at max_depth) ts ≡ spelled_by (expression_at max_depth) ts
 by_expression ts start =
-    ap (λ o. small_from (expression_at max_depth) ts o (after (Word token.ReturnWord) ts) (after (Word token.GlobalWord) ts) (after (Word token.RaiseWord) ts)) (word_not ts start)
-    ∙ ap (λ o. small_from (expression_at max_depth) ts None o (after (Word token.GlobalWord) ts) (after (Word token.RaiseWord) ts)) (return_not ts start)
-    ∙ ap (λ o. small_from (expression_at max_depth) ts None None o (after (Word token.RaiseWord) ts)) (global_not ts start)
-    ∙ ap (λ o. small_from (expression_at max_depth) ts None None None o) (raise_not ts start)
+    ap (λ o. small_from (expression_at max_depth) ts o (import_at ts) (after (Word token.ReturnWord) ts) (after (Word token.GlobalWord) ts) (after (Word token.RaiseWord) ts)) (word_not ts start)
+    ∙ ap (λ o. small_from (expression_at max_depth) ts None o (after (Word token.ReturnWord) ts) (after (Word token.GlobalWord) ts) (after (Word token.RaiseWord) ts)) (import_not ts start)
+    ∙ ap (λ o. small_from (expression_at max_depth) ts None None o (after (Word token.GlobalWord) ts) (after (Word token.RaiseWord) ts)) (return_not ts start)
+    ∙ ap (λ o. small_from (expression_at max_depth) ts None None None o (after (Word token.RaiseWord) ts)) (global_not ts start)
+    ∙ ap (λ o. small_from (expression_at max_depth) ts None None None None o) (raise_not ts start)
 
 assigned_complete : (x : Text) (a : Option BinaryOperator) (e : Expr) (f g whole more : List Terminal) → whole ≡ f ++ Sign (sign_of a) ∷ g → IsExpression (tree.Name x) f → IsExpressions e g → Follows more → statement_by (expression_at max_depth) (whole ++ more) ≡ Some (assigned (tree.Named x) a e, more)
 assigned_complete x a e f g whole more is hx he ends =
@@ -288,6 +327,8 @@ statement_complete (tree.Global xs) f more h ends =
     let over = small_over more ends.3 in
     ap (λ t. statement_by (expression_at max_depth) (t ++ more)) h.1
     ∙ ap (λ o. then_read o (λ r. Some (tree.Global r.0, r.1))) (names_complete xs h.0 more h.2 over.0 over.1)
+statement_complete (tree.Import Threading) f more h ends = ap (λ t. statement_by (expression_at max_depth) (t ++ more)) h
+statement_complete (tree.Import Interpreters) f more h ends = ap (λ t. statement_by (expression_at max_depth) (t ++ more)) h
 statement_complete (tree.Define x ps body) f more h ends = absurd h
 statement_complete (tree.If test body other) f more h ends = absurd h
 statement_complete (tree.While test body other) f more h ends = absurd h
@@ -311,6 +352,8 @@ small_starts tree.Continue f more h = ap (λ t. starts (t ++ more)) h
 small_starts (tree.Return None) f more h = ap (λ t. starts (t ++ more)) h
 small_starts (tree.Return (Some e)) f more h = ap (λ t. starts (t ++ more)) h.1
 small_starts (tree.Global xs) f more h = ap (λ t. starts (t ++ more)) h.1
+small_starts (tree.Import Threading) f more h = ap (λ t. starts (t ++ more)) h
+small_starts (tree.Import Interpreters) f more h = ap (λ t. starts (t ++ more)) h
 small_starts (tree.Define x ps body) f more h = absurd h
 small_starts (tree.If test body other) f more h = absurd h
 small_starts (tree.Raise None) f more h = ap (λ t. starts (t ++ more)) h

@@ -1,15 +1,16 @@
 // Expressions, by precedence climbing with one token of look-ahead.
 
-ghost use Rattle.std.specs.Prelude.{◌≡◌, ℕ, ◌+◌, ◌-◌, ◌*◌, ◌<◌, ◌≤◌, [], map, length, option_map, IfOk};
+ghost use Rattle.std.specs.Prelude.{◌≡◌, ℕ, ◌+◌, ◌-◌, ◌*◌, ◌<◌, ◌≤◌, [], map, length, option_map, string_bytes, IfOk};
 ghost use Rattle.si_semantics.specs.Grammar.{is_identity};
 ghost use Rattle.si_syntax.specs.Trees.{expr_of, link_of};
-ghost use Rattle.si_parse.specs.inner.Reading.{rest_of, within, strings_by, str_by, is_singleton, compared_by, operand_by, atom_by, unary_by, items_by, bracketed_by, continued_by, binary_by, call_by, subscript_by, compare_by, boolean_by, conditional_by, extended_by, argument_by, arguments_by, operands_by, links_by, expression_at};
+ghost use Rattle.si_parse.specs.inner.Reading.{rest_of, within, strings_by, str_by, is_singleton, compared_by, operand_by, atom_by, unary_by, items_by, bracketed_by, continued_by, binary_by, attribute_by, call_of, call_by, subscript_by, compare_by, boolean_by, conditional_by, extended_by, argument_by, arguments_by, operands_by, links_by, expression_at};
 ghost use Rattle.si_parse.specs.inner.Gives.{Gives, from, continuation_view, argument_of};
 
 use crate::argument::{Argument, named_at, passed};
 use crate::fault::ParseFault;
 use crate::literal::str_value;
 use crate::lookahead::{after, after_boolean, after_items, after_word, line_at, token_at};
+use crate::name::name;
 use crate::octets::bytes_at;
 use crate::precedence::{
     BIT_OR, Continuation, DISJUNCTION, EXPRESSION, comparison_at, item_level, prefix_at,
@@ -19,7 +20,7 @@ use si_plain::limits::MAX_STR_LENGTH;
 use si_plain::{BinaryOperator, BooleanOperator, ComparisonOperator, Octets, Text, UnaryOperator};
 use si_syntax::Expr;
 use si_token::{Keyword, Symbol, Token, TokenKind, int_value};
-use std::alloc::Global;
+use std::alloc::{AllocError, Global};
 
 // An expression with its depth, and the place after it.
 pub(crate) type Read = Result<(Expr, u32, usize), ParseFault>;
@@ -273,6 +274,7 @@ fn extended(
         Continuation::Operator(operator) => binary(
             alloc, parts, left, depth, operator, tokens, behind,
         ),
+        Continuation::Attribute => attribute(alloc, parts, left, depth, tokens, behind),
         Continuation::Arguments => call(alloc, parts, left, depth, tokens, behind),
         Continuation::Index => subscript(alloc, parts, left, depth, tokens, behind),
         Continuation::Comparison => compare(alloc, parts, left, depth, tokens, at),
@@ -303,6 +305,33 @@ fn binary(
     within(parts + 1, tree, depth.max(right_depth) + 1, tokens, at)
 }
 
+// The object with the name of its attribute, from after the dot.
+fn attribute(alloc: Global, parts: u32, left: Expr, depth: u32, tokens: &[Token], at: usize) -> Read
+    requires limit { parts < 999 }
+    requires shallow { depth ≤ parts + 1 }
+    ensures reads { Gives (λ x. (expr_of x.0, x.1, from tokens.now x.2)) result (attribute_by (parts + 1) (expr_of left) depth (from tokens.now at)) }
+    ensures shallow { IfOk result (λ x. x.1 ≤ parts + 1) }
+{
+    let (name, behind) = name(alloc, tokens, at)?;
+    let tree = Expr::Attribute(Box::new(alloc, left)?, name);
+    within(parts + 1, tree, depth + 1, tokens, behind)
+}
+
+// The call of a tree with these arguments. Where it is an attribute, its object is the callee.
+fn called(
+    alloc: Global,
+    left: Expr,
+    values: Vec<Expr>,
+    names: Vec<String>,
+) -> Result<Expr, AllocError>
+    ensures { IfOk result (λ e. expr_of e ≡ call_of (expr_of left) (map expr_of values.items, map string_bytes names.items)) }
+{
+    match left {
+        Expr::Attribute(object, name) => Ok(Expr::Call(object, Some(name), values, names)),
+        _ => Ok(Expr::Call(Box::new(alloc, left)?, None, values, names)),
+    }
+}
+
 // The callee with its arguments, from after the open bracket.
 #[cycle(expressions)]
 fn call(alloc: Global, parts: u32, left: Expr, depth: u32, tokens: &[Token], at: usize) -> Read
@@ -313,7 +342,7 @@ fn call(alloc: Global, parts: u32, left: Expr, depth: u32, tokens: &[Token], at:
 {
     let (arguments, arguments_depth, at) = arguments(alloc, parts, tokens, at)?;
     let (values, names) = passed(alloc, arguments, line_at(tokens, at))?;
-    let tree = Expr::Call(Box::new(alloc, left)?, values, names);
+    let tree = called(alloc, left, values, names)?;
     within(parts + 1, tree, depth.max(arguments_depth) + 1, tokens, at)
 }
 

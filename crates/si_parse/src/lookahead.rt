@@ -4,10 +4,10 @@ ghost use Rattle.std.specs.Prelude.{◌≡◌, ℕ, ◌+◌, ◌<◌, ◌≤◌,
 ghost use Rattle.si_semantics.specs.Grammar.{terminal_of, Sign, Word, NEWLINE, INDENT, DEDENT};
 ghost use Rattle.si_semantics.specs.Tokens as token;
 ghost use Rattle.si_token.specs.Views.{keyword_of, symbol_of, token_of};
-ghost use Rattle.si_parse.specs.inner.Reading.{after, after_boolean, after_catch, after_comma, closing, ends_items, ends_small, header_at, past_comma};
+ghost use Rattle.si_parse.specs.inner.Reading.{after, after_boolean, after_catch, after_comma, after_name, after_import, after_from, after_interpreters, import_at, closing, ends_items, ends_small, header_at, past_comma};
 ghost use Rattle.si_parse.specs.inner.Gives.{from, header_view};
 
-use si_plain::BooleanOperator;
+use si_plain::{BooleanOperator, ModuleName};
 use si_token::{Keyword, Symbol, Token, TokenKind};
 
 // The word with which a compound statement begins.
@@ -62,6 +62,58 @@ pub(crate) fn after_word(tokens: &[Token], at: usize, keyword: Keyword) -> Optio
         TokenKind::Keyword(found) => { if found == keyword { Some(at + 1) } else { None } }
         _ => None,
     }
+}
+
+// The place after the name, where it stands at the place.
+fn after_name(tokens: &[Token], at: usize, name: &str) -> Option<usize>
+    ensures { option_map (from tokens.now) result ≡ after_name name.now (from tokens.now at) }
+{
+    let token = token_at(tokens, at)?;
+    match token.kind {
+        TokenKind::Name => {
+            if token.text == name {
+                Some(at + 1)
+            } else {
+                None
+            }
+        }
+        _ => None,
+    }
+}
+
+// The place after an `import` of the name, where one stands at the place.
+fn after_import(tokens: &[Token], at: usize, name: &str) -> Option<usize>
+    ensures { option_map (from tokens.now) result ≡ after_import name.now (from tokens.now at) }
+{
+    let behind = after_word(tokens, at, Keyword::Import)?;
+    after_name(tokens, behind, name)
+}
+
+// The place after a `from` and the name, where they stand at the place.
+fn after_from(tokens: &[Token], at: usize, name: &str) -> Option<usize>
+    ensures { option_map (from tokens.now) result ≡ after_from name.now (from tokens.now at) }
+{
+    let behind = after_word(tokens, at, Keyword::From)?;
+    after_name(tokens, behind, name)
+}
+
+// The place after the import of `concurrent.interpreters`, where it stands at the place.
+fn after_interpreters(tokens: &[Token], at: usize) -> Option<usize>
+    ensures { option_map (from tokens.now) result ≡ after_interpreters (from tokens.now at) }
+{
+    let behind = after_from(tokens, at, "concurrent")?;
+    after_import(tokens, behind, "interpreters")
+}
+
+// The module whose import stands at the place, and the place after it.
+pub(crate) fn import_at(tokens: &[Token], at: usize) -> Option<(ModuleName, usize)>
+    ensures { option_map (λ x. (x.0, from tokens.now x.1)) result ≡ import_at (from tokens.now at) }
+{
+    if let Some(behind) = after_import(tokens, at, "threading") {
+        return Some((ModuleName::Threading, behind));
+    }
+    let behind = after_interpreters(tokens, at)?;
+    Some((ModuleName::Interpreters, behind))
 }
 
 // The place after the end of a line, where it stands at the place.

@@ -39,6 +39,7 @@ const PRIMARY: u32 = 18;
 #[derive(Clone, Copy)]
 pub(crate) enum Continuation {
     Operator(BinaryOperator),
+    Attribute,
     Arguments,
     Index,
     Comparison,
@@ -116,6 +117,7 @@ fn role_of(symbol: Symbol) -> Continuation
         Symbol::DoubleStar => Continuation::Operator(BinaryOperator::Power),
         Symbol::LeftParenthesis => Continuation::Arguments,
         Symbol::LeftBracket => Continuation::Index,
+        Symbol::Dot => Continuation::Attribute,
         Symbol::Less | Symbol::Greater => Continuation::Comparison,
         Symbol::LessEqual | Symbol::GreaterEqual => Continuation::Comparison,
         Symbol::EqualEqual | Symbol::NotEqual => Continuation::Comparison,
@@ -162,7 +164,7 @@ pub(crate) fn strength(continuation: Continuation) -> u32
 {
     match continuation {
         Continuation::Operator(operator) => left_level(operator),
-        Continuation::Arguments | Continuation::Index => PRIMARY,
+        Continuation::Attribute | Continuation::Arguments | Continuation::Index => PRIMARY,
         Continuation::Comparison => 9,
         Continuation::Boolean(BooleanOperator::And) => 6,
         Continuation::Boolean(BooleanOperator::Or) => 4,

@@ -11,7 +11,7 @@ use crate::block::block;
 use crate::expression::expression;
 use crate::expressions::expressions;
 use crate::fault::ParseFault;
-use crate::lookahead::{after, after_line, after_word, ends_small, line_at, token_at};
+use crate::lookahead::{after, after_line, after_word, ends_small, import_at, line_at, token_at};
 use crate::name::names;
 use crate::precedence::EXPRESSION;
 use crate::target::as_target;
@@ -141,6 +141,9 @@ fn statement(alloc: Global, tokens: &[Token], start: usize) -> Result<(Stmt, usi
 {
     if let Some((word, behind)) = word_statement(tokens, start) {
         return Ok((word, behind));
+    }
+    if let Some((module, behind)) = import_at(tokens, start) {
+        return Ok((Stmt::Import(line_at(tokens, start), module), behind));
     }
     if let Some(behind) = after_word(tokens, start, Keyword::Return) {
         return returned(alloc, line_at(tokens, start), tokens, behind);

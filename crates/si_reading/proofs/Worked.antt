@@ -9,4 +9,4 @@ use Rattle.si_reading.specs.Worked.{TreeCases}
 
 pub worked_trees : TreeCases
 unfolding symbols keywords separated_by chain_by many_by continued_by expression_at block_at words_by tree_in tree_of_text lib.Utf8.encode chars
-worked_trees = record { empty = refl; an_if = refl; character = refl; no_word = refl; no_layout = refl; no_tree = refl; not_scoped = refl }
+worked_trees = record { empty = refl; an_if = refl; character = refl; a_method = refl; in_brackets = refl; an_attribute = refl; threading = refl; interpreters = refl; no_module = refl; no_word = refl; no_layout = refl; no_tree = refl; not_scoped = refl }

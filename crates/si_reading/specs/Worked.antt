@@ -1,8 +1,11 @@
 -- Worked cases of the tree of a text.
 use Rattle.std.specs.Prelude.{◌≡◌, List, [], ◌∷◌, ◌++◌, Option, Some, None, codes}
 use Rattle.si_semantics.specs.Value.{Str}
-use Rattle.si_semantics.specs.Tree.{Module, Stmt, Evaluate, Constant}
-use Rattle.si_semantics.specs.Worked.Straight.{suite}
+use Rattle.si_plain.specs.declared.modules.ModuleName.TheVariants.{Threading, Interpreters}
+use Rattle.si_semantics.specs.Tree.{Module, Stmt, Evaluate, Import, Constant, Name}
+use Rattle.si_semantics.specs.Tree as tree
+use Rattle.si_semantics.specs.Worked.Straight.{int, suite}
+use Rattle.si_semantics.specs.Worked.Attributes.{method}
 use Rattle.si_semantics.specs.Worked.Grammar.{an_if}
 use Rattle.si_reading.specs.Texts.{tree_of_text}
 
@@ -16,6 +19,16 @@ pub record TreeCases : Type 0 where
   pub an_if : tree_of_text (codes "if x:\n  f(x)") ≡ statements (an_if ∷ [])
   -- one character past ASCII, which is two bytes
   pub character : tree_of_text (codes "'" ++ 233 ∷ codes "'") ≡ statements (Evaluate (Constant (Str (233 ∷ []))) ∷ [])
+  -- the object of an attribute that is called is the callee, in brackets too
+  pub a_method : tree_of_text (codes "a.b(1)") ≡ statements (Evaluate (method (Name (codes "a")) (codes "b") (int 1 ∷ [])) ∷ [])
+  pub in_brackets : tree_of_text (codes "(a.b)(1)") ≡ statements (Evaluate (method (Name (codes "a")) (codes "b") (int 1 ∷ [])) ∷ [])
+  -- an attribute that is not called
+  pub an_attribute : tree_of_text (codes "a.b") ≡ statements (Evaluate (tree.Attribute (Name (codes "a")) (codes "b")) ∷ [])
+  -- the two modules
+  pub threading : tree_of_text (codes "import threading") ≡ statements (Import Threading ∷ [])
+  pub interpreters : tree_of_text (codes "from concurrent import interpreters") ≡ statements (Import Interpreters ∷ [])
+  -- there is no other, and neither is imported in the form of the other
+  pub no_module : tree_of_text (codes "import interpreters") ≡ None
   -- a word that is none
   pub no_word : tree_of_text (codes "1x") ≡ None
   -- a line that is deeper than the one before it, with no suite begun

@@ -53,6 +53,7 @@ mutual
       by false = refl
   stmt_is (tree.Return a) loop names = refl
   stmt_is (tree.Global xs) loop names = refl
+  stmt_is (tree.Import m) loop names = none_behind names
   stmt_is (tree.Raise a) loop names = none_behind names
   stmt_is (tree.Try b cs c) loop names =
       let w = InText loop in

@@ -1,5 +1,7 @@
 -- The names that expressions use: those of the parts, one after another.
 use Rattle.std.proofs.Common.{◌≡◌, ℕ, ◌+◌, ◌<◌, ◌≤◌, List, ◌++◌, map, length, drop, get_or, Box, Vec, Global, String, string_bytes, sym, ap, ◌∙◌}
+use Rattle.std.specs.Prelude.{Option}
+use Rattle.std.specs.Option.{option_map}
 use Rattle.std.proofs.lemmas.List.{drop_all}
 use Rattle.si_semantics.specs.Tree as tree
 use Rattle.si_semantics.specs.Value.{Text}
@@ -27,8 +29,8 @@ names_are e view t is sees = ap (λ x. names_of (expr_of x)) is ∙ ap names_of 
 binary_is : (o : BinaryOperator) (a b : Box Expr Global) → expr_of (views.Binary o a b) ≡ tree.Binary o (expr_of a.value) (expr_of b.value)
 binary_is o a b = ap expr_of (sym (rolls-Binary o a b)) ∙ fold-roll-Expr tree.Expr view_step (Expr-F.Binary o a b)
 
-call_is : (f : Box Expr Global) (args : Vec Expr Global) (names : Vec (String Global) Global) → expr_of (views.Call f args names) ≡ tree.Call (expr_of f.value) (exprs_of (map expr_of args.items)) (map string_bytes names.items)
-call_is f args names = ap expr_of (sym (rolls-Call f args names)) ∙ fold-roll-Expr tree.Expr view_step (Expr-F.Call f args names)
+call_is : (f : Box Expr Global) (x : Option (String Global)) (args : Vec Expr Global) (names : Vec (String Global) Global) → expr_of (views.Call f x args names) ≡ tree.Call (expr_of f.value) (option_map string_bytes x) (exprs_of (map expr_of args.items)) (map string_bytes names.items)
+call_is f x args names = ap expr_of (sym (rolls-Call f x args names)) ∙ fold-roll-Expr tree.Expr view_step (Expr-F.Call f x args names)
 
 subscript_is : (a b : Box Expr Global) → expr_of (views.Subscript a b) ≡ tree.Subscript (expr_of a.value) (expr_of b.value)
 subscript_is a b = ap expr_of (sym (rolls-Subscript a b)) ∙ fold-roll-Expr tree.Expr view_step (Expr-F.Subscript a b)
@@ -42,8 +44,8 @@ conditional_is a b c = ap expr_of (sym (rolls-Conditional a b c)) ∙ fold-roll-
 pub binary_names : (o : BinaryOperator) (a b : Box Expr Global) (e : Expr) → e ≡ views.Binary o a b → names_of (expr_of e) ≡ names_of (expr_of a.value) ++ names_of (expr_of b.value)
 binary_names o a b e is = names_are e (views.Binary o a b) _ is (binary_is o a b)
 
-pub call_names : (f : Box Expr Global) (args : Vec Expr Global) (names : Vec (String Global) Global) (e : Expr) → e ≡ views.Call f args names → names_of (expr_of e) ≡ names_of (expr_of f.value) ++ names_of_all (exprs_of (map expr_of args.items))
-call_names f args names e is = names_are e (views.Call f args names) _ is (call_is f args names)
+pub call_names : (f : Box Expr Global) (x : Option (String Global)) (args : Vec Expr Global) (names : Vec (String Global) Global) (e : Expr) → e ≡ views.Call f x args names → names_of (expr_of e) ≡ names_of (expr_of f.value) ++ names_of_all (exprs_of (map expr_of args.items))
+call_names f x args names e is = names_are e (views.Call f x args names) _ is (call_is f x args names)
 
 pub subscript_names : (a b : Box Expr Global) (e : Expr) → e ≡ views.Subscript a b → names_of (expr_of e) ≡ names_of (expr_of a.value) ++ names_of (expr_of b.value)
 subscript_names a b e is = names_are e (views.Subscript a b) _ is (subscript_is a b)

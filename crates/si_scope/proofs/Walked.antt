@@ -7,6 +7,7 @@ use Rattle.std.proofs.lemmas.List.{append-nil}
 use Rattle.si_semantics.specs.Value.{Text}
 use Rattle.si_semantics.specs.Tree as tree
 use Rattle.si_semantics.specs.Tree.{Expr, Stmt, Stmts, Clauses}
+use Rattle.si_semantics.specs.Text.{module_name}
 use Rattle.si_semantics.specs.Scope.{is_in, are_apart, are_distinct, with_new, names_of, names_of_value, name_in, bound_by, bound_in, bound_in_clauses, declared_by, declared_in, declared_in_clauses, used_by, used_in, used_in_clauses, declares_first, declare_first, clauses_declare_first, InText, InFunction, stmt_scoped, stmts_scoped, clauses_scoped}
 use Rattle.si_scope.specs.declared.seen.Seen.{Seen}
 use Rattle.si_scope.specs.inner.Walk.{with_names, using, binding_any, declaring, after, after_all, after_clauses, local_to}
@@ -191,6 +192,7 @@ mutual
   bound_apart (tree.Define f ps b) = λ ys h. h
   bound_apart (tree.Return a) = no_names (names_of_value a)
   bound_apart (tree.Global xs) = no_names []
+  bound_apart (tree.Import m) = λ ys h. h
   bound_apart (tree.Raise a) = no_names (names_of_value a)
   bound_apart (tree.Try b cs c) =
       in_both (used_in b) (used_in_clauses cs ++ used_in c) (bound_in b) (bound_in_clauses cs ++ bound_in c) (all_bound_apart b)
@@ -252,6 +254,7 @@ mutual
   stmt_is (tree.Define f ps b) loop returns s = ap (λ a. if a && false then Some (seen_in s (f ∷ []) [] (f ∷ [])) else None) (sym (apart_nil s.used))
   stmt_is (tree.Return a) loop returns s = ap (λ b. if b && returns then Some (using (names_of_value a) s) else None) (sym (apart_nil s.used))
   stmt_is (tree.Global xs) loop returns s = declaring_is xs s
+  stmt_is (tree.Import m) loop returns s = ap (λ a. if a && false then Some (seen_in s (module_name m ∷ []) [] (module_name m ∷ [])) else None) (sym (apart_nil s.used))
   stmt_is (tree.Raise a) loop returns s = one_row s (names_of_value a) []
   stmt_is (tree.Try b cs c) loop returns s =
       let w = InFunction loop returns in

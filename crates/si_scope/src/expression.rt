@@ -24,7 +24,8 @@ pub(crate) fn use_names(expr: &Expr, used: &mut Names) -> Result<(), NoMemory>
             use_names(left, used)?;
             use_names(right, used)
         }
-        Expr::Call(callee, arguments, _) => {
+        Expr::Attribute(object, _) => use_names(object, used),
+        Expr::Call(callee, _, arguments, _) => {
             use_names(callee, used)?;
             use_all(arguments, used)
         }

@@ -73,6 +73,7 @@ fn see_stmt(stmt: &Stmt, place: Place, seen: &mut Seen) -> Result<(), ScopeFault
         }
         Stmt::Define(function) => Err(ScopeFault::Scope(function.line)),
         Stmt::Global(line, names) => seen.declare(*line, names),
+        Stmt::Import(line, _) => Err(ScopeFault::Scope(*line)),
         Stmt::Try(statement) => see_try(statement, place, seen),
         Stmt::Finally(Finally { tried, end }) => {
             see_try(tried, place, seen)?;

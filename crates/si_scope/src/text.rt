@@ -20,7 +20,7 @@ use std::alloc::Global;
 ///
 /// A script is refused unless each `break` and `continue` stands in a loop of the same function or text (Python Language
 /// Reference 3.14, 7.9 and 7.10), each `return` and `global` in a function (7.6; that a `global` is refused at module
-/// level is this project's own), and each `def` in none (this project's own); no `break`, `continue` or `return` leaves
+/// level is this project's own), and each `def` and each `import` in none (this project's own); no `break`, `continue` or `return` leaves
 /// the suite of a `finally` (PEP 765, whose warning is a refusal here); no parameter comes twice (8.7); and no name is
 /// declared global that is a parameter of the function or is used in front of the declaration (7.12).
 ///
@@ -65,9 +65,12 @@ fn resolve_stmt(
     ensures { Leaves locals.new.items result (resolved (stmt_of stmt.now) in_loop locals.old.items) }
 {
     match stmt {
-        Stmt::Evaluate(_) | Stmt::Assign(_) | Stmt::Augment(_) | Stmt::Pass | Stmt::Raise(_) => {
-            Ok(())
-        }
+        Stmt::Evaluate(_)
+        | Stmt::Assign(_)
+        | Stmt::Augment(_)
+        | Stmt::Pass
+        | Stmt::Import(_, _)
+        | Stmt::Raise(_) => Ok(()),
         Stmt::If(statement) => resolve_if(alloc, statement, in_loop, locals),
         Stmt::While(statement) => {
             resolve_suite(alloc, &statement.body, true, locals)?;

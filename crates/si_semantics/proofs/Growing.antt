@@ -2,14 +2,18 @@
 use Rattle.std.proofs.Common.{◌≡◌, ℕ, zero, suc, ◌+◌, ◌≤◌, List, [], ◌∷◌, ◌++◌, length, Bool, true, false, Option, Some, None, refl, sym, ap, ◌∙◌, subst, arith, append_assoc, length-append}
 use Rattle.std.specs.Prelude.{nat_eq, slice_get}
 use Rattle.std.proofs.lemmas.List.{append-nil}
-use Rattle.si_semantics.specs.Value.{Text, Value, Nothing, Truth, Int, Str, Bytes, Provided, Function, Range, Tuple, Class, Address}
+use Rattle.si_semantics.specs.Value.{Text, Value, Nothing, Truth, Int, Str, Bytes, Provided, Function, Range, Tuple, Class, Module, Queue, Interpreter, Exec, Address}
 use Rattle.si_semantics.specs.Tree.{BooleanOperator, Expr, Exprs, Comparisons, Stmt, Stmts, Clauses, functions_of, functions_in, functions_in_clauses}
 use Rattle.si_semantics.specs.Tree as tree
 use Rattle.si_semantics.specs.Scope.{place_of, locals_of}
 use Rattle.si_semantics.specs.World.{World, Request, Bind, Run, Closing, Answer, Taken, Done, Replied, Got, Failed, Wants, Ran, Gave, Threw, Asked, bind_all}
-use Rattle.si_semantics.specs.Operations.{exception, tuple_within, operate, operate_unary, is_true, compare, load_global, load_local, call_provided, call_by_name, not_callable, wrong_arguments, too_deep, type_error, raised_by, raised_again, catches, Iterator, iterator_of, Next, Item, Exhausted, Refuses, next_item, reply}
+use Rattle.si_semantics.specs.Operations.{exception, tuple_within, operate, operate_unary, is_true, compare, load_global, load_local, call_provided, call_by_name, not_callable, wrong_arguments, too_deep, type_error, raised_by, raised_again, catches, Iterator, iterator_of, Next, Item, Exhausted, Refuses, next_item}
+use Rattle.si_semantics.specs.Replies.{reply}
+use Rattle.si_semantics.specs.World as world
 use Rattle.si_semantics.specs.Subscription.{subscript}
-use Rattle.si_semantics.specs.Meaning.{State, Raises, Returns, Breaks, Continues, Result, Gives, Leaves, Asks, Cut, Meaning, Scope, behind, with_active, visit, then, printed, raised, asked, ran, slot_at, read, assign, unassign, calls, choose, decides, compared, expr, exprs, operands, chain, after_turn, turn_of, loop, for_loop, over, returning, raising, caught, active_in, finally, named, stmt, stmts, clauses, returned, entered, fitting, run_body, call, max_calls}
+use Rattle.si_semantics.specs.Attributes.{Method, attribute, called, method_of, call_method}
+use Rattle.si_semantics.specs.Text.{module_name}
+use Rattle.si_semantics.specs.Meaning.{State, Raises, Returns, Breaks, Continues, Result, Gives, Leaves, Asks, Cut, Meaning, Scope, behind, with_active, visit, then, printed, raised, asked, ran, slot_at, read, assign, unassign, calls, calls_method, calls_attribute, callee, choose, decides, compared, expr, exprs, operands, chain, after_turn, turn_of, loop, for_loop, over, returning, raising, caught, active_in, finally, named, stmt, stmts, clauses, returned, entered, fitting, run_body, call, max_calls}
 use Rattle.si_semantics.specs.Life.{Outcome, Returned, Told, Stops, IsGone, IsCut, Action, outcome_of, not_read, after_end, ends_with, run_ended, module_scope, run_of, takes, life, newborn, life_of, end_of}
 use Rattle.si_semantics.specs.Laws.{Grows, state_of, OneLife, LivesGrow, GoneStays}
 
@@ -104,8 +108,24 @@ calls_add e h (Provided f) vs [] s = ran_adds (call_provided (Provided f) vs s.w
 calls_add e h (Range a b c) vs [] s = ran_adds (call_provided (Range a b c) vs s.world) s
 calls_add e h (Tuple us) vs [] s = ran_adds (call_provided (Tuple us) vs s.world) s
 calls_add e h (Class k) vs [] s = ran_adds (call_provided (Class k) vs s.world) s
+calls_add e h (Module m) vs [] s = ran_adds (call_provided (Module m) vs s.world) s
+calls_add e h (Queue q m) vs [] s = ran_adds (call_provided (Queue q m) vs s.world) s
+calls_add e h (Interpreter i) vs [] s = ran_adds (call_provided (Interpreter i) vs s.world) s
+calls_add e h (Exec i) vs [] s = ran_adds (call_provided (Exec i) vs s.world) s
 calls_add e h (Address x) vs [] s = ran_adds (call_provided (Address x) vs s.world) s
 calls_add e h g vs (x ∷ names) s = ran_adds (call_by_name g s.world) s
+
+calls_method_add : (e : Scope) → Calls_add e → (m : Option Method) (g : Value) (vs : List Value) (names : List Text) → Adds (calls_method e m g vs names)
+calls_method_add e h None g vs names s = calls_add e h g vs names s
+calls_method_add e h (Some m) g vs names s = ran_adds (call_method m g vs names s.world) s
+
+calls_attribute_add : (e : Scope) → Calls_add e → (x : Option Text) (g : Value) (vs : List Value) (names : List Text) → Adds (calls_attribute e x g vs names)
+calls_attribute_add e h None g vs names s = calls_add e h g vs names s
+calls_attribute_add e h (Some x) g vs names s = calls_method_add e h (method_of g x s.world) g vs names s
+
+callee_adds : (x : Option Text) (object : Meaning Value) → Adds object → Adds (callee x object)
+callee_adds None object h s = h s
+callee_adds (Some x) object h s = both_add s (object (visit s)) _ (trans (visit_adds s) (h (visit s))) (λ v s1. ran_adds (called v x s1.world) s1)
 
 module _ (e : Scope) (calling : Calls_add e) where
   mutual
@@ -115,9 +135,10 @@ module _ (e : Scope) (calling : Calls_add e) where
     expr_adds (tree.Unary o a) s = both_add s (expr e a (visit s)) _ (trans (visit_adds s) (expr_adds a (visit s))) (λ v s1. ran_adds (operate_unary o v s1.world) s1)
     expr_adds (tree.Binary o a b) s =
         both_add s (expr e a (visit s)) _ (trans (visit_adds s) (expr_adds a (visit s))) (λ u s1. both_add s1 (expr e b s1) _ (expr_adds b s1) (λ v s2. ran_adds (operate o u v s2.world) s2))
-    expr_adds (tree.Call f args names) s =
-        both_add s (expr e f (visit s)) _ (trans (visit_adds s) (expr_adds f (visit s)))
-        (λ g s1. both_add s1 (exprs e args s1) _ (exprs_add args s1) (λ vs s2. calls_add e calling g vs names s2))
+    expr_adds (tree.Attribute a x) s = both_add s (expr e a (visit s)) _ (trans (visit_adds s) (expr_adds a (visit s))) (λ v s1. ran_adds (attribute v x s1.world) s1)
+    expr_adds (tree.Call f x args names) s =
+        both_add s (callee x (expr e f) (visit s)) _ (trans (visit_adds s) (callee_adds x (expr e f) (λ s1. expr_adds f s1) (visit s)))
+        (λ g s1. both_add s1 (exprs e args s1) _ (exprs_add args s1) (λ vs s2. calls_attribute_add e calling x g vs names s2))
     expr_adds (tree.Subscript a b) s =
         both_add s (expr e a (visit s)) _ (trans (visit_adds s) (expr_adds a (visit s))) (λ u s1. both_add s1 (expr e b s1) _ (expr_adds b s1) (λ v s2. ran_adds (subscript u v s2.world) s2))
     expr_adds (tree.Tuple items) s =
@@ -237,6 +258,7 @@ mutual
   stmt_adds e h (tree.Define f ps b) s = trans (visit_adds s) (assign_adds f (place_of f e.locals) (Function f e.first) (visit s))
   stmt_adds e h (tree.Return a) s = trans (visit_adds s) (returning_adds e h a (visit s))
   stmt_adds e h (tree.Global xs) s = visit_adds s
+  stmt_adds e h (tree.Import m) s = trans (visit_adds s) (assign_adds (module_name m) (place_of (module_name m) e.locals) (Module m) (visit s))
   stmt_adds e h (tree.Raise a) s = trans (visit_adds s) (raising_adds e h a (visit s))
   stmt_adds e h (tree.For (tree.Named x) a b c) s =
       both_add s (expr e a (visit s)) _ (trans (visit_adds s) (expr_adds e h a (visit s)))
@@ -312,6 +334,20 @@ after_end_adds : (answers : List Answer) (o : Outcome) (rest : State → Told) �
 after_end_adds [] o rest h s = record { pieces = (same s).pieces; visits = (same s).visits }
 after_end_adds (Done ∷ more) o rest h s = let g = h (record s { answers = more }) in record { pieces = g.pieces; visits = g.visits }
 after_end_adds (Taken j ∷ more) o rest h s = record { pieces = (same s).pieces; visits = (same s).visits }
+after_end_adds (world.Limit ∷ more) o rest h s = record { pieces = (same s).pieces; visits = (same s).visits }
+after_end_adds ((world.Created i) ∷ more) o rest h s = record { pieces = (same s).pieces; visits = (same s).visits }
+after_end_adds ((world.QueueMade i) ∷ more) o rest h s = record { pieces = (same s).pieces; visits = (same s).visits }
+after_end_adds ((world.Started i) ∷ more) o rest h s = record { pieces = (same s).pieces; visits = (same s).visits }
+after_end_adds (world.Full ∷ more) o rest h s = record { pieces = (same s).pieces; visits = (same s).visits }
+after_end_adds (world.Empty ∷ more) o rest h s = record { pieces = (same s).pieces; visits = (same s).visits }
+after_end_adds ((world.Item v) ∷ more) o rest h s = record { pieces = (same s).pieces; visits = (same s).visits }
+after_end_adds ((world.Count i) ∷ more) o rest h s = record { pieces = (same s).pieces; visits = (same s).visits }
+after_end_adds (world.NotFound ∷ more) o rest h s = record { pieces = (same s).pieces; visits = (same s).visits }
+after_end_adds (world.Running ∷ more) o rest h s = record { pieces = (same s).pieces; visits = (same s).visits }
+after_end_adds (world.Current ∷ more) o rest h s = record { pieces = (same s).pieces; visits = (same s).visits }
+after_end_adds (world.Main ∷ more) o rest h s = record { pieces = (same s).pieces; visits = (same s).visits }
+after_end_adds ((world.Ended z) ∷ more) o rest h s = record { pieces = (same s).pieces; visits = (same s).visits }
+after_end_adds ((world.Truth t) ∷ more) o rest h s = record { pieces = (same s).pieces; visits = (same s).visits }
 
 ends_add : (o : Outcome) (rest : State → Told) → Rest_adds rest → (s : State) → Grows s (state_of (ends_with o rest s))
 ends_add o rest h s = trans (visit_adds s) (after_end_adds s.answers o rest h (visit s))
@@ -334,6 +370,20 @@ takes_add n fs rest h (Taken (Run (Some m)) ∷ more) s =
     record { pieces = g.pieces; visits = g.visits }
 takes_add n fs rest h (Taken Closing ∷ more) s = record { pieces = (same s).pieces; visits = (same s).visits }
 takes_add n fs rest h (Done ∷ more) s = record { pieces = (same s).pieces; visits = (same s).visits }
+takes_add n fs rest h (world.Limit ∷ more) s = record { pieces = (same s).pieces; visits = (same s).visits }
+takes_add n fs rest h ((world.Created i) ∷ more) s = record { pieces = (same s).pieces; visits = (same s).visits }
+takes_add n fs rest h ((world.QueueMade i) ∷ more) s = record { pieces = (same s).pieces; visits = (same s).visits }
+takes_add n fs rest h ((world.Started i) ∷ more) s = record { pieces = (same s).pieces; visits = (same s).visits }
+takes_add n fs rest h (world.Full ∷ more) s = record { pieces = (same s).pieces; visits = (same s).visits }
+takes_add n fs rest h (world.Empty ∷ more) s = record { pieces = (same s).pieces; visits = (same s).visits }
+takes_add n fs rest h ((world.Item v) ∷ more) s = record { pieces = (same s).pieces; visits = (same s).visits }
+takes_add n fs rest h ((world.Count i) ∷ more) s = record { pieces = (same s).pieces; visits = (same s).visits }
+takes_add n fs rest h (world.NotFound ∷ more) s = record { pieces = (same s).pieces; visits = (same s).visits }
+takes_add n fs rest h (world.Running ∷ more) s = record { pieces = (same s).pieces; visits = (same s).visits }
+takes_add n fs rest h (world.Current ∷ more) s = record { pieces = (same s).pieces; visits = (same s).visits }
+takes_add n fs rest h (world.Main ∷ more) s = record { pieces = (same s).pieces; visits = (same s).visits }
+takes_add n fs rest h ((world.Ended z) ∷ more) s = record { pieces = (same s).pieces; visits = (same s).visits }
+takes_add n fs rest h ((world.Truth t) ∷ more) s = record { pieces = (same s).pieces; visits = (same s).visits }
 
 life_adds : (n k : ℕ) (fs : List tree.Function) → Rest_adds (life n k fs)
 life_adds n zero fs s = same s
@@ -478,11 +528,27 @@ module _ (b : List Answer) (locals : List Text) (n m : ℕ) (fewer : n ≤ m) (c
   calls_further z i (Range a c d) vs [] s = ran_further b (call_provided (Range a c d) vs s.world) s
   calls_further z i (Tuple us) vs [] s = ran_further b (call_provided (Tuple us) vs s.world) s
   calls_further z i (Class k) vs [] s = ran_further b (call_provided (Class k) vs s.world) s
+  calls_further z i (Module m) vs [] s = ran_further b (call_provided (Module m) vs s.world) s
+  calls_further z i (Queue q m) vs [] s = ran_further b (call_provided (Queue q m) vs s.world) s
+  calls_further z i (Interpreter j) vs [] s = ran_further b (call_provided (Interpreter j) vs s.world) s
+  calls_further z i (Exec j) vs [] s = ran_further b (call_provided (Exec j) vs s.world) s
   calls_further z i (Address x) vs [] s = ran_further b (call_provided (Address x) vs s.world) s
   calls_further z i (Str t) vs [] s = ran_further b (call_provided (Str t) vs s.world) s
   calls_further z i (Bytes t) vs [] s = ran_further b (call_provided (Bytes t) vs s.world) s
   calls_further z i (Provided f) vs [] s = ran_further b (call_provided (Provided f) vs s.world) s
   calls_further z i g vs (x ∷ names) s = ran_further b (call_by_name g s.world) s
+
+  calls_method_further : (z : Option ℕ) (i : ℕ) (m : Option Method) (g : Value) (vs : List Value) (names : List Text) (s : State) → Further b (calls_method (scope1 z i) m g vs names s) (calls_method (scope2 z i) m g vs names (more b s))
+  calls_method_further z i None g vs names s = calls_further z i g vs names s
+  calls_method_further z i (Some m) g vs names s = ran_further b (call_method m g vs names s.world) s
+
+  calls_attribute_further : (z : Option ℕ) (i : ℕ) (x : Option Text) (g : Value) (vs : List Value) (names : List Text) (s : State) → Further b (calls_attribute (scope1 z i) x g vs names s) (calls_attribute (scope2 z i) x g vs names (more b s))
+  calls_attribute_further z i None g vs names s = calls_further z i g vs names s
+  calls_attribute_further z i (Some x) g vs names s = calls_method_further z i (method_of g x s.world) g vs names s
+
+  callee_further : (x : Option Text) (object1 object2 : Meaning Value) → ((s : State) → Further b (object1 s) (object2 (more b s))) → (s : State) → Further b (callee x object1 s) (callee x object2 (more b s))
+  callee_further None object1 object2 h s = h s
+  callee_further (Some x) object1 object2 h s = then_further b _ _ _ _ (h (visit s)) (λ v s1. ran_further b (called v x s1.world) s1) (λ v s1. ran_adds (called v x s1.world) s1)
 
   mutual
     expr_further : (z : Option ℕ) (i : ℕ) (a : Expr) (s : State) → Further b (expr (scope1 z i) a s) (expr (scope2 z i) a (more b s))
@@ -494,10 +560,12 @@ module _ (b : List Answer) (locals : List Text) (n m : ℕ) (fewer : n ≤ m) (c
         then_further b _ _ _ _ (expr_further z i a (visit s))
         (λ u s1. then_further b _ _ _ _ (expr_further z i c s1) (λ v s2. ran_further b (operate o u v s2.world) s2) (λ v s2. ran_adds (operate o u v s2.world) s2))
         (λ u s1. both_add s1 (expr (scope2 z i) c s1) _ (expr_adds (scope2 z i) adds c s1) (λ v s2. ran_adds (operate o u v s2.world) s2))
-    expr_further z i (tree.Call f args names) s =
-        then_further b _ _ _ _ (expr_further z i f (visit s))
-        (λ g s1. then_further b _ _ _ _ (exprs_further z i args s1) (λ vs s2. calls_further z i g vs names s2) (λ vs s2. calls_add (scope2 z i) adds g vs names s2))
-        (λ g s1. both_add s1 (exprs (scope2 z i) args s1) _ (exprs_add (scope2 z i) adds args s1) (λ vs s2. calls_add (scope2 z i) adds g vs names s2))
+    expr_further z i (tree.Attribute a x) s =
+        then_further b _ _ _ _ (expr_further z i a (visit s)) (λ v s1. ran_further b (attribute v x s1.world) s1) (λ v s1. ran_adds (attribute v x s1.world) s1)
+    expr_further z i (tree.Call f x args names) s =
+        then_further b _ _ _ _ (callee_further x (expr (scope1 z i) f) (expr (scope2 z i) f) (λ s1. expr_further z i f s1) (visit s))
+        (λ g s1. then_further b _ _ _ _ (exprs_further z i args s1) (λ vs s2. calls_attribute_further z i x g vs names s2) (λ vs s2. calls_attribute_add (scope2 z i) adds x g vs names s2))
+        (λ g s1. both_add s1 (exprs (scope2 z i) args s1) _ (exprs_add (scope2 z i) adds args s1) (λ vs s2. calls_attribute_add (scope2 z i) adds x g vs names s2))
     expr_further z i (tree.Subscript a c) s =
         then_further b _ _ _ _ (expr_further z i a (visit s))
         (λ u s1. then_further b _ _ _ _ (expr_further z i c s1) (λ v s2. ran_further b (subscript u v s2.world) s2) (λ v s2. ran_adds (subscript u v s2.world) s2))
@@ -587,6 +655,7 @@ module _ (b : List Answer) (locals : List Text) (n m : ℕ) (fewer : n ≤ m) (c
     stmt_further z i (tree.Define f ps c) s = assign_further b f (place_of f locals) (Function f i) (visit s)
     stmt_further z i (tree.Return a) s = returning_further z i a (visit s)
     stmt_further z i (tree.Global xs) s = refl
+    stmt_further z i (tree.Import m) s = assign_further b (module_name m) (place_of (module_name m) locals) (Module m) (visit s)
     stmt_further z i (tree.Raise a) s = raising_further z i a (visit s)
     stmt_further z i (tree.For (tree.Named x) a c d) s =
         let p = place_of x locals in
@@ -690,6 +759,20 @@ module _ (b : List Answer) (rest rest' : State → Told) (rests : Rests b rest r
       (record { pieces = g.pieces; visits = g.visits }, λ e. ap (λ k. after_end k o rest' (record s { answers = l })) e)
   after_end_further (Done ∷ left) o s l = rests (record s { answers = left })
   after_end_further (Taken j ∷ left) o s l = refl
+  after_end_further (world.Limit ∷ left) o s l = refl
+  after_end_further ((world.Created i) ∷ left) o s l = refl
+  after_end_further ((world.QueueMade i) ∷ left) o s l = refl
+  after_end_further ((world.Started i) ∷ left) o s l = refl
+  after_end_further (world.Full ∷ left) o s l = refl
+  after_end_further (world.Empty ∷ left) o s l = refl
+  after_end_further ((world.Item v) ∷ left) o s l = refl
+  after_end_further ((world.Count i) ∷ left) o s l = refl
+  after_end_further (world.NotFound ∷ left) o s l = refl
+  after_end_further (world.Running ∷ left) o s l = refl
+  after_end_further (world.Current ∷ left) o s l = refl
+  after_end_further (world.Main ∷ left) o s l = refl
+  after_end_further ((world.Ended z) ∷ left) o s l = refl
+  after_end_further ((world.Truth t) ∷ left) o s l = refl
 
   ends_further : (o : Outcome) (s : State) → Lives_further b (ends_with o rest s) (ends_with o rest' (more b s))
   ends_further o s = after_end_further s.answers o (visit s) (s.answers ++ b)
@@ -713,6 +796,20 @@ module _ (b : List Answer) (fs : List tree.Function) (rest rest' : List tree.Fun
       run_ended_further b (rest gs) (rest' gs) (rests gs) (adds gs) (run_of fs n t.body s1) (run_of fs m t.body (more b s1)) (run_further b n m fewer fs t.body s1)
   takes_further n m fewer (Taken Closing ∷ left) s l = refl
   takes_further n m fewer (Done ∷ left) s l = refl
+  takes_further n m fewer (world.Limit ∷ left) s l = refl
+  takes_further n m fewer ((world.Created i) ∷ left) s l = refl
+  takes_further n m fewer ((world.QueueMade i) ∷ left) s l = refl
+  takes_further n m fewer ((world.Started i) ∷ left) s l = refl
+  takes_further n m fewer (world.Full ∷ left) s l = refl
+  takes_further n m fewer (world.Empty ∷ left) s l = refl
+  takes_further n m fewer ((world.Item v) ∷ left) s l = refl
+  takes_further n m fewer ((world.Count i) ∷ left) s l = refl
+  takes_further n m fewer (world.NotFound ∷ left) s l = refl
+  takes_further n m fewer (world.Running ∷ left) s l = refl
+  takes_further n m fewer (world.Current ∷ left) s l = refl
+  takes_further n m fewer (world.Main ∷ left) s l = refl
+  takes_further n m fewer ((world.Ended z) ∷ left) s l = refl
+  takes_further n m fewer ((world.Truth t) ∷ left) s l = refl
 
 life_further : (b : List Answer) (n m : ℕ) → n ≤ m → (j k : ℕ) → j ≤ k → (fs : List tree.Function) → Rests b (life n j fs) (life m k fs)
 life_further b n m fewer zero k less fs s = let g = life_adds m k fs (more b s) in record { pieces = g.pieces; visits = g.visits }
@@ -729,9 +826,9 @@ told (IsGone s) r' e h f = h ∙ ap (λ l. IsGone (record s { answers = l })) (a
 told (IsCut s) r' e h f = cc
 
 pub one_life : OneLife
-one_life n m answers e fewer f =
-    let h = life_further [] n m fewer (length answers + 1) (length answers + 1) (omega arith) [] (newborn answers) in
-    ap (λ l. life m (length answers + 1) [] (newborn l)) (sym (append-nil answers)) ∙ told (life_of n answers) _ e h f
+one_life own n m answers e fewer f =
+    let h = life_further [] n m fewer (length answers + 1) (length answers + 1) (omega arith) [] (newborn own answers) in
+    ap (λ l. life m (length answers + 1) [] (newborn own l)) (sym (append-nil answers)) ∙ told (life_of own n answers) _ e h f
 
 -- it only adds, whatever the life told
 only_adds : (b : List Answer) (r r' : Told) → Lives_further b r r' → Grows (state_of r) (state_of r')
@@ -740,12 +837,12 @@ only_adds b (IsGone s) r' h = subst (λ x. Grows s (state_of x)) (sym h) (record
 only_adds b (IsCut s) r' h = h
 
 -- a life under more answers goes further
-under_more : (n m : ℕ) (answers b : List Answer) → n ≤ m → Lives_further b (life_of n answers) (life_of m (answers ++ b))
-under_more n m answers b fewer =
-    life_further b n m fewer (length answers + 1) (length (answers ++ b) + 1) (omega (arith, length-append answers b)) [] (newborn answers)
+under_more : (own n m : ℕ) (answers b : List Answer) → n ≤ m → Lives_further b (life_of own n answers) (life_of own m (answers ++ b))
+under_more own n m answers b fewer =
+    life_further b n m fewer (length answers + 1) (length (answers ++ b) + 1) (omega (arith, length-append answers b)) [] (newborn own answers)
 
 pub lives_grow : LivesGrow
-lives_grow n m answers b fewer = only_adds b (life_of n answers) (life_of m (answers ++ b)) (under_more n m answers b fewer)
+lives_grow own n m answers b fewer = only_adds b (life_of own n answers) (life_of own m (answers ++ b)) (under_more own n m answers b fewer)
 
 pub gone_stays : GoneStays
-gone_stays n m answers b s fewer e = subst (λ r. Lives_further b r (life_of m (answers ++ b))) e (under_more n m answers b fewer)
+gone_stays own n m answers b s fewer e = subst (λ r. Lives_further b r (life_of own m (answers ++ b))) e (under_more own n m answers b fewer)

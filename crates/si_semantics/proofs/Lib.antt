@@ -8,6 +8,8 @@ pub mod WorkedBuiltIns
 pub mod WorkedSequences
 pub mod WorkedBytes
 pub mod WorkedTuples
+pub mod WorkedAttributes
+pub mod WorkedModule
 pub mod WorkedScope
 pub mod Names
 pub mod WorkedLiterals

@@ -1,13 +1,16 @@
 -- A well scoped text is left by exceptions alone.
 use Rattle.std.proofs.Common.{◌≡◌, ℕ, zero, suc, List, [], ◌∷◌, ◌++◌, length, Bool, true, false, ◌&&◌, Option, Some, None, refl, subst}
 use Rattle.std.specs.Prelude.{nat_eq, slice_get}
-use Rattle.si_semantics.specs.Value.{Text, Value, Nothing, Truth, Int, Str, Bytes, Provided, Function, Range, Tuple, Class, Address}
+use Rattle.si_semantics.specs.Value.{Text, Value, Nothing, Truth, Int, Str, Bytes, Provided, Function, Range, Tuple, Class, Module, Queue, Interpreter, Exec, Address}
 use Rattle.si_semantics.specs.Tree.{BooleanOperator, Expr, Exprs, Comparisons, Stmt, Stmts, Clauses, functions_of, functions_in, functions_in_clauses}
 use Rattle.si_semantics.specs.Tree as tree
 use Rattle.si_semantics.specs.World.{Request, Answer, Replied, Got, Failed, Wants, Ran, Gave, Threw, Asked}
-use Rattle.si_semantics.specs.Operations.{exception, tuple_within, operate, operate_unary, is_true, compare, load_global, load_local, call_provided, call_by_name, not_callable, wrong_arguments, too_deep, catches, Iterator, iterator_of, Next, Item, Exhausted, Refuses, next_item, reply}
+use Rattle.si_semantics.specs.Operations.{exception, tuple_within, operate, operate_unary, is_true, compare, load_global, load_local, call_provided, call_by_name, not_callable, wrong_arguments, too_deep, catches, Iterator, iterator_of, Next, Item, Exhausted, Refuses, next_item}
+use Rattle.si_semantics.specs.Replies.{reply}
 use Rattle.si_semantics.specs.Subscription.{subscript}
-use Rattle.si_semantics.specs.Meaning.{State, Leave, Raises, Returns, Breaks, Continues, Result, Gives, Leaves, Asks, Cut, Meaning, Scope, behind, visit, then, raised, asked, ran, slot_at, read, assign, calls, choose, decides, compared, expr, exprs, operands, chain, after_turn, turn_of, loop, for_loop, over, returning, raising, caught, active_in, finally, unassign, named, with_active, clauses, stmt, stmts, returned, fitting, run_body, call, max_calls}
+use Rattle.si_semantics.specs.Attributes.{Method, attribute, called, method_of, call_method}
+use Rattle.si_semantics.specs.Text.{module_name}
+use Rattle.si_semantics.specs.Meaning.{State, Leave, Raises, Returns, Breaks, Continues, Result, Gives, Leaves, Asks, Cut, Meaning, Scope, behind, visit, then, raised, asked, ran, slot_at, read, assign, calls, calls_method, calls_attribute, callee, choose, decides, compared, expr, exprs, operands, chain, after_turn, turn_of, loop, for_loop, over, returning, raising, caught, active_in, finally, unassign, named, with_active, clauses, stmt, stmts, returned, fitting, run_body, call, max_calls}
 use Rattle.si_semantics.specs.Scope.{place_of, Within, InText, InFunction, in_loop, may_return, looping, finishing, stmt_scoped, stmts_scoped, clauses_scoped}
 use Rattle.si_semantics.specs.Life.{module_scope}
 use Rattle.si_semantics.specs.Laws.{LeftByExceptions}
@@ -103,8 +106,24 @@ calls_keep w e h (Provided f) vs [] s = ran_keeps w (call_provided (Provided f) 
 calls_keep w e h (Range a b c) vs [] s = ran_keeps w (call_provided (Range a b c) vs s.world) s
 calls_keep w e h (Tuple us) vs [] s = ran_keeps w (call_provided (Tuple us) vs s.world) s
 calls_keep w e h (Class k) vs [] s = ran_keeps w (call_provided (Class k) vs s.world) s
+calls_keep w e h (Module m) vs [] s = ran_keeps w (call_provided (Module m) vs s.world) s
+calls_keep w e h (Queue q m) vs [] s = ran_keeps w (call_provided (Queue q m) vs s.world) s
+calls_keep w e h (Interpreter i) vs [] s = ran_keeps w (call_provided (Interpreter i) vs s.world) s
+calls_keep w e h (Exec i) vs [] s = ran_keeps w (call_provided (Exec i) vs s.world) s
 calls_keep w e h (Address x) vs [] s = ran_keeps w (call_provided (Address x) vs s.world) s
 calls_keep w e h g vs (x ∷ names) s = ran_keeps w (call_by_name g s.world) s
+
+calls_method_keep : (w : Within) (e : Scope) → Calls_keep e → (m : Option Method) (g : Value) (vs : List Value) (names : List Text) (s : State) → Keeps w (calls_method e m g vs names s)
+calls_method_keep w e h None g vs names s = calls_keep w e h g vs names s
+calls_method_keep w e h (Some m) g vs names s = ran_keeps w (call_method m g vs names s.world) s
+
+calls_attribute_keep : (w : Within) (e : Scope) → Calls_keep e → (x : Option Text) (g : Value) (vs : List Value) (names : List Text) (s : State) → Keeps w (calls_attribute e x g vs names s)
+calls_attribute_keep w e h None g vs names s = calls_keep w e h g vs names s
+calls_attribute_keep w e h (Some x) g vs names s = calls_method_keep w e h (method_of g x s.world) g vs names s
+
+callee_keeps : (w : Within) (x : Option Text) (object : Meaning Value) → ((s : State) → Keeps w (object s)) → (s : State) → Keeps w (callee x object s)
+callee_keeps w None object h s = h s
+callee_keeps w (Some x) object h s = then_keeps w (object (visit s)) _ (h (visit s)) (λ v s1. ran_keeps w (called v x s1.world) s1)
 
 -- ---- expressions
 
@@ -116,8 +135,10 @@ module _ (w : Within) (e : Scope) (calling : Calls_keep e) where
     expr_keeps (tree.Unary o a) s = then_keeps w (expr e a (visit s)) _ (expr_keeps a (visit s)) (λ v s1. ran_keeps w (operate_unary o v s1.world) s1)
     expr_keeps (tree.Binary o a b) s =
         then_keeps w (expr e a (visit s)) _ (expr_keeps a (visit s)) (λ u s1. then_keeps w (expr e b s1) _ (expr_keeps b s1) (λ v s2. ran_keeps w (operate o u v s2.world) s2))
-    expr_keeps (tree.Call f args names) s =
-        then_keeps w (expr e f (visit s)) _ (expr_keeps f (visit s)) (λ g s1. then_keeps w (exprs e args s1) _ (exprs_keep args s1) (λ vs s2. calls_keep w e calling g vs names s2))
+    expr_keeps (tree.Attribute a x) s = then_keeps w (expr e a (visit s)) _ (expr_keeps a (visit s)) (λ v s1. ran_keeps w (attribute v x s1.world) s1)
+    expr_keeps (tree.Call f x args names) s =
+        then_keeps w (callee x (expr e f) (visit s)) _ (callee_keeps w x (expr e f) (λ s1. expr_keeps f s1) (visit s))
+        (λ g s1. then_keeps w (exprs e args s1) _ (exprs_keep args s1) (λ vs s2. calls_attribute_keep w e calling x g vs names s2))
     expr_keeps (tree.Subscript a b) s =
         then_keeps w (expr e a (visit s)) _ (expr_keeps a (visit s)) (λ u s1. then_keeps w (expr e b s1) _ (expr_keeps b s1) (λ v s2. ran_keeps w (subscript u v s2.world) s2))
     expr_keeps (tree.Tuple items) s = then_keeps w (exprs e items (visit s)) _ (exprs_keep items (visit s)) (λ vs s1. ran_keeps w (tuple_within vs s1.world) s1)
@@ -265,6 +286,7 @@ mutual
   stmt_keeps w e k (tree.Define f ps b) s h = assign_keeps w f (place_of f e.locals) (Function f e.first) (visit s)
   stmt_keeps w e k (tree.Return a) s h = returning_keeps w e k a (visit s) h
   stmt_keeps w e k (tree.Global xs) s h = tt
+  stmt_keeps w e k (tree.Import m) s h = assign_keeps w (module_name m) (place_of (module_name m) e.locals) (Module m) (visit s)
   stmt_keeps w e k (tree.Raise a) s h = raising_keeps w e k a (visit s)
   stmt_keeps w e k (tree.Try b cs c) s h =
       let g = both_true (stmts_scoped w b && clauses_scoped w cs) (stmts_scoped w c) h in

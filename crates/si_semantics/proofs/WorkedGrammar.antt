@@ -110,10 +110,12 @@ f_is_called =
           inl (inl (
             NAME f ∷ [],
             NAME x ∷ [],
+            tree.Name f,
             Positional (tree.Name x) ∷ [],
             refl,
             lit≤ tt,
             inl refl,
+            refl,
             record { positional = tree.Name x ∷ []; named = []; in_order = refl; values_are = refl; names_are = refl; once = refl },
             (NAME x ∷ [], [], refl, inl refl, inl refl),
           ));
@@ -147,10 +149,12 @@ f_is_called_by_name =
           inl (inl (
             NAME f ∷ [],
             between,
+            tree.Name f,
             Positional (tree.Name x) ∷ ByName (codes "y") (int 1) ∷ [],
             refl,
             lit≤ tt,
             inl refl,
+            refl,
             record { positional = tree.Name x ∷ []; named = (codes "y", int 1) ∷ []; in_order = refl; values_are = refl; names_are = refl; once = refl },
             (
               NAME x ∷ [],

@@ -8,7 +8,8 @@ use Rattle.std.specs.Prelude.{ℕ, zero, suc, ℤ, List, [], ◌∷◌, true, fa
 use Rattle.std.specs.Coded.{Coded, code_by, coded×, coded_ℕ, coded_ℤ, coded_list}
 use Rattle.si_plain.specs.declared.kind.Kind.{Kind}
 use Rattle.si_plain.specs.contracts.kind.Kind as kind
-use Rattle.si_semantics.specs.Value.{Text, BuiltIn, Print, MakeRange, MakeStr, Repr, Len, MakeBool, Abs, MakeInt, Ord, Chr, Min, Max, MakeBytes, MakeTuple, Value, Values, Nothing, Truth, Int, Str, Bytes, Provided, Function, Range, Tuple, Class, Address, NoValues, MoreValues}
+use Rattle.si_plain.specs.declared.modules.ModuleName.TheVariants.{Threading, Interpreters}
+use Rattle.si_semantics.specs.Value.{Text, BuiltIn, Print, MakeRange, MakeStr, Repr, Len, MakeBool, Abs, MakeInt, Ord, Chr, Min, Max, MakeBytes, MakeTuple, Value, Values, Nothing, Truth, Int, Str, Bytes, Provided, Function, Range, Tuple, Class, Module, Queue, Interpreter, Exec, Address, NoValues, MoreValues}
 use Rattle.si_semantics.specs.Text.{built_in_name}
 use Rattle.si_semantics.specs.Operations.{built_ins, built_in_named}
 use mathlib.Core.Path.{refl, ◌∙◌, ap}
@@ -36,6 +37,11 @@ abbrev mutual
   words (Class c) k = (11, ([], ([], c ∷ []))) ∷ k
   words (Address x) k = (12, (x ∷ [], ([], []))) ∷ k
   words (Bytes bs) k = (13, (bs, ([], []))) ∷ k
+  words (Queue q m) k = (16, (q ∷ m ∷ [], ([], []))) ∷ k
+  words (Interpreter i) k = (17, (i ∷ [], ([], []))) ∷ k
+  words (Exec i) k = (18, (i ∷ [], ([], []))) ∷ k
+  words (Module Threading) k = mark 14 ∷ k
+  words (Module Interpreters) k = mark 15 ∷ k
 
   -- of values in a row: no values, and then each value with a mark that it is one more, from the last on
   pub all_words : Values → List Word → List Word
@@ -81,6 +87,11 @@ taken (suc (suc (suc (suc (suc (suc (suc (suc (suc (suc zero))))))))), (_, (a �
 taken (suc (suc (suc (suc (suc (suc (suc (suc (suc (suc (suc zero)))))))))), (_, (_, c ∷ _))) s = One (Class c) s
 taken (suc (suc (suc (suc (suc (suc (suc (suc (suc (suc (suc (suc zero))))))))))), (x ∷ _, (_, _))) s = One (Address x) s
 taken (suc (suc (suc (suc (suc (suc (suc (suc (suc (suc (suc (suc (suc zero)))))))))))), (bs, (_, _))) s = One (Bytes bs) s
+taken (suc (suc (suc (suc (suc (suc (suc (suc (suc (suc (suc (suc (suc (suc zero))))))))))))), (_, (_, _))) s = One (Module Threading) s
+taken (suc (suc (suc (suc (suc (suc (suc (suc (suc (suc (suc (suc (suc (suc (suc zero)))))))))))))), (_, (_, _))) s = One (Module Interpreters) s
+taken (suc (suc (suc (suc (suc (suc (suc (suc (suc (suc (suc (suc (suc (suc (suc (suc zero))))))))))))))), (q ∷ m ∷ _, (_, _))) s = One (Queue q m) s
+taken (suc (suc (suc (suc (suc (suc (suc (suc (suc (suc (suc (suc (suc (suc (suc (suc (suc zero)))))))))))))))), (i ∷ _, (_, _))) s = One (Interpreter i) s
+taken (suc (suc (suc (suc (suc (suc (suc (suc (suc (suc (suc (suc (suc (suc (suc (suc (suc (suc zero))))))))))))))))), (i ∷ _, (_, _))) s = One (Exec i) s
 taken _ s = One Nothing s
 
 abbrev pub read : List Word → Read → Read
@@ -123,6 +134,11 @@ mutual
   read-words (Class c) k s = refl
   read-words (Address x) k s = refl
   read-words (Bytes bs) k s = refl
+  read-words (Queue q m) k s = refl
+  read-words (Interpreter i) k s = refl
+  read-words (Exec i) k s = refl
+  read-words (Module Threading) k s = refl
+  read-words (Module Interpreters) k s = refl
 
   pub read-all_words : (vs : Values) (k : List Word) (s : Read) → read (all_words vs k) s ≡ read k (Many vs s)
   read-all_words NoValues k s = refl

@@ -1,7 +1,9 @@
 -- The grammar: which tokens derive which tree (Python Language Reference 3.14, 6, 7, 8 and 10).
 -- Each rule stands in the line above its production, in the notation of the reference.
-use Rattle.std.specs.Prelude.{◌≡◌, ℕ, zero, suc, ◌<◌, ◌≤◌, Bool, true, false, List, [], ◌∷◌, ◌++◌, length, map, flat_map, ◌⊎◌, Option, Some, None}
-use Rattle.si_semantics.specs.Value.{Text, Nothing, Truth, Int, Str, Bytes, Provided, Function, Range, Tuple, Class, Address}
+use Rattle.std.specs.Prelude.{codes, ◌≡◌, ℕ, zero, suc, ◌<◌, ◌≤◌, Bool, true, false, List, [], ◌∷◌, ◌++◌, length, map, flat_map, ◌⊎◌, Option, Some, None}
+use Rattle.si_plain.specs.declared.modules.ModuleName.{ModuleName}
+use Rattle.si_plain.specs.declared.modules.ModuleName.TheVariants.{Threading, Interpreters}
+use Rattle.si_semantics.specs.Value.{Text, Nothing, Truth, Int, Str, Bytes, Provided, Function, Range, Tuple, Class, Module, Queue, Interpreter, Exec, Address}
 use Rattle.si_semantics.specs.Tree.{BinaryOperator, UnaryOperator, ComparisonOperator, BooleanOperator, Expr, Exprs, Comparisons, Stmt, Target, Stmts, Clauses}
 use Rattle.si_semantics.specs.Tree as tree
 use Rattle.si_semantics.specs.Scope.{are_distinct}
@@ -295,6 +297,10 @@ Produces E l (tree.Constant (Function x k)) ts = ⊥
 Produces E l (tree.Constant (Range a b c)) ts = ⊥
 Produces E l (tree.Constant (Tuple vs)) ts = ⊥
 Produces E l (tree.Constant (Class k)) ts = ⊥
+Produces E l (tree.Constant (Module m)) ts = ⊥
+Produces E l (tree.Constant (Queue q m)) ts = ⊥
+Produces E l (tree.Constant (Interpreter i)) ts = ⊥
+Produces E l (tree.Constant (Exec i)) ts = ⊥
 Produces E l (tree.Constant (Address x)) ts = ⊥
 -- factor: ('+' | '-' | '~') factor; inversion: 'not' inversion
 Produces E l (tree.Unary op a) ts = (f : List Terminal) × (ts ≡ prefix_of op ∷ f) × (l ≤ prefix_level op) × E (prefix_level op) a f
@@ -302,10 +308,15 @@ Produces E l (tree.Unary op a) ts = (f : List Terminal) × (ts ≡ prefix_of op 
 -- sum: sum ('+' | '-') term; term: term ('*' | '//' | '%') factor; power: primary '**' factor
 Produces E l (tree.Binary op a b) ts =
     (f : List Terminal) × (g : List Terminal) × (ts ≡ f ++ Sign (symbol_of op) ∷ g) × (l ≤ level_of op) × E (left_level op) a f × E (right_level op) b g
--- primary: primary '(' [ argument { ',' argument } [','] ] ')'
-Produces E l (tree.Call a args names) ts =
-    (f : List Terminal) × (g : List Terminal) × (arguments : List Argument)
-    × (ts ≡ f ++ Sign token.LeftParenthesis ∷ (g ++ Sign token.RightParenthesis ∷ [])) × (l ≤ primary_level) × E primary_level a f
+-- primary: primary '.' NAME
+Produces E l (tree.Attribute a x) ts =
+    (f : List Terminal) × (ts ≡ f ++ Sign token.Dot ∷ (NAME x ∷ [])) × (l ≤ primary_level) × E primary_level a f
+-- | primary '(' [ argument { ',' argument } [','] ] ')'
+-- Where the primary is an attribute, its object is the callee, and the name of the attribute stands beside it.
+Produces E l (tree.Call a x args names) ts =
+    (f : List Terminal) × (g : List Terminal) × (primary : Expr) × (arguments : List Argument)
+    × (ts ≡ f ++ Sign token.LeftParenthesis ∷ (g ++ Sign token.RightParenthesis ∷ [])) × (l ≤ primary_level)
+    × E primary_level primary f × (tree.callee_of primary ≡ (a, x))
     × IsPassed arguments (items_of args) names × Separated (Passes E) token.Comma arguments g
 -- | primary '[' expression ']'
 Produces E l (tree.Subscript a b) ts =
@@ -381,8 +392,13 @@ abbrev pub Names : List Text → List Terminal → Type 0
 Names [] ts = ⊥
 Names (x ∷ xs) ts = (f : List Terminal) × (ts ≡ NAME x ∷ f) × Many (Behind (Sign token.Comma) IsName) xs f
 
+-- 'import' 'threading' | 'from' 'concurrent' 'import' 'interpreters'
+abbrev pub import_of : ModuleName → List Terminal
+import_of Threading = Word token.ImportWord ∷ (NAME (codes "threading") ∷ [])
+import_of Interpreters = Word token.FromWord ∷ (NAME (codes "concurrent") ∷ (Word token.ImportWord ∷ (NAME (codes "interpreters") ∷ [])))
+
 -- small: expressions | target '=' expressions | target augmented expressions | 'pass' | 'break' | 'continue'
--- | 'return' [expressions] | 'global' NAME { ',' NAME } | 'raise' [expression]
+-- | 'return' [expressions] | 'global' NAME { ',' NAME } | 'raise' [expression] | import
 abbrev pub Small : Stmt → List Terminal → Type 0
 Small (tree.Evaluate e) ts = IsExpressions e ts
 Small (tree.Assign t e) ts = (f : List Terminal) × (g : List Terminal) × (ts ≡ f ++ Sign token.Equal ∷ g) × IsTarget t f × IsExpressions e g
@@ -394,6 +410,7 @@ Small tree.Continue ts = ts ≡ Word token.ContinueWord ∷ []
 Small (tree.Return None) ts = ts ≡ Word token.ReturnWord ∷ []
 Small (tree.Return (Some e)) ts = Behind (Word token.ReturnWord) IsExpressions e ts
 Small (tree.Global xs) ts = Behind (Word token.GlobalWord) Names xs ts
+Small (tree.Import m) ts = ts ≡ import_of m
 Small (tree.Raise None) ts = ts ≡ Word token.RaiseWord ∷ []
 Small (tree.Raise (Some e)) ts = Behind (Word token.RaiseWord) IsExpression e ts
 Small (tree.Define x ps body) ts = ⊥

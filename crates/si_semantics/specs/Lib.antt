@@ -9,6 +9,8 @@ pub mod World
 pub mod Parts
 pub mod Operations
 pub mod Subscription
+pub mod Replies
+pub mod Attributes
 pub mod Meaning
 pub mod Scope
 pub mod Life

@@ -4,14 +4,10 @@ use Rattle.si_plain.specs.declared.kind.Kind.{Kind}
 use Rattle.si_plain.specs.declared.kind.Kind.TheVariants.{BaseException, SyntaxError}
 use Rattle.si_semantics.specs.Value.{Text, Address, Object, Exception}
 use Rattle.si_semantics.specs.Text.{str_in, message_of}
+pub use Rattle.si_semantics.specs.World.{Outcome, Returned, Raised}
 use Rattle.si_semantics.specs.World.{World, Request, Bind, Run, Closing, Answer, Taken, Done, bind_all, first_world}
 use Rattle.si_semantics.specs.Tree.{Function, Stmts, functions_in}
 use Rattle.si_semantics.specs.Meaning.{Piece, State, Leave, Raises, Returns, Breaks, Continues, Result, Gives, Leaves, Asks, Cut, Meaning, Scope, visit, stmts, call, max_calls}
-
--- how a run ended: at its end, or left by an exception of a kind with a message
-pub data Outcome : Type 0 where
-  Returned : Outcome
-  Raised : Kind → Text → Outcome
 
 -- an action at which an interpreter stands: it waits for a job, makes a request, or tells how its run ended
 pub data Action : Type 0 where
@@ -28,7 +24,7 @@ pub data Told : Type 0 where
 -- the kind of an object that is an exception
 abbrev pub kind_of : Option Object → Kind
 kind_of (Some (Exception k a)) = k
-kind_of None = BaseException
+kind_of _ = BaseException
 
 -- the outcome of a run that was left; `return` stands in functions alone and `break` and `continue` in loops (Language
 -- Reference, 7.6, 7.9 and 7.10), and leave no run
@@ -40,7 +36,7 @@ outcome_of Continues w = Returned
 
 -- the outcome of a run whose text is not read, or is not well scoped (Language Reference, 8.4; the message is this
 -- project's own). A life is given trees: which text is read as which tree is said by `IsRead` (si_parse/specs/Modules),
--- which trees are well scoped by `is_scoped` (Scope), and both by `IsTaken` (si_cli/specs/Runs).
+-- which trees are well scoped by `is_scoped` (Scope), and both by `IsTaken` (si_reading/specs/Taken).
 abbrev pub not_read : Outcome
 not_read = Raised SyntaxError (codes "invalid syntax")
 
@@ -48,7 +44,7 @@ not_read = Raised SyntaxError (codes "invalid syntax")
 abbrev pub after_end : List Answer → Outcome → (State → Told) → State → Told
 after_end [] o rest s = Stops (End o) (record s { answers = [] })
 after_end (Done ∷ more) o rest s = rest (record s { answers = more })
-after_end (Taken j ∷ more) o rest s = IsGone (record s { answers = more })
+after_end (a ∷ more) o rest s = IsGone (record s { answers = more })
 
 -- to tell the end of a run is a visit
 abbrev pub ends_with : Outcome → (State → Told) → State → Told
@@ -78,20 +74,20 @@ takes n fs rest (Taken (Run None) ∷ more) s = ends_with not_read (rest fs) (re
 takes n fs rest (Taken (Run (Some m)) ∷ more) s =
     run_ended (rest (fs ++ functions_in m.body)) (run_of fs n m.body (record s { answers = more; slots = [] }))
 takes n fs rest (Taken Closing ∷ more) s = IsGone (record s { answers = more })
-takes n fs rest (Done ∷ more) s = IsGone (record s { answers = more })
+takes n fs rest (a ∷ more) s = IsGone (record s { answers = more })
 
 -- a life of fewer than k jobs, where these functions were read before; to wait for a job is a visit
 abbrev pub life : ℕ → ℕ → List Function → State → Told
 life n zero fs s = IsCut s
 life n (suc k) fs s = takes n fs (life n k) s.answers (visit s)
 
--- a new interpreter
-abbrev pub newborn : List Answer → State
-newborn answers = record { world = first_world; answers = answers; slots = []; visits = 0; pieces = [] }
+-- a new interpreter of a number
+abbrev pub newborn : ℕ → List Answer → State
+newborn own answers = record { world = first_world own; answers = answers; slots = []; visits = 0; pieces = [] }
 
--- the life under these answers, with at most n turns of a loop
-abbrev pub life_of : ℕ → List Answer → Told
-life_of n answers = life n (length answers + 1) [] (newborn answers)
+-- the life of the interpreter of a number under these answers, with at most n turns of a loop
+abbrev pub life_of : (own n : ℕ) → List Answer → Told
+life_of own n answers = life n (length answers + 1) [] (newborn own answers)
 
 -- the pieces that a life has printed
 abbrev pub pieces_of : Told → List Piece

@@ -1,13 +1,18 @@
 -- The limits that a tree keeps, which are this project's own: how deep its expressions are, how long its literals, how many
 -- parameters its functions have, and how deep its compound statements are nested. The grammar derives no tree past them.
 use Rattle.std.specs.Prelude.{ℕ, ◌+◌, ◌≤◌, max, Bool, true, false, length, Option, Some, None, if◌then◌else◌}
-use Rattle.si_semantics.specs.Value.{Str, Bytes}
+use Rattle.si_semantics.specs.Value.{Text, Str, Bytes}
 use Rattle.si_semantics.specs.Tree as tree
 use Rattle.si_semantics.specs.Tree.{Expr, Exprs, Comparisons, Stmt, Stmts, Clauses}
 use Rattle.si_semantics.specs.Text.{max_length}
 use Rattle.si_semantics.specs.Grammar.{max_depth, max_parameters, max_nesting}
 
 -- ---- expressions
+
+-- the depth of a callee, by that of its object where an attribute of it is called
+abbrev pub depth_called : Option Text → ℕ → ℕ
+depth_called None n = n
+depth_called (Some x) n = n + 1
 
 -- the depth of a tree: a name or a literal has 1, others 1 more than their deepest part
 abbrev mutual
@@ -16,7 +21,8 @@ abbrev mutual
   depth_of (tree.Name x) = 1
   depth_of (tree.Unary op a) = depth_of a + 1
   depth_of (tree.Binary op a b) = max (depth_of a) (depth_of b) + 1
-  depth_of (tree.Call a args names) = max (depth_of a) (depth_of_all args) + 1
+  depth_of (tree.Attribute a x) = depth_of a + 1
+  depth_of (tree.Call a x args names) = max (depth_called x (depth_of a)) (depth_of_all args) + 1
   depth_of (tree.Subscript a b) = max (depth_of a) (depth_of b) + 1
   depth_of (tree.Tuple items) = depth_of_all items + 1
   depth_of (tree.Boolean o a more) = max (depth_of a) (depth_of_all more) + 1
@@ -40,7 +46,8 @@ abbrev mutual
   longest_literal (tree.Name x) = 0
   longest_literal (tree.Unary op a) = longest_literal a
   longest_literal (tree.Binary op a b) = max (longest_literal a) (longest_literal b)
-  longest_literal (tree.Call a args names) = max (longest_literal a) (longest_literal_of_all args)
+  longest_literal (tree.Attribute a x) = longest_literal a
+  longest_literal (tree.Call a x args names) = max (longest_literal a) (longest_literal_of_all args)
   longest_literal (tree.Subscript a b) = max (longest_literal a) (longest_literal b)
   longest_literal (tree.Tuple items) = longest_literal_of_all items
   longest_literal (tree.Boolean o a more) = max (longest_literal a) (longest_literal_of_all more)

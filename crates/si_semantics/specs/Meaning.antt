@@ -1,12 +1,15 @@
 -- What a tree means (Python Language Reference 3.14, 6 to 8): no program counter, no frame, no stack.
 use Rattle.std.specs.Prelude.{ℕ, zero, suc, ◌+◌, List, [], ◌∷◌, ◌++◌, ◌-◌, length, Bool, true, false, not, Option, Some, None, nat_eq, slice_get, slice_set}
-use Rattle.si_semantics.specs.Value.{Text, Value, Nothing, Str, Function, Address}
+use Rattle.si_semantics.specs.Value.{Text, Value, Nothing, Str, Function, Module, Address}
 use Rattle.si_semantics.specs.Tree.{BooleanOperator, Expr, Exprs, Comparisons, Stmt, Target, Stmts, Clauses, functions_of, functions_in, functions_in_clauses}
 use Rattle.si_semantics.specs.Tree as tree
 use Rattle.si_semantics.specs.Scope.{place_of, locals_of}
 use Rattle.si_semantics.specs.World.{World, Request, Answer, Got, Failed, Wants, Ran, Gave, Threw, Asked, set_global, unset_global}
-use Rattle.si_semantics.specs.Operations.{exception, tuple_within, operate, operate_unary, is_true, compare, load_global, load_local, call_provided, call_by_name, not_callable, wrong_arguments, too_deep, type_error, raised_by, raised_again, catches, Iterator, iterator_of, Next, Item, Exhausted, Refuses, next_item, reply}
+use Rattle.si_semantics.specs.Operations.{exception, tuple_within, operate, operate_unary, is_true, compare, load_global, load_local, call_provided, call_by_name, not_callable, wrong_arguments, too_deep, type_error, raised_by, raised_again, catches, Iterator, iterator_of, Next, Item, Exhausted, Refuses, next_item}
+use Rattle.si_semantics.specs.Replies.{reply}
 use Rattle.si_semantics.specs.Subscription.{subscript}
+use Rattle.si_semantics.specs.Attributes.{Method, attribute, called, method_of, call_method}
+use Rattle.si_semantics.specs.Text.{module_name}
 
 -- a printed text, and its number: the visits begun before it
 pub record Piece : Type 0 where
@@ -127,6 +130,22 @@ calls e (Function f k) vs [] s = e.call e.active k vs s
 calls e g vs [] s = ran (call_provided g vs s.world) s
 calls e g vs (x ∷ names) s = ran (call_by_name g s.world) s
 
+-- a call of a method, if it is one
+abbrev pub calls_method : Scope → Option Method → Value → List Value → List Text → Meaning Value
+calls_method e None g vs names s = calls e g vs names s
+calls_method e (Some m) g vs names s = ran (call_method m g vs names s.world) s
+
+-- the same of a callee, or of what an attribute of it is
+abbrev pub calls_attribute : Scope → Option Text → Value → List Value → List Text → Meaning Value
+calls_attribute e None g vs names s = calls e g vs names s
+calls_attribute e (Some x) g vs names s = calls_method e (method_of g x s.world) g vs names s
+
+-- what is called: a callee, or where an attribute of it is called the object that has a method of that name, or the value
+-- of the attribute (Language Reference, 6.3.3)
+abbrev pub callee : Option Text → Meaning Value → Meaning Value
+callee None object s = object s
+callee (Some x) object s = then (object (visit s)) (λ v s1. ran (called v x s1.world) s1)
+
 -- one of two, by a test
 abbrev pub choose : {A : Type 0} → Bool → A → A → A
 choose true a b = a
@@ -143,14 +162,16 @@ compared tree.NoComparisons t rest s = Gives t s
 compared (tree.MoreComparisons o a cs) t rest s = choose (is_true t s.world) (rest s) (Gives t s)
 
 abbrev mutual
-  -- an expression, its operands from left to right (Language Reference, 6.16); of a call the callee first (6.3.3), of a
+  -- an expression, its operands from left to right (Language Reference, 6.16); of a call the callee first (6.3.3), of an
+  -- attribute the object (6.3.1), of a
   -- subscription the object (6.3.2), of a conditional expression the test (6.13)
   pub expr : Scope → Expr → Meaning Value
   expr e (tree.Constant v) s = Gives v (visit s)
   expr e (tree.Name x) s = read x (place_of x e.locals) (visit s)
   expr e (tree.Unary o a) s = then (expr e a (visit s)) (λ v s1. ran (operate_unary o v s1.world) s1)
   expr e (tree.Binary o a b) s = then (expr e a (visit s)) (λ u s1. then (expr e b s1) (λ v s2. ran (operate o u v s2.world) s2))
-  expr e (tree.Call f args names) s = then (expr e f (visit s)) (λ g s1. then (exprs e args s1) (λ vs s2. calls e g vs names s2))
+  expr e (tree.Attribute a x) s = then (expr e a (visit s)) (λ v s1. ran (attribute v x s1.world) s1)
+  expr e (tree.Call f x args names) s = then (callee x (expr e f) (visit s)) (λ g s1. then (exprs e args s1) (λ vs s2. calls_attribute e x g vs names s2))
   expr e (tree.Subscript a b) s = then (expr e a (visit s)) (λ u s1. then (expr e b s1) (λ v s2. ran (subscript u v s2.world) s2))
   expr e (tree.Tuple items) s = then (exprs e items (visit s)) (λ vs s1. ran (tuple_within vs s1.world) s1)
   expr e (tree.Boolean o a more) s = then (expr e a (visit s)) (λ u s1. operands e o u more s1)
@@ -252,7 +273,7 @@ named e (Some y) x suite s =
 abbrev mutual
   -- a statement (Language Reference, 7 and 8): of an assignment the right side first, then its target; of an augmented
   -- one the target, its value, the right side, the operation, and then the target is bound (7.2.1); `def` binds its name
-  -- to the function (8.7), `global` does nothing (7.12)
+  -- to the function (8.7), `global` does nothing (7.12), an import binds the module's name to the module (7.11)
   pub stmt : Scope → Stmt → Meaning (Unit {0})
   stmt e (tree.Evaluate a) s = then (expr e a (visit s)) (λ v s1. Gives tt s1)
   stmt e (tree.Assign t a) s = then (expr e a (visit s)) (λ v s1. bind e t v (visit s1))
@@ -268,6 +289,7 @@ abbrev mutual
   stmt e (tree.Define f ps b) s = assign f (place_of f e.locals) (Function f e.first) (visit s)
   stmt e (tree.Return a) s = returning e a (visit s)
   stmt e (tree.Global xs) s = Gives tt (visit s)
+  stmt e (tree.Import m) s = assign (module_name m) (place_of (module_name m) e.locals) (Module m) (visit s)
   stmt e (tree.Raise a) s = raising e a (visit s)
   stmt e (tree.Try b cs c) s =
       caught (stmts e b (visit s)) (λ x. clauses (behind (functions_in b) (with_active (Some x) e)) cs x) (stmts (behind (functions_in b ++ functions_in_clauses cs) e) c)

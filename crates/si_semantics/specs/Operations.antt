@@ -3,8 +3,10 @@ use Rattle.std.specs.Prelude.{codes, ℕ, zero, suc, ◌+◌, ◌-◌, ◌*◌, 
 use Rattle.si_plain.specs.declared.kind.Kind.{Kind}
 use Rattle.si_plain.specs.declared.kind.Kind.TheVariants.{BaseException, Exception, ArithmeticError, OverflowError, ZeroDivisionError, AttributeError, LookupError, IndexError, KeyError, NameError, UnboundLocalError, RuntimeError, RecursionError, SyntaxError, TypeError, ValueError}
 use Rattle.si_plain.specs.Kinds.{name_of, same_kind, is_a}
+use Rattle.si_plain.specs.declared.modules.ModuleName.{ModuleName}
+use Rattle.si_plain.specs.declared.modules.ModuleName.TheVariants.{Threading, Interpreters}
 use Rattle.si_plain.specs.Integers.{in_range, sum_of, difference_of, product_of, floor_quotient, floor_remainder, power_result, negative_of, shifted_left, shifted_right, inverted, bits_and, bits_or, bits_xor}
-use Rattle.si_semantics.specs.Value.{Text, Value, NoValues, Nothing, Truth, Int, Str, Bytes, Provided, Function, Range, Tuple, Class, Address, BuiltIn, Print, MakeRange, MakeStr, Repr, Len, MakeBool, Abs, MakeInt, Ord, Chr, Min, Max, MakeTuple, MakeBytes, Object, items_of, tuple_of}
+use Rattle.si_semantics.specs.Value.{Text, Value, NoValues, Nothing, Truth, Int, Str, Bytes, Provided, Function, Range, Tuple, Class, Module, Queue, Interpreter, Exec, Address, BuiltIn, Print, MakeRange, MakeStr, Repr, Len, MakeBool, Abs, MakeInt, Ord, Chr, Min, Max, MakeTuple, MakeBytes, Object, items_of, tuple_of}
 use Rattle.si_semantics.specs.Value as value
 use Rattle.si_semantics.specs.Tree as tree
 use Rattle.si_semantics.specs.Tree.{BinaryOperator, UnaryOperator, ComparisonOperator}
@@ -13,7 +15,7 @@ use Rattle.si_semantics.specs.Tuples.{is_too_large, characters_in, numbers_in, i
 use Rattle.si_semantics.specs.Numerals.{read_integer}
 use Rattle.si_semantics.specs.Literals.{is_character}
 use Rattle.si_semantics.specs.Parts.{is_part}
-use Rattle.si_semantics.specs.World.{World, Request, Answer, Ran, Gave, Threw, Replied}
+use Rattle.si_semantics.specs.World.{World, Ran, Gave, Threw}
 
 -- a new exception of a kind with an argument, by its address, and the world with it
 abbrev pub exception : Kind → Option Value → World → ℕ × World
@@ -194,13 +196,20 @@ same_built_in MakeBytes MakeBytes = true
 same_built_in MakeTuple MakeTuple = true
 same_built_in _ _ = false
 
+-- two modules have one name
+abbrev pub same_module : ModuleName → ModuleName → Bool
+same_module Threading Threading = true
+same_module Interpreters Interpreters = true
+same_module _ _ = false
+
 -- two ranges have the same items (Standard Library, "Built-in Types": ranges)
 abbrev pub same_range : (a b c d e f : ℤ) → Bool
 same_range a b c d e f =
     let n = range_length a b c in nat_eq n (range_length d e f) && (nat_eq n 0 || (same_int a d && (nat_eq n 1 || same_int c f)))
 
 -- `==` of two values, by that of the items of two tuples: integers, True and False by their values, str by their
--- characters, bytes by theirs, ranges by their items, built-ins and kinds by name, exceptions by address, None is equal to
+-- characters, bytes by theirs, ranges by their items, built-ins, kinds and modules by name, queues, interpreters and their `exec` by number,
+-- exceptions and threads by address, None is equal to
 -- itself; what is of different kinds is unequal (Language Reference, 6.10.1); two functions are not compared (this
 -- project's own)
 abbrev pub equal_by : (List Value → List Value → Result Bool Kind) → Value → Value → World → Result Bool Kind
@@ -216,6 +225,10 @@ equal_by items (Function f k) (Function g l) w = Err TypeError
 equal_by items (Range a b c) (Range d e f) w = Ok (same_range a b c d e f)
 equal_by items (Tuple us) (Tuple vs) w = items (items_of us) (items_of vs)
 equal_by items (Class k) (Class l) w = Ok (same_kind k l)
+equal_by items (Module m) (Module n) w = Ok (same_module m n)
+equal_by items (Queue q m) (Queue r n) w = Ok (nat_eq q r)
+equal_by items (Interpreter i) (Interpreter j) w = Ok (nat_eq i j)
+equal_by items (Exec i) (Exec j) w = Ok (nat_eq i j)
 equal_by items (Address x) (Address y) w = Ok (nat_eq x y)
 equal_by items _ _ w = Ok false
 
@@ -545,10 +558,14 @@ call_by_name _ w = not_callable w
 abbrev pub type_error : World → ℕ × World
 type_error w = exception TypeError (Some (Str (codes "wrong type"))) w
 
--- what `raise` raises: an exception itself, of a kind a new one without argument (Language Reference, 7.8); each object
--- is an exception so far
+-- an object that is raised: an exception itself
+abbrev pub raised_object : ℕ → Option Object → World → ℕ × World
+raised_object x (Some (value.Exception k a)) w = (x, w)
+raised_object x _ w = type_error w
+
+-- what `raise` raises: an exception itself, of a kind a new one without argument (Language Reference, 7.8)
 abbrev pub raised_by : Value → World → ℕ × World
-raised_by (Address x) w = (x, w)
+raised_by (Address x) w = raised_object x (slice_get w.store x) w
 raised_by (Class k) w = exception k None w
 raised_by _ w = type_error w
 
@@ -561,6 +578,8 @@ raised_again None w = exception RuntimeError (Some (Str (codes "no active except
 abbrev pub is_of : Kind → Option Object → Bool
 is_of top None = false
 is_of top (Some (value.Exception k a)) = is_a k top
+is_of top (Some (value.Thread i text)) = false
+is_of top (Some (value.Started r)) = false
 
 -- an object is an exception of one of these kinds, or of one under it; values that are no kinds have no answer, whatever
 -- stands before them (this project's own)
@@ -624,7 +643,3 @@ next_item (Octets (b ∷ bs)) w = Item (Int (pos b)) (Octets bs)
 next_item (Items []) w = Exhausted
 next_item (Items (v ∷ vs)) w = Item v (Items vs)
 next_item NoMore w = Exhausted
-
--- what an answer makes of a request
-abbrev pub reply : Request → Answer → World → Replied
-reply r a w = elim r [ ]

@@ -1,6 +1,6 @@
 -- Parcels: what interpreters send to each other, each a copy of a shareable value (PEP 734, "Shareable Objects"). A parcel is a pure tree:
 -- it has no address, and nothing in it changes.
-use Rattle.std.specs.Prelude.{codes, ℕ, zero, suc, ◌+◌, ◌≤◌, ℤ, max, List, [], ◌∷◌, ◌++◌, length, Bool, true, false}
+use Rattle.std.specs.Prelude.{codes, ℕ, zero, suc, ◌+◌, ◌≤◌, ℤ, max, List, [], ◌∷◌, ◌++◌, length, Bool, true, false, ◌&&◌, nat_le}
 use Rattle.std.specs.Fmt.{signed_decimal, decimal}
 use Rattle.si_plain.specs.Repr.{repr_of, bytes_repr_of}
 use Rattle.si_semantics.specs.Value.{Text}
@@ -86,6 +86,10 @@ pub record IsParcel (t : Tree) : Type 0 where
   pub size : size_of t ≤ 65536
   pub levels : levels_of t ≤ 200
   pub longest : longest_in t ≤ 1048576
+
+-- whether a tree is
+abbrev pub is_parcel : Tree → Bool
+is_parcel t = nat_le (size_of t) 65536 && (nat_le (levels_of t) 200 && nat_le (longest_in t) 1048576)
 
 -- ---- how a parcel is written
 

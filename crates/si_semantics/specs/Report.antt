@@ -1,9 +1,8 @@
 -- The report of the program, and its status (this project's own).
 use Rattle.std.specs.Prelude.{codes, ℕ, pos, [], ◌∷◌, ◌++◌}
-use Rattle.si_plain.specs.declared.kind.Kind.{Kind}
-use Rattle.si_plain.specs.Kinds.{name_of}
 use Rattle.si_semantics.specs.Value.{Text}
 use Rattle.si_semantics.specs.Text.{decimal}
+pub use Rattle.si_semantics.specs.Text.{kind_and_message}
 use Rattle.si_semantics.specs.Life.{Outcome, Returned, Raised}
 
 -- how the program leaves its interpreter: at the end of its run, ready with its turns used up, or refused memory
@@ -19,11 +18,6 @@ line t = t ++ 10 ∷ []
 -- the line that begins an interpreter's part
 abbrev pub heading : ℕ → Text
 heading id = line (codes "== interpreter " ++ (decimal (pos id) ++ codes " =="))
-
--- a kind, and the message where there is one
-abbrev pub kind_and_message : Kind → Text → Text
-kind_and_message k [] = name_of k
-kind_and_message k (c ∷ cs) = name_of k ++ (codes ": " ++ c ∷ cs)
 
 -- the line of a run that was left by an exception
 abbrev pub outcome_line : Outcome → Text

@@ -2,7 +2,7 @@
 -- 8.7).
 use Rattle.std.specs.Prelude.{ℕ, ◌+◌, List, [], ◌∷◌, ◌++◌, Bool, true, false, not, ◌&&◌, ◌||◌, Option, Some, None, option_map, if◌then◌else◌}
 use Rattle.si_semantics.specs.Value.{Text}
-use Rattle.si_semantics.specs.Text.{same_text}
+use Rattle.si_semantics.specs.Text.{same_text, module_name}
 use Rattle.si_semantics.specs.Tree as tree
 use Rattle.si_semantics.specs.Tree.{Expr, Exprs, Comparisons, Stmt, Target, Stmts, Clauses, Function}
 
@@ -42,7 +42,8 @@ abbrev mutual
   names_of (tree.Name x) = x ∷ []
   names_of (tree.Unary o a) = names_of a
   names_of (tree.Binary o a b) = names_of a ++ names_of b
-  names_of (tree.Call f args keywords) = names_of f ++ names_of_all args
+  names_of (tree.Attribute a x) = names_of a
+  names_of (tree.Call f x args keywords) = names_of f ++ names_of_all args
   names_of (tree.Subscript a b) = names_of a ++ names_of b
   names_of (tree.Tuple items) = names_of_all items
   names_of (tree.Boolean o a more) = names_of a ++ names_of_all more
@@ -84,6 +85,7 @@ abbrev mutual
   bound_by (tree.While a b c) = bound_in b ++ bound_in c
   bound_by (tree.For t a b c) = bound_by_target t ++ (bound_in b ++ bound_in c)
   bound_by (tree.Define f ps b) = f ∷ []
+  bound_by (tree.Import m) = module_name m ∷ []
   bound_by (tree.Try b cs c) = bound_in b ++ (bound_in_clauses cs ++ bound_in c)
   bound_by (tree.Finally b cs c f) = bound_in b ++ (bound_in_clauses cs ++ (bound_in c ++ bound_in f))
   bound_by _ = []
@@ -130,6 +132,7 @@ abbrev mutual
   used_by (tree.Define f ps b) = f ∷ []
   used_by (tree.Return a) = names_of_value a
   used_by (tree.Global xs) = []
+  used_by (tree.Import m) = module_name m ∷ []
   used_by (tree.Raise a) = names_of_value a
   used_by (tree.Try b cs c) = used_in b ++ (used_in_clauses cs ++ used_in c)
   used_by (tree.Finally b cs c f) = used_in b ++ (used_in_clauses cs ++ (used_in c ++ used_in f))
@@ -189,7 +192,8 @@ abbrev pub in_loop : Within → Bool
 in_loop (InText loop) = loop
 in_loop (InFunction loop returns) = loop
 
--- `global` stands in a function (7.12: at module level this project refuses it), and `def` in none (this project's own)
+-- `global` stands in a function (7.12: at module level this project refuses it), and `def` and `import` in none (this
+-- project's own)
 abbrev pub in_function : Within → Bool
 in_function (InText loop) = false
 in_function (InFunction loop returns) = true
@@ -225,6 +229,7 @@ abbrev mutual
       not (in_function w) && are_distinct ps && are_apart ps (declared_in b) && declare_first b && stmts_scoped (InFunction false true) b
   stmt_scoped w (tree.Return a) = may_return w
   stmt_scoped w (tree.Global xs) = in_function w
+  stmt_scoped w (tree.Import m) = not (in_function w)
   stmt_scoped w (tree.Raise a) = true
   stmt_scoped w (tree.Try b cs c) = stmts_scoped w b && clauses_scoped w cs && stmts_scoped w c
   stmt_scoped w (tree.Finally b cs c f) = stmts_scoped w b && clauses_scoped w cs && stmts_scoped w c && stmts_scoped (finishing w) f

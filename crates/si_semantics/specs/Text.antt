@@ -3,10 +3,12 @@ use Rattle.std.specs.Prelude.{codes, ℕ, zero, suc, ℤ, pos, List, [], ◌∷�
 use Rattle.si_plain.specs.declared.kind.Kind.{Kind}
 use Rattle.si_plain.specs.declared.kind.Kind.TheVariants.{KeyError, RecursionError, OverflowError}
 use Rattle.si_plain.specs.Kinds.{name_of}
+use Rattle.si_plain.specs.declared.modules.ModuleName.{ModuleName}
+use Rattle.si_plain.specs.declared.modules.ModuleName.TheVariants.{Threading, Interpreters}
 use Rattle.si_plain.specs.Repr as plain
 use Rattle.std.specs.Fmt.{signed_decimal}
-use Rattle.si_semantics.specs.Opened.{Opened, Atom, InTuple, InException, Nowhere, opened}
-use Rattle.si_semantics.specs.Value.{Text, Value, Nothing, Truth, Int, Str, Bytes, Provided, Function, Range, Tuple, Class, Address, BuiltIn, Print, MakeRange, MakeStr, Repr, Len, MakeBool, Abs, MakeInt, Ord, Chr, Min, Max, MakeBytes, MakeTuple, Object}
+use Rattle.si_semantics.specs.Opened.{Opened, Atom, InTuple, InException, InThread, Nowhere, opened}
+use Rattle.si_semantics.specs.Value.{Text, Value, Nothing, Truth, Int, Str, Bytes, Provided, Function, Range, Tuple, Class, Module, Queue, Interpreter, Exec, Address, BuiltIn, Print, MakeRange, MakeStr, Repr, Len, MakeBool, Abs, MakeInt, Ord, Chr, Min, Max, MakeBytes, MakeTuple, Object}
 
 -- the most characters of a str, and the most bytes of bytes (this project's own)
 abbrev pub max_length : ℕ
@@ -48,6 +50,21 @@ built_in_name Max = codes "max"
 built_in_name MakeBytes = codes "bytes"
 built_in_name MakeTuple = codes "tuple"
 
+-- the name to which an import binds a module (Language Reference, 7.11)
+abbrev pub module_name : ModuleName → Text
+module_name Threading = codes "threading"
+module_name Interpreters = codes "interpreters"
+
+-- the name of a module (Language Reference, 5.3)
+abbrev pub full_name : ModuleName → Text
+full_name Threading = codes "threading"
+full_name Interpreters = codes "concurrent.interpreters"
+
+-- a kind, and the message where there is one (this project's own)
+abbrev pub kind_and_message : Kind → Text → Text
+kind_and_message k [] = name_of k
+kind_and_message k (c ∷ cs) = name_of k ++ (codes ": " ++ c ∷ cs)
+
 -- the repr of a range: its step is left out where it is 1
 abbrev pub repr_range : ℤ → ℤ → ℤ → Text
 repr_range a b c =
@@ -66,6 +83,10 @@ repr_atom (Function f k) = codes "<function " ++ f ++ codes ">"
 repr_atom (Range a b c) = repr_range a b c
 repr_atom (Tuple vs) = []
 repr_atom (Class k) = codes "<class '" ++ name_of k ++ codes "'>"
+repr_atom (Module m) = codes "<module '" ++ full_name m ++ codes "'>"
+repr_atom (Queue q m) = codes "Queue(" ++ decimal (pos q) ++ codes ")"
+repr_atom (Interpreter i) = codes "Interpreter(" ++ decimal (pos i) ++ codes ")"
+repr_atom (Exec i) = codes "<exec of Interpreter(" ++ decimal (pos i) ++ codes ")>"
 repr_atom (Address x) = []
 
 -- what is written of a value: all of it, or what stands before the first place where values are too deep within each other
@@ -113,6 +134,7 @@ abbrev pub repr_opened : (Text → List Value → Text → Written) → Opened �
 repr_opened row (Atom v) = Whole (repr_atom v)
 repr_opened row (InTuple vs) = row (codes "(") vs (tuple_end vs)
 repr_opened row (InException x k a) = row (name_of k ++ codes "(") (argument_of a) (codes ")")
+repr_opened row (InThread x) = Whole (codes "<Thread>")
 repr_opened row Nowhere = Broken []
 
 -- the repr of a value, where tuples and objects are within each other at most so deep

@@ -1,5 +1,6 @@
 -- Syntax trees (Python Language Reference 3.14, 6 to 8).
-use Rattle.std.specs.Prelude.{List, [], ◌∷◌, ◌++◌, Option}
+use Rattle.std.specs.Prelude.{List, [], ◌∷◌, ◌++◌, Option, Some, None}
+use Rattle.si_plain.specs.declared.modules.ModuleName.{ModuleName}
 use Rattle.si_semantics.specs.Value.{Text, Value}
 -- the operators: between two operands (6.5, 6.7 to 6.9), before one (6.6, 6.11), of a comparison (6.10), and `and` and `or`
 -- (6.11)
@@ -19,8 +20,11 @@ mutual
     Name : Text → Expr
     Unary : UnaryOperator → Expr → Expr
     Binary : BinaryOperator → Expr → Expr → Expr
-    -- a callee, its arguments, and the names of those that are passed by name, which stand after the others (6.3.3)
-    Call : Expr → Exprs → List Text → Expr
+    -- `object.NAME` (6.3.1)
+    Attribute : Expr → Text → Expr
+    -- a callee, its arguments, and the names of those that are passed by name, which stand after the others (6.3.3). Where
+    -- an attribute is called, the callee is its object, and the name of the attribute stands beside it
+    Call : Expr → Option Text → Exprs → List Text → Expr
     -- `object[index]`: the object, the index (6.3.2)
     Subscript : Expr → Expr → Expr
     -- a tuple of its items (6.2.4, 6.15)
@@ -44,6 +48,11 @@ mutual
 pub data Target : Type 0 where
   Named : Text → Target
 
+-- what is called, as a callee and the name of an attribute of it, where an attribute is called
+abbrev pub callee_of : Expr → Expr × Option Text
+callee_of (Attribute a x) = (a, Some x)
+callee_of f = (f, None)
+
 mutual
   pub data Stmt : Type 0 where
     Evaluate : Expr → Stmt
@@ -66,6 +75,8 @@ mutual
     Return : Option Expr → Stmt
     -- `global NAME, ..` (7.12)
     Global : List Text → Stmt
+    -- `import threading`, or `from concurrent import interpreters` (7.11)
+    Import : ModuleName → Stmt
     -- `raise`, and its expression where there is one (7.8)
     Raise : Option Expr → Stmt
     -- a `try` without a finally suite: the suite, the except clauses, and the else suite (8.4)

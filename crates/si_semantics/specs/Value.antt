@@ -1,6 +1,7 @@
 -- Values (Python Language Reference 3.14, 3.2).
 use Rattle.std.specs.Prelude.{ℕ, ℤ, List, [], ◌∷◌, Bool, Option}
 use Rattle.si_plain.specs.declared.kind.Kind.{Kind}
+use Rattle.si_plain.specs.declared.modules.ModuleName.{ModuleName}
 
 -- a text is the list of its characters, each by its code point
 abbrev pub Text : Type 0
@@ -43,6 +44,14 @@ mutual
     Tuple : Values → Value
     -- a kind of exception (Standard Library, "Built-in Exceptions")
     Class : Kind → Value
+    -- a module that was imported (3.2.11)
+    Module : ModuleName → Value
+    -- a queue, by its number and the most items that it may have, 0 for no bound (PEP 734, "Queue Objects")
+    Queue : (id maxsize : ℕ) → Value
+    -- an interpreter, by its number (PEP 734, "Interpreter Objects")
+    Interpreter : ℕ → Value
+    -- the method `exec` of an interpreter, which is good as the target of a thread alone (this project's own)
+    Exec : ℕ → Value
     -- an object, by its address: its place in the store (3.1)
     Address : ℕ → Value
 
@@ -69,3 +78,6 @@ tuple_of vs = Tuple (values_of vs)
 pub data Object : Type 0 where
   -- an exception, by its kind and the one argument that it may have (Standard Library, "Built-in Exceptions")
   Exception : Kind → Option Value → Object
+  -- a thread that is to run a text in an interpreter, and one that was started, by its run (Standard Library, "threading")
+  Thread : (interpreter : ℕ) → Text → Object
+  Started : (run : ℕ) → Object

@@ -9,6 +9,8 @@ pub mod BuiltIns
 pub mod Sequences
 pub mod Bytes
 pub mod Tuples
+pub mod Attributes
+pub mod Module
 pub mod Scope
 pub mod Literals
 pub mod Layout

@@ -1,7 +1,8 @@
 -- What the scripts of one interpreter see and change, and what it asks of others (this project's own).
-use Rattle.std.specs.Prelude.{codes, List, [], ◌∷◌, Option, Some, None, if◌then◌else◌}
+use Rattle.std.specs.Prelude.{codes, ℕ, Bool, List, [], ◌∷◌, Option, Some, None, if◌then◌else◌}
 use Rattle.si_plain.specs.declared.kind.Kind.{Kind}
 use Rattle.si_semantics.specs.Value.{Text, Value, Str, Object}
+use Rattle.si_semantics.specs.Parcels.{Tree}
 use Rattle.si_semantics.specs.Tree.{Module}
 use Rattle.si_semantics.specs.Text.{same_text}
 
@@ -9,13 +10,44 @@ use Rattle.si_semantics.specs.Text.{same_text}
 abbrev pub Globals : Type 0
 Globals = Text → Option Value
 
--- what a script changes: its globals, and the objects that it made, in order
+-- what a script sees and changes: the number of its interpreter, its globals, and the objects that it made, in order
 pub record World : Type 0 where
+  pub own : ℕ
   pub globals : Globals
   pub store : List Object
 
--- a call that only others can answer; there is none yet
+-- how a run ended: at its end, or left by an exception of a kind with a message
+pub data Outcome : Type 0 where
+  Returned : Outcome
+  Raised : Kind → Text → Outcome
+
+-- a call that only others can answer (PEP 734, "Interpreter Objects" and "Queue Objects"). Interpreters, queues and runs go by
+-- their numbers, and values as the parcels of which they are copies.
 pub data Request : Type 0 where
+  -- a new interpreter
+  Create : Request
+  -- a new queue of at most so many items, 0 for no bound
+  CreateQueue : (maxsize : ℕ) → Request
+  -- a parcel at the end of a queue, where there is room: Put waits for it, PutNow does not
+  Put : (queue : ℕ) → Tree → Request
+  PutNow : (queue : ℕ) → Tree → Request
+  -- the first item of a queue, where there is one: Get waits for it, GetNow does not
+  Get : (queue : ℕ) → Request
+  GetNow : (queue : ℕ) → Request
+  -- how many items a queue has; whether it has none; whether it has as many as it may have
+  Size : (queue : ℕ) → Request
+  IsEmpty : (queue : ℕ) → Request
+  IsFull : (queue maxsize : ℕ) → Request
+  -- names to bind in another interpreter
+  Prepare : (interpreter : ℕ) → List (Text × Tree) → Request
+  -- a run of this text, and then its end
+  Exec : (interpreter : ℕ) → Text → Request
+  AwaitExec : (run : ℕ) → Request
+  -- the same by a thread, an object: it is started, and then joined
+  StartThread : (thread interpreter : ℕ) → Text → Request
+  JoinThread : (run : ℕ) → Request
+  IsRunning : (interpreter : ℕ) → Request
+  Close : (interpreter : ℕ) → Request
 
 -- what an interpreter is given to do: names to bind, a text to run (None: it is not read), or to close
 pub data Job : Type 0 where
@@ -23,10 +55,28 @@ pub data Job : Type 0 where
   Run : Option Module → Job
   Closing : Job
 
--- what others answer to an action
+-- what others answer to an action, with values in the place of parcels
 pub data Answer : Type 0 where
   Taken : Job → Answer
   Done : Answer
+  -- there are as many as the limits allow
+  Limit : Answer
+  -- the number of what was made or started
+  Created : (interpreter : ℕ) → Answer
+  QueueMade : (queue : ℕ) → Answer
+  Started : (run : ℕ) → Answer
+  Full : Answer
+  Empty : Answer
+  Item : Value → Answer
+  Count : ℕ → Answer
+  -- why nothing is done with an interpreter: it is closed, runs, is the one that asks, or is the main one
+  NotFound : Answer
+  Running : Answer
+  Current : Answer
+  Main : Answer
+  -- how the run ended
+  Ended : Outcome → Answer
+  Truth : Bool → Answer
 
 -- how an operation goes: a value and perhaps a text that it prints, an exception by its kind and argument, or a request
 pub data Ran : Type 0 where
@@ -65,6 +115,6 @@ set_global x v w = record w { globals = bind x v w.globals }
 abbrev pub unset_global : Text → World → World
 unset_global x w = record w { globals = unbind x w.globals }
 
--- as an interpreter begins, `__name__` alone is bound (Language Reference, 9.1)
-abbrev pub first_world : World
-first_world = record { globals = bind (codes "__name__") (Str (codes "__main__")) nothing_bound; store = [] }
+-- as the interpreter of a number begins, `__name__` alone is bound (Language Reference, 9.1)
+abbrev pub first_world : ℕ → World
+first_world own = record { own = own; globals = bind (codes "__name__") (Str (codes "__main__")) nothing_bound; store = [] }

@@ -8,6 +8,8 @@ ghost use Rattle.si_semantics.specs.Worked.BuiltIns.{BuiltInCases};
 ghost use Rattle.si_semantics.specs.Worked.Bytes.{BytesCases};
 ghost use Rattle.si_semantics.specs.Worked.Items.{ItemCases};
 ghost use Rattle.si_semantics.specs.Worked.Sequences.{SequenceCases};
+ghost use Rattle.si_semantics.specs.Worked.Attributes.{AttributeCases};
+ghost use Rattle.si_semantics.specs.Worked.Module.{ModuleCases};
 ghost use Rattle.si_semantics.specs.Worked.Tuples.{TupleCases};
 ghost use Rattle.si_semantics.specs.Worked.Scope.{ScopeCases};
 ghost use Rattle.si_semantics.specs.Worked.Literals.{LiteralCases};
@@ -61,6 +63,16 @@ pub fn worked_bytes()
 /// The worked cases of tuples: what operations give for them.
 pub fn worked_tuples()
     ensures { TupleCases }
+{}
+
+/// The worked cases of attributes, methods and imports: what scripts print and how they end.
+pub fn worked_attributes()
+    ensures { AttributeCases }
+{}
+
+/// The worked cases of the module `concurrent.interpreters` and of threads: what scripts ask, and what they make of answers.
+pub fn worked_module()
+    ensures { ModuleCases }
 {}
 
 /// The worked cases of scopes: which texts are well scoped, and which names are local.

@@ -20,8 +20,7 @@ use Rattle.si_parcel.specs.declared.refused.TupleFault.{TupleFault}
 use Rattle.si_parcel.specs.declared.refused.TupleFault.TheVariants as tuple_fault
 use Rattle.si_share.specs.declared.fault.ShareFault.{ShareFault}
 use Rattle.si_share.specs.declared.fault.ShareFault.TheVariants.{NotShareable, TooLarge, NoMemory}
-use Rattle.si_share.specs.declared.fault.ReceiveFault.{ReceiveFault}
-use Rattle.si_share.specs.declared.fault.ReceiveFault.TheVariants.{NoSuchValue, NoMemory as RefusedMemory}
+use Rattle.std.specs.declared.alloc.AllocError.{AllocError}
 use Rattle.si_share.specs.Copies.{CopiesOut, CopiesIn, TakesMemory, Leaves}
 use Rattle.si_share.specs.inner.Fitting.{Fits}
 
@@ -116,6 +115,10 @@ mutual
   alike (pure.Function f k) t e = absurd cc
   alike (pure.Range a b c) t e = absurd cc
   alike (pure.Class k) t e = absurd cc
+  alike (pure.Module mo) t e = absurd cc
+  alike (pure.Interpreter it) t e = absurd cc
+  alike (pure.Exec it) t e = absurd cc
+  alike (pure.Queue qu qm) t e = atom_alike (pure.Queue qu qm) (tree.Queue qu qm) t refl refl e
   alike (pure.Address x) t e = absurd cc
 
   pub all_alike : (vs : Values) (ts : Trees) → parcels_of vs ≡ Some ts → AllAlike vs ts
@@ -144,6 +147,10 @@ mutual
   value_back (pure.Function f k) t e = absurd cc
   value_back (pure.Range a b c) t e = absurd cc
   value_back (pure.Class k) t e = absurd cc
+  value_back (pure.Queue qu qm) t e = let same : t ≡ Leaf (tree.Queue qu qm) = cc in ap value_of_parcel same
+  value_back (pure.Module mo) t e = absurd cc
+  value_back (pure.Interpreter it) t e = absurd cc
+  value_back (pure.Exec it) t e = absurd cc
   value_back (pure.Address x) t e = absurd cc
 
   values_back : (vs : Values) (ts : Trees) → parcels_of vs ≡ Some ts → values_of_parcels ts ≡ Some vs
@@ -181,7 +188,7 @@ mutual
   parcel_back (Leaf (tree.Int n)) v e = let same : v ≡ pure.Int n = cc in ap parcel_of same
   parcel_back (Leaf (tree.Str s)) v e = let same : v ≡ pure.Str s = cc in ap parcel_of same
   parcel_back (Leaf (tree.Bytes bs)) v e = let same : v ≡ pure.Bytes bs = cc in ap parcel_of same
-  parcel_back (Leaf (tree.Queue id maxsize)) v e = absurd cc
+  parcel_back (Leaf (tree.Queue id maxsize)) v e = let same : v ≡ pure.Queue id maxsize = cc in ap parcel_of same
   parcel_back (Group tree.Tuple ts) v e =
       let g = grouped_values (values_of_parcels ts) v e in
       ap parcel_of g.is ∙ ap (option_map (Group tree.Tuple)) (parcels_back ts g.values g.values_are)
@@ -273,15 +280,6 @@ complete ps (u ∷ us) e = absurd cc
 
 -- ---- the values of trees
 
-pub first_has_value : (a : Option Value) (b : Option Values) → is_some a ≡ true → is_some (more_values a b) ≡ is_some b
-first_has_value (Some v) (Some vs) e = refl
-first_has_value (Some v) None e = refl
-first_has_value None b e = absurd cc
-
-pub first_has_none : (a : Option Value) (b : Option Values) → is_some a ≡ false → is_some (more_values a b) ≡ false
-first_has_none (Some v) b e = absurd cc
-first_has_none None b e = refl
-
 pub mapped_values : (b : Option Values) → is_some (option_map pure.Tuple b) ≡ is_some b
 mapped_values (Some vs) = refl
 mapped_values None = refl
@@ -312,6 +310,26 @@ pub listed_values : (vs : Values) → (us : List Value) × (vs ≡ values_of us)
 listed_values NoValues = ([], refl)
 listed_values (MoreValues v vs) = let l = listed_values vs in (v ∷ l.0, ap (MoreValues v) l.1)
 
+-- each parcel has a value
+both_there : (a : Option Value) (b : Option Values) → is_some a ≡ true → is_some b ≡ true → is_some (more_values a b) ≡ true
+both_there (Some v) (Some vs) h k = refl
+both_there (Some v) None h k = absurd cc
+both_there None b h k = absurd cc
+
+mutual
+  pub each_has_value : (p : Tree) → is_some (value_of_parcel p) ≡ true
+  each_has_value (Leaf tree.Nothing) = refl
+  each_has_value (Leaf (tree.Truth b)) = refl
+  each_has_value (Leaf (tree.Int n)) = refl
+  each_has_value (Leaf (tree.Str s)) = refl
+  each_has_value (Leaf (tree.Bytes bs)) = refl
+  each_has_value (Leaf (tree.Queue q m)) = refl
+  each_has_value (Group tree.Tuple ts) = mapped_values (values_of_parcels ts) ∙ all_have_values ts
+
+  pub all_have_values : (ts : Trees) → is_some (values_of_parcels ts) ≡ true
+  all_have_values NoTrees = refl
+  all_have_values (MoreTrees t ts) = both_there (value_of_parcel t) (values_of_parcels ts) (each_has_value t) (all_have_values ts)
+
 pub has : (a : Option Value) → is_some a ≡ true → (v : Value) × (a ≡ Some v)
 has (Some v) e = (v, refl)
 has None e = absurd cc
@@ -336,10 +354,9 @@ goes_on : (p : Tree) (old new : Memory) → Leaves p old new → Extends old new
 goes_on (Leaf a) old new e = (subst (Extends old) (sym e) (extends_same old), ap (λ (m : Memory). m.store) e)
 goes_on (Group s ts) old new h = h
 
-pub part_left : (p : Tree) (ts : List Tree) (e : ReceiveFault) (first old new : Memory) (v : Value) → value_of_parcel p ≡ Some v
+pub part_left : (p : Tree) (ts : List Tree) (e : AllocError) (first old new : Memory) (v : Value) → value_of_parcel p ≡ Some v
     → Extends first old → old.store ≡ first.store → CopiesIn p old new (Err e) → CopiesIn (tree.tuple_of ts) first new (Err e)
-part_left p ts NoSuchValue first old new v is x y h = let none : None ≡ Some v = sym h.0 ∙ is in absurd cc
-part_left p ts RefusedMemory first old new v is x y h = let g = goes_on p old new h.1 in (tt, (extends_more x g.0, g.1 ∙ y))
+part_left p ts e first old new v is x y h = let g = goes_on p old new h.1 in (tt, (extends_more x g.0, g.1 ∙ y))
 
 -- a tuple whose trees are a parcel is not too large
 pub not_too_large : (ts : List Tree) (vs : List Value) → IsParcel (tree.tuple_of ts) → values_of_parcels (trees_of ts) ≡ Some (values_of vs) → is_too_large (pure.tuple_of vs) ≡ false

@@ -9,8 +9,7 @@ use Rattle.si_arena.specs.Memory.{Memory, Extends, Placed}
 use Rattle.si_arena.specs.Short.{FitsShort}
 use Rattle.si_share.specs.declared.fault.ShareFault.{ShareFault}
 use Rattle.si_share.specs.declared.fault.ShareFault.TheVariants as share
-use Rattle.si_share.specs.declared.fault.ReceiveFault.{ReceiveFault}
-use Rattle.si_share.specs.declared.fault.ReceiveFault.TheVariants as receive
+use Rattle.std.specs.declared.alloc.AllocError.{AllocError}
 
 -- a parcel takes memory of its own: a str, bytes and a tuple
 abbrev pub TakesMemory : Tree → Type 0
@@ -41,9 +40,7 @@ abbrev pub Leaves : Tree → Memory → Memory → Type 0
 Leaves (Leaf a) old new = new ≡ old
 Leaves (Group shape trees) old new = Extends old new × (new.store ≡ old.store)
 
--- the value of a parcel is placed in an arena. It is refused where the parcel has none, and the arena is as it was; else
--- only where it takes memory of the arena
-abbrev pub CopiesIn : Tree → Memory → Memory → Result Ref ReceiveFault → Type 0
+-- the value of a parcel is placed in an arena. Memory is refused only where it takes memory of the arena
+abbrev pub CopiesIn : Tree → Memory → Memory → Result Ref AllocError → Type 0
 CopiesIn p old new (Ok r) = (v : Value) × (value_of_parcel p ≡ Some v) × Placed old v r new
-CopiesIn p old new (Err receive.NoSuchValue) = (value_of_parcel p ≡ None) × (new ≡ old)
-CopiesIn p old new (Err receive.NoMemory) = NeedsRoom p × Leaves p old new
+CopiesIn p old new (Err refused) = NeedsRoom p × Leaves p old new

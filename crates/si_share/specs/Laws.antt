@@ -1,11 +1,10 @@
 -- What is proved of copies.
-use Rattle.std.specs.Prelude.{◌≡◌, ◌↔◌, Some, Ok, Err}
+use Rattle.std.specs.Prelude.{◌≡◌, ◌↔◌, is_some, true, Some, Ok}
 use Rattle.si_semantics.specs.Value.{Value}
 use Rattle.si_semantics.specs.Parcels.{Tree}
 use Rattle.si_semantics.specs.Shareable.{parcel_of, value_of_parcel}
 use Rattle.si_arena.specs.declared.value.Ref.{Ref}
 use Rattle.si_arena.specs.Memory.{Memory, value_of}
-use Rattle.si_share.specs.declared.fault.ReceiveFault.TheVariants.{NoSuchValue}
 use Rattle.si_share.specs.Copies.{CopiesOut, CopiesIn}
 
 -- the definitions agree: a value is that of its parcel, and a parcel is that of its value
@@ -18,6 +17,6 @@ CopiedIsEqual =
     (from old new : Memory) (r s : Ref) (p : Tree)
     → CopiesOut (value_of from r) (Ok p) → CopiesIn p old new (Ok s) → value_of new s ≡ value_of from r
 
--- what was copied out of an arena has a value in every other
-abbrev pub CopiedIsThere : Type 0
-CopiedIsThere = (v : Value) (p : Tree) (old new : Memory) → CopiesOut v (Ok p) → ¬ CopiesIn p old new (Err NoSuchValue)
+-- each parcel has a value
+abbrev pub EachHasValue : Type 0
+EachHasValue = (p : Tree) → is_some (value_of_parcel p) ≡ true

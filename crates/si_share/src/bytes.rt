@@ -7,12 +7,12 @@ ghost use Rattle.si_semantics.specs.Parcels.{Leaf};
 ghost use Rattle.si_semantics.specs.Parcels as tree;
 ghost use Rattle.si_share.specs.Copies.{CopiesIn, CopiesOut};
 
-use crate::fault::{ReceiveFault, ShareFault};
+use crate::fault::ShareFault;
 use si_arena::{Arena, Fault, Ref};
 use si_parcel::Parcel;
-use si_plain::Octets;
 use si_plain::limits::MAX_STR_LENGTH;
-use std::alloc::Global;
+use si_plain::{NoMemory, Octets};
+use std::alloc::{AllocError, Global};
 
 // The parcel of these bytes.
 pub(crate) fn bytes_out(alloc: Global, bytes: &[u8]) -> Result<Parcel, ShareFault>
@@ -29,14 +29,14 @@ pub(crate) fn bytes_out(alloc: Global, bytes: &[u8]) -> Result<Parcel, ShareFaul
 }
 
 // These bytes, of which there are no more than there may be.
-pub(crate) fn bytes_in(arena: &mut Arena, octets: &Octets) -> Result<Ref, ReceiveFault>
+pub(crate) fn bytes_in(arena: &mut Arena, octets: &Octets) -> Result<Ref, NoMemory>
     requires { length octets.now ≤ max_length }
     ensures copied { CopiesIn (Leaf (tree.Bytes octets.now)) arena.old arena.new result }
     ensures kept { length octets.now ≤ 14 → arena.new ≡ arena.old }
 {
     match arena.place_bytes(octets.as_slice()) {
         Ok(placed) => Ok(placed),
-        Err(Fault::NoMemory) => Err(ReceiveFault::NoMemory),
+        Err(Fault::NoMemory) => Err(AllocError),
         Err(Fault::Raises(_)) => unreachable!(),
     }
 }

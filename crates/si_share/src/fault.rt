@@ -1,4 +1,4 @@
-// Why a copy is refused.
+// Why a value is not copied out of an arena.
 
 use si_plain::NoMemory;
 
@@ -13,15 +13,6 @@ pub enum ShareFault {
     NoMemory,
 }
 
-/// Why a parcel is not copied into an arena.
-#[derive(Clone, Copy, Debug, PartialEq, Eq)]
-pub enum ReceiveFault {
-    /// Scripts have no value yet for this parcel: it is a queue, or a tuple with one in it.
-    NoSuchValue,
-    /// Memory was refused.
-    NoMemory,
-}
-
 impl From<NoMemory> for ShareFault {
     ghost use Rattle.std.specs.Prelude.{◌≡◌};
     ghost use Rattle.si_share.specs.declared.fault.ShareFault.TheVariants.{NoMemory as Refused};
@@ -30,16 +21,5 @@ impl From<NoMemory> for ShareFault {
 
     fn from(_: NoMemory) -> ShareFault {
         ShareFault::NoMemory
-    }
-}
-
-impl From<NoMemory> for ReceiveFault {
-    ghost use Rattle.std.specs.Prelude.{◌≡◌};
-    ghost use Rattle.si_share.specs.declared.fault.ReceiveFault.TheVariants.{NoMemory as Refused};
-
-    ghost from_gives = { λ _ e. e ≡ Refused };
-
-    fn from(_: NoMemory) -> ReceiveFault {
-        ReceiveFault::NoMemory
     }
 }

@@ -9,47 +9,24 @@ ghost use Rattle.si_arena.specs.Short.{FitsShort};
 ghost use Rattle.si_share.specs.Copies.{CopiesIn, NeedsRoom};
 
 use crate::bytes::bytes_in;
-use crate::fault::ReceiveFault;
 use si_arena::{Arena, Fault, Ref};
 use si_parcel::{Atom, Parcel, Top};
-use si_plain::Text;
+use si_plain::{NoMemory, Text};
+use std::alloc::AllocError;
 
-/// A value that denotes the parcel's, in this arena, where all else is as it was. `NoSuchValue` exactly where scripts
-/// have no value for the parcel yet: for a queue, or a tuple with one in it; the arena is unchanged then. `NoMemory` where
-/// memory is refused: only a str takes any that is longer than 14 characters or has one of 256 or more, more than 14
+/// A value that denotes the parcel's, in this arena, where all else is as it was. `NoMemory` where memory is refused: only a str takes any that is longer than 14 characters or has one of 256 or more, more than 14
 /// bytes, and a tuple. Then what lay in the arena lies there and denotes what it did, and after a str or bytes the arena is
 /// unchanged.
-pub fn copy_in(arena: &mut Arena, parcel: &Parcel) -> Result<Ref, ReceiveFault>
+pub fn copy_in(arena: &mut Arena, parcel: &Parcel) -> Result<Ref, NoMemory>
     ensures copied { CopiesIn parcel.now arena.old arena.new result }
     ensures kept { ¬ NeedsRoom parcel.now → arena.new ≡ arena.old }
 {
-    if !has_value(parcel) {
-        return Err(ReceiveFault::NoSuchValue);
-    }
     value_in(arena, parcel)
-}
-
-// Whether scripts have a value for a parcel: it has no queue in it.
-fn has_value(parcel: &Parcel) -> bool
-    ensures { result ≡ is_some (value_of_parcel parcel.now) }
-{
-    match parcel.top() {
-        Top::Atom(Atom::Queue(_, _)) => false,
-        Top::Atom(_) => true,
-        Top::Tuple(items) => {
-            'items: for item in items {
-                if !has_value(item) {
-                    return false;
-                }
-            }
-            true
-        }
-    }
 }
 
 // The value of a parcel that has one.
 #[cycle(value_in)]
-fn value_in(arena: &mut Arena, parcel: &Parcel) -> Result<Ref, ReceiveFault>
+fn value_in(arena: &mut Arena, parcel: &Parcel) -> Result<Ref, NoMemory>
     requires { is_some (value_of_parcel parcel.now) ≡ true }
     ensures copied { CopiesIn parcel.now arena.old arena.new result }
     ensures kept { ¬ NeedsRoom parcel.now → arena.new ≡ arena.old }
@@ -61,14 +38,14 @@ fn value_in(arena: &mut Arena, parcel: &Parcel) -> Result<Ref, ReceiveFault>
         Top::Atom(Atom::Int(int)) => Ok(Ref::Int(int)),
         Top::Atom(Atom::Str(text)) => str_in(arena, text),
         Top::Atom(Atom::Bytes(octets)) => bytes_in(arena, octets),
-        Top::Atom(Atom::Queue(_, _)) => unreachable!(),
+        Top::Atom(Atom::Queue(id, maxsize)) => Ok(Ref::Queue { id, maxsize }),
         Top::Tuple(items) => tuple_in(arena, items),
     }
 }
 
 // A tuple of the values of these parcels.
 #[cycle(value_in)]
-fn tuple_in(arena: &mut Arena, items: &[Parcel]) -> Result<Ref, ReceiveFault>
+fn tuple_in(arena: &mut Arena, items: &[Parcel]) -> Result<Ref, NoMemory>
     requires fits { IsParcel (tuple_of items.now) }
     requires known { is_some (value_of_parcel (tuple_of items.now)) ≡ true }
     ensures { CopiesIn (tuple_of items.now) arena.old arena.new result }
@@ -78,25 +55,25 @@ fn tuple_in(arena: &mut Arena, items: &[Parcel]) -> Result<Ref, ReceiveFault>
         let value = value_in(arena, item)?;
         match values.push(value) {
             Ok(()) => {}
-            Err(_) => return Err(ReceiveFault::NoMemory),
+            Err(_) => return Err(AllocError),
         }
     }
     match arena.place_tuple(values.as_slice()) {
         Ok(placed) => Ok(placed),
-        Err(Fault::NoMemory) => Err(ReceiveFault::NoMemory),
+        Err(Fault::NoMemory) => Err(AllocError),
         Err(Fault::Raises(_)) => unreachable!(),
     }
 }
 
 // A str of these characters, of which there are no more than a str may have.
-fn str_in(arena: &mut Arena, text: &Text) -> Result<Ref, ReceiveFault>
+fn str_in(arena: &mut Arena, text: &Text) -> Result<Ref, NoMemory>
     requires { length text.now ≤ max_length }
     ensures copied { CopiesIn (Leaf (tree.Str text.now)) arena.old arena.new result }
     ensures kept { FitsShort text.now → arena.new ≡ arena.old }
 {
     match arena.place_text(text.as_str()) {
         Ok(placed) => Ok(placed),
-        Err(Fault::NoMemory) => Err(ReceiveFault::NoMemory),
+        Err(Fault::NoMemory) => Err(AllocError),
         Err(Fault::Raises(_)) => unreachable!(),
     }
 }

@@ -1,6 +1,6 @@
 // Laws of copies, for those who build on them.
 
-ghost use Rattle.si_share.specs.Laws.{OneParcel, CopiedIsEqual, CopiedIsThere};
+ghost use Rattle.si_share.specs.Laws.{OneParcel, CopiedIsEqual, EachHasValue};
 
 /// A value is that of its parcel, and a parcel that of its value.
 pub fn one_parcel()
@@ -12,7 +12,7 @@ pub fn copied_is_equal()
     ensures { CopiedIsEqual }
 {}
 
-/// What was copied out of an arena has a value in every other: it is never refused there for want of one.
-pub fn copied_is_there()
-    ensures { CopiedIsThere }
+/// Each parcel has a value: none is refused for want of one.
+pub fn each_has_value()
+    ensures { EachHasValue }
 {}

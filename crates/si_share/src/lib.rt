@@ -16,9 +16,10 @@ pub mod laws;
 mod outward;
 mod text;
 
-pub use fault::{ReceiveFault, ShareFault};
+pub use fault::ShareFault;
 pub use inward::copy_in;
 pub use outward::{copy_out, is_shareable};
+pub use text::text_of;
 
 #[cfg(test)]
 mod tests;

@@ -18,7 +18,7 @@ use si_plain::limits::{MAX_STR_LENGTH, MAX_TUPLE_LEVELS, MAX_TUPLE_VALUES};
 use std::alloc::Global;
 
 /// Whether a value may be sent to another interpreter (PEP 734, "Shareable Objects"): None, True, False, an int, a str,
-/// bytes, or a tuple all of whose items may. Takes no memory.
+/// bytes, a queue, or a tuple all of whose items may. Takes no memory.
 pub fn is_shareable(arena: &Arena, value: Ref) -> bool
     requires { Lies arena.now value }
     ensures { result ≡ is_shareable (value_of arena.now value) }
@@ -41,6 +41,10 @@ pub fn is_shareable(arena: &Arena, value: Ref) -> bool
         View::Function(_, _) => false,
         View::Range(_) => false,
         View::Kind(_) => false,
+        View::Module(_) => false,
+        View::Queue(_, _) => true,
+        View::Interpreter(_) => false,
+        View::Exec(_) => false,
         View::Object(_) => false,
     }
 }
@@ -91,6 +95,10 @@ fn longest(arena: &Arena, value: Ref) -> usize
         View::Function(_, _) => 0,
         View::Range(_) => 0,
         View::Kind(_) => 0,
+        View::Module(_) => 0,
+        View::Queue(_, _) => 0,
+        View::Interpreter(_) => 0,
+        View::Exec(_) => 0,
         View::Object(_) => 0,
     }
 }
@@ -127,6 +135,10 @@ fn parcel_out(alloc: Global, arena: &Arena, value: Ref) -> Result<Parcel, ShareF
         View::Function(_, _) => unreachable!(),
         View::Range(_) => unreachable!(),
         View::Kind(_) => unreachable!(),
+        View::Module(_) => unreachable!(),
+        View::Queue(id, maxsize) => Ok(Parcel::queue(id, maxsize)),
+        View::Interpreter(_) => unreachable!(),
+        View::Exec(_) => unreachable!(),
         View::Object(_) => unreachable!(),
     }
 }

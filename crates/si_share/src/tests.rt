@@ -2,10 +2,10 @@
 
 ghost use Rattle.si_arena.specs.Memory.{Lies};
 
-use crate::{ReceiveFault, ShareFault, copy_in, copy_out, is_shareable};
+use crate::{ShareFault, copy_in, copy_out, is_shareable};
 use si_arena::{Arena, BuiltIn, Object, Ref, Steps};
 use si_parcel::Parcel;
-use si_plain::{Kind, Octets, Text};
+use si_plain::{Kind, ModuleName, Octets, Text};
 use std::alloc::{AllocError, Global};
 use std::test::Fail;
 
@@ -119,6 +119,9 @@ fn ranges_functions_and_exceptions_are_not_shareable(rt: HostRuntime) -> Result<
     assert!(rt; is_kept(alloc, &arena, exception));
     assert!(rt; is_kept(alloc, &arena, Ref::BuiltIn(BuiltIn::Print)));
     assert!(rt; is_kept(alloc, &arena, Ref::Kind(Kind::ValueError)));
+    assert!(rt; is_kept(alloc, &arena, Ref::Module(ModuleName::Threading)));
+    assert!(rt; is_kept(alloc, &arena, Ref::Interpreter(1)));
+    assert!(rt; is_kept(alloc, &arena, Ref::Exec(1)));
     Ok(())
 }
 
@@ -189,13 +192,11 @@ fn the_deepest_tuple_goes_over(rt: HostRuntime) -> Result<(), Fail> {
 }
 
 #[test]
-fn some_parcels_have_no_value_yet(rt: HostRuntime) -> Result<(), Fail> {
+fn queues_go_over(rt: HostRuntime) -> Result<(), Fail> {
     let alloc = rt.alloc();
-    let mut arena = Arena::new(alloc);
-    let queue = Parcel::queue(0, 1);
-    assert!(rt; matches!(copy_in(&mut arena, &queue), Err(ReceiveFault::NoSuchValue)));
-    let tuple = pair(alloc, str(alloc, LONG)?, queue)?;
-    assert!(rt; matches!(copy_in(&mut arena, &tuple), Err(ReceiveFault::NoSuchValue)));
+    assert!(rt; comes_back(alloc, &Parcel::queue(3, 10)));
+    let tuple = pair(alloc, str(alloc, LONG)?, Parcel::queue(0, 1))?;
+    assert!(rt; comes_back(alloc, &tuple));
     Ok(())
 }
 
@@ -223,7 +224,7 @@ fn refused_copy_into_an_arena(rt: HostRuntime) -> Result<(), Fail> {
     let parcel = str(rt.alloc(), LONG)?;
     let mut arena = Arena::new(rt.alloc());
     let first = copy_in(&mut arena, &parcel);
-    assert!(rt; first.is_ok() || matches!(first, Err(ReceiveFault::NoMemory)));
+    assert!(rt; first.is_ok() || matches!(first, Err(AllocError)));
     let Ok(copy) = copy_in(&mut arena, &parcel) else {
         return Err(AllocError)?;
     };
@@ -237,7 +238,7 @@ fn refused_copy_of_a_tuple_into_an_arena(rt: HostRuntime) -> Result<(), Fail> {
     let parcel = nested(rt.alloc())?;
     let mut arena = Arena::new(rt.alloc());
     let first = copy_in(&mut arena, &parcel);
-    assert!(rt; first.is_ok() || matches!(first, Err(ReceiveFault::NoMemory)));
+    assert!(rt; first.is_ok() || matches!(first, Err(AllocError)));
     let Ok(copy) = copy_in(&mut arena, &parcel) else {
         return Err(AllocError)?;
     };

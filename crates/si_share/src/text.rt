@@ -7,8 +7,8 @@ use si_arena::Characters;
 use si_plain::{NoMemory, Text};
 use std::alloc::Global;
 
-// These characters. `AllocError` where memory is refused.
-pub(crate) fn text_of(alloc: Global, characters: Characters<'_>) -> Result<Text, NoMemory>
+/// These characters. `AllocError` where memory is refused.
+pub fn text_of(alloc: Global, characters: Characters<'_>) -> Result<Text, NoMemory>
     ensures { IfOk result (λ t. t ≡ characters_in characters.entry) }
 {
     match characters {

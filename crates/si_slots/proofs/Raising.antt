@@ -1,13 +1,15 @@
 -- Expressions and calls are left by exceptions alone.
 use Rattle.std.proofs.Common.{ℕ, zero, suc, List, [], ◌∷◌, length, Bool, true, false, Option, Some, None}
 use Rattle.std.specs.Prelude.{nat_eq, slice_get}
-use Rattle.si_semantics.specs.Value.{Text, Value, Nothing, Truth, Int, Str, Bytes, Provided, Function, Range, Tuple, Class, Address}
+use Rattle.si_semantics.specs.Value.{Text, Value, Nothing, Truth, Int, Str, Bytes, Provided, Function, Range, Tuple, Class, Module, Queue, Interpreter, Exec, Address}
 use Rattle.si_semantics.specs.Tree.{BooleanOperator, Expr, Exprs, Comparisons}
 use Rattle.si_semantics.specs.Tree as tree
 use Rattle.si_semantics.specs.World.{Request, Answer, Replied, Got, Failed, Wants, Ran, Gave, Threw, Asked}
-use Rattle.si_semantics.specs.Operations.{exception, tuple_within, operate, operate_unary, is_true, compare, load_global, load_local, call_provided, call_by_name, not_callable, wrong_arguments, too_deep, reply}
+use Rattle.si_semantics.specs.Operations.{exception, tuple_within, operate, operate_unary, is_true, compare, load_global, load_local, call_provided, call_by_name, not_callable, wrong_arguments, too_deep}
+use Rattle.si_semantics.specs.Replies.{reply}
 use Rattle.si_semantics.specs.Subscription.{subscript}
-use Rattle.si_semantics.specs.Meaning.{State, Raises, Returns, Breaks, Continues, Result, Gives, Leaves, Asks, Cut, Meaning, Scope, visit, then, raised, asked, ran, slot_at, read, calls, choose, decides, compared, expr, exprs, operands, chain, returned, fitting, run_body, call}
+use Rattle.si_semantics.specs.Attributes.{Method, attribute, called, method_of, call_method}
+use Rattle.si_semantics.specs.Meaning.{State, Raises, Returns, Breaks, Continues, Result, Gives, Leaves, Asks, Cut, Meaning, Scope, visit, then, raised, asked, ran, slot_at, read, calls, calls_method, calls_attribute, callee, choose, decides, compared, expr, exprs, operands, chain, returned, fitting, run_body, call}
 use Rattle.si_semantics.specs.Scope.{place_of}
 use Rattle.si_slots.proofs.Blocks.{OnlyRaises}
 
@@ -84,8 +86,24 @@ calls_keep e h (Provided f) vs [] s = ran_keeps (call_provided (Provided f) vs s
 calls_keep e h (Range a b c) vs [] s = ran_keeps (call_provided (Range a b c) vs s.world) s
 calls_keep e h (Tuple us) vs [] s = ran_keeps (call_provided (Tuple us) vs s.world) s
 calls_keep e h (Class k) vs [] s = ran_keeps (call_provided (Class k) vs s.world) s
+calls_keep e h (Module m) vs [] s = ran_keeps (call_provided (Module m) vs s.world) s
+calls_keep e h (Queue q m) vs [] s = ran_keeps (call_provided (Queue q m) vs s.world) s
+calls_keep e h (Interpreter i) vs [] s = ran_keeps (call_provided (Interpreter i) vs s.world) s
+calls_keep e h (Exec i) vs [] s = ran_keeps (call_provided (Exec i) vs s.world) s
 calls_keep e h (Address x) vs [] s = ran_keeps (call_provided (Address x) vs s.world) s
 calls_keep e h g vs (x ∷ names) s = ran_keeps (call_by_name g s.world) s
+
+calls_method_keep : (e : Scope) → Calls_keep e → (m : Option Method) (g : Value) (vs : List Value) (names : List Text) (s : State) → OnlyRaises (calls_method e m g vs names s)
+calls_method_keep e h None g vs names s = calls_keep e h g vs names s
+calls_method_keep e h (Some m) g vs names s = ran_keeps (call_method m g vs names s.world) s
+
+calls_attribute_keep : (e : Scope) → Calls_keep e → (x : Option Text) (g : Value) (vs : List Value) (names : List Text) (s : State) → OnlyRaises (calls_attribute e x g vs names s)
+calls_attribute_keep e h None g vs names s = calls_keep e h g vs names s
+calls_attribute_keep e h (Some x) g vs names s = calls_method_keep e h (method_of g x s.world) g vs names s
+
+callee_keeps : (x : Option Text) (object : Meaning Value) → ((s : State) → OnlyRaises (object s)) → (s : State) → OnlyRaises (callee x object s)
+callee_keeps None object h s = h s
+callee_keeps (Some x) object h s = then_keeps (object (visit s)) _ (h (visit s)) (λ v s1. ran_keeps (called v x s1.world) s1)
 
 -- ---- expressions
 
@@ -97,8 +115,10 @@ module _ (e : Scope) (calling : Calls_keep e) where
     expr_keeps (tree.Unary o a) s = then_keeps (expr e a (visit s)) _ (expr_keeps a (visit s)) (λ v s1. ran_keeps (operate_unary o v s1.world) s1)
     expr_keeps (tree.Binary o a b) s =
         then_keeps (expr e a (visit s)) _ (expr_keeps a (visit s)) (λ u s1. then_keeps (expr e b s1) _ (expr_keeps b s1) (λ v s2. ran_keeps (operate o u v s2.world) s2))
-    expr_keeps (tree.Call f args names) s =
-        then_keeps (expr e f (visit s)) _ (expr_keeps f (visit s)) (λ g s1. then_keeps (exprs e args s1) _ (exprs_keep args s1) (λ vs s2. calls_keep e calling g vs names s2))
+    expr_keeps (tree.Attribute a x) s = then_keeps (expr e a (visit s)) _ (expr_keeps a (visit s)) (λ v s1. ran_keeps (attribute v x s1.world) s1)
+    expr_keeps (tree.Call f x args names) s =
+        then_keeps (callee x (expr e f) (visit s)) _ (callee_keeps x (expr e f) (λ s1. expr_keeps f s1) (visit s))
+        (λ g s1. then_keeps (exprs e args s1) _ (exprs_keep args s1) (λ vs s2. calls_attribute_keep e calling x g vs names s2))
     expr_keeps (tree.Subscript a b) s =
         then_keeps (expr e a (visit s)) _ (expr_keeps a (visit s)) (λ u s1. then_keeps (expr e b s1) _ (expr_keeps b s1) (λ v s2. ran_keeps (subscript u v s2.world) s2))
     expr_keeps (tree.Tuple items) s = then_keeps (exprs e items (visit s)) _ (exprs_keep items (visit s)) (λ vs s1. ran_keeps (tuple_within vs s1.world) s1)

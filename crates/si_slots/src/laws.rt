@@ -27,7 +27,8 @@ pub fn lives()
     ensures { Lives }
 {}
 
-/// However far compiled code runs, it never comes to where an instruction is missing, or lacks a temporary.
+/// However far compiled code runs, and whatever its requests are answered, it never comes to where an instruction is
+/// missing, or lacks a temporary.
 pub fn stays_open()
     ensures { StaysOpen }
 {}

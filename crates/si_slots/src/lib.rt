@@ -6,7 +6,7 @@
 // specs/Interpreter.antt (what an interpreter shows of its life at any moment), specs/Laws.antt (laws of courses);
 // `laws`, which state them. Then the code as it lies in memory: `instr`, the instructions, in 8 bytes each; `operand`
 // and `full`, instructions in full; `routine`, what is known of a function's code; `table`, their lines, literals and
-// slots; `aim`, its jumps; `bind`, globals bound to functions; `fetch`, how its code is read. specs/Contents.antt and
+// slots; `aim`, its jumps; `bind`, globals bound to functions; `method`, calls of methods; `fetch`, how its code is read. specs/Contents.antt and
 // specs/Views.antt say what a table has and what it stands for; specs/inner/Jumps.antt is for the proofs alone.
 #![tactic(auto)]
 
@@ -16,8 +16,10 @@ mod fetch;
 mod frame;
 mod full;
 mod instr;
+mod keywords;
 pub mod laws;
 mod literal;
+mod method;
 mod operand;
 mod pack;
 mod routine;
@@ -26,6 +28,7 @@ mod unpack;
 
 pub use full::FullInstr;
 pub use instr::Instr;
+pub use keywords::Keywords;
 pub use literal::Literal;
 pub use operand::{Aim, Constant, Source, Target};
 pub use routine::Routine;

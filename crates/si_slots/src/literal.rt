@@ -1,26 +1,29 @@
 // Literals that lie beside the code.
 ghost use Rattle.std.specs.Prelude.{◌≡◌};
 
+use crate::keywords::Keywords;
 use si_plain::{Octets, Text};
 
-/// A literal of a script, or the name of a function.
+/// A literal of a script, the name of a function, or the names of arguments that are passed by name.
 #[derive(Debug, Drop)]
 pub enum Literal {
     Str(Text),
     Bytes(Octets),
+    Keywords(Keywords),
 }
 
 impl Literal {
     ghost use Rattle.si_plain.specs.Characters.{characters_of};
     ghost use Rattle.si_slots.specs.Literals.{name_in};
 
-    /// The characters of a str; none of bytes.
+    /// The characters of a str; none of another.
     pub fn name(&self) -> &str
         ensures { characters_of result.now ≡ name_in self.now }
     {
         match self {
             Literal::Str(text) => text.as_str(),
             Literal::Bytes(_) => "",
+            Literal::Keywords(_) => "",
         }
     }
 }

@@ -17,3 +17,4 @@ pub mod Callees
 pub mod Provided
 pub mod Displayed
 pub mod Fast
+pub mod Asked

@@ -12,11 +12,11 @@ use Rattle.si_semantics.specs.Text.{message_of, str_in}
 use Rattle.si_semantics.specs.Life as life
 use Rattle.si_slots.specs.Machine.{Course, Ending}
 use Rattle.si_arena.specs.declared.cause.Cause.{Cause}
-use Rattle.si_arena.specs.declared.cause.Cause.TheVariants.{Arithmetic, TooLong, WrongType, NotCallable, WrongArguments, TooDeep, NoneActive, Outside, NotDefined, NotBound}
+use Rattle.si_arena.specs.declared.cause.Cause.TheVariants.{Arithmetic, TooLong, WrongType, NotCallable, WrongArguments, TooDeep, NoneActive, Outside, NotDefined, NotBound, NoAttribute, Refused}
 use Rattle.si_arena.specs.declared.cause.Fault.{Fault}
 use Rattle.si_arena.specs.declared.cause.Fault.TheVariants.{Raises, NoMemory}
 use Rattle.si_arena.specs.declared.object.Object.{Object}
-use Rattle.si_arena.specs.declared.object.Object.TheVariants.{Bare, Made, Caused}
+use Rattle.si_arena.specs.declared.object.Object.TheVariants.{Bare, Made, Caused, Thread, Started}
 use Rattle.si_arena.specs.Memory.{Memory, object_of}
 use Rattle.si_arena.specs.Objects.{kind_in}
 use Rattle.si_ops.specs.Writing.{Appends, IsUnwritten}
@@ -46,6 +46,8 @@ unwritten_message p NoneActive h = absurd h
 unwritten_message p Outside h = absurd h
 unwritten_message p (NotDefined name) h = absurd h
 unwritten_message p (NotBound name) h = absurd h
+unwritten_message p (NoAttribute name) h = absurd h
+unwritten_message p (Refused refusal) h = absurd h
 
 nothing_raised : (cause : Cause) → NoMemory ≡ Raises cause → ⊥
 nothing_raised cause e = cc
@@ -59,6 +61,8 @@ same_kind : (m : Memory) (o : Object) → life.kind_of (Some (object_of m o)) �
 same_kind m (Bare kind) = refl
 same_kind m (Made kind r) = refl
 same_kind m (Caused cause) = refl
+same_kind m (Thread interpreter text) = refl
+same_kind m (Started run) = refl
 
 -- the exception that left a run
 pub told_raised : (c : Course) (s : State) (x : ℕ) (o : Object) (kind : Kind) (text : Text) → HasEnded c s → s.outcome ≡ Raised x → slice_get s.arena.store x ≡ Some (object_of s.arena o) → kind ≡ kind_in o →

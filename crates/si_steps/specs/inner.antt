@@ -2,3 +2,4 @@
 pub mod Firsts
 pub mod Pieces
 pub mod Operands
+pub mod Asking

@@ -13,25 +13,19 @@ use crate::state::State;
 use si_arena::Ref;
 use si_parcel::Parcel;
 use si_plain::NoMemory;
-use si_share::{ReceiveFault, copy_in};
-use std::alloc::AllocError;
+use si_share::copy_in;
 
 impl State {
-    /// The global of a name is bound to the value of a parcel; where scripts have none for it, nothing is bound.
+    /// The global of a name is bound to the value of a parcel.
     pub fn bind_parcel(&mut self, name: &str, parcel: &Parcel) -> Result<(), NoMemory>
         ensures ok { OnOk result ((w : World) → IsWorld (ground_of self.old) w → IsWorld (ground_of self.new) (bound_to name.now (value_of_parcel parcel.now) w)) }
         ensures code { table_of self.new.table ≡ table_of self.old.table }
         ensures grown { Extends self.old.table self.new.table }
         ensures same { Binds self.old self.new }
     {
-        match copy_in(&mut self.arena, parcel) {
-            Ok(value) => {
-                self.bind(name, value)?;
-                Ok(())
-            }
-            Err(ReceiveFault::NoSuchValue) => Ok(()),
-            Err(ReceiveFault::NoMemory) => Err(AllocError),
-        }
+        let value = copy_in(&mut self.arena, parcel)?;
+        self.bind(name, value)?;
+        Ok(())
     }
 
     // The global of a name is bound to a value.

@@ -10,11 +10,13 @@
 // In reading order: `step` (what a step did), `state` (what a machine has), `landing` (where a value goes), `raising`
 // (how exceptions are raised), `reading` (how operands are read), `flow` (the instructions of branches, chains and
 // loops), `tries` (those of `try` and of unbinding), `values` (those of operands and operations), `subscripts`,
-// `displays`, `names` (those of globals), `calls` (calls of functions and of other values), `leaving` (`break`,
+// `displays`, `names` (those of globals), `calls` (calls of functions and of other values), `attributes`, `methods` (calls of
+// methods), `requests` (what is asked, and its answers), `leaving` (`break`,
 // `continue`, `return` and the end of a finally suite), `short` and `short_values` (instructions as they stand in 8
 // bytes), `execute` (one instruction), `begin` (how a run begins), `bind` (globals bound between runs), `machine`.
 #![tactic(auto)]
 
+mod attributes;
 mod begin;
 mod bind;
 mod calls;
@@ -24,9 +26,11 @@ mod flow;
 mod landing;
 mod leaving;
 mod machine;
+mod methods;
 mod names;
 mod raising;
 mod reading;
+mod requests;
 mod short;
 mod short_values;
 mod state;

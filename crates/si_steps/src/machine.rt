@@ -6,8 +6,11 @@ ghost use Rattle.si_semantics.specs.World.{World, first_world};
 ghost use Rattle.si_slots.specs.Contents.{Extends, no_code};
 ghost use Rattle.si_slots.specs.Machine.{Course, Ending};
 ghost use Rattle.si_slots.specs.Running.{NeverCloses, run_at};
+ghost use Rattle.si_parcel.specs.Shared.{action_of, answer_of};
+ghost use Rattle.si_methods.specs.Given.{answer_in};
+ghost use Rattle.si_steps.specs.Moments.{IsActionAt, HasAction};
 ghost use Rattle.si_slots.specs.Views.{table_of};
-ghost use Rattle.si_steps.specs.Machines.{Stands, IsRunning, HasEnded, Steps, Awaits, Waits, bound_to, printed_of};
+ghost use Rattle.si_steps.specs.Machines.{Stands, IsRunning, IsWaiting, HasEnded, Steps, Answers, Awaits, Waits, bound_to, printed_of};
 ghost use Rattle.si_semantics.specs.Shareable.{value_of_parcel};
 ghost use Rattle.si_steps.specs.Outcomes.{told};
 
@@ -15,7 +18,7 @@ use crate::state::{Standing, State};
 use crate::step::{Exit, Outcome, Step};
 use si_arena::{Arena, Fault, Ref};
 use si_ops::push_str;
-use si_parcel::Parcel;
+use si_parcel::{Action, Answer, Parcel};
 use si_plain::{NoMemory, Text};
 use si_slots::CodeTable;
 use std::alloc::{AllocError, AllocFailed, Global};
@@ -41,16 +44,17 @@ impl Model for Machine {
 }
 
 impl Machine {
-    /// A machine with no code, that has printed nothing.
-    pub fn new(alloc: Global) -> Machine
-        ensures waits { Waits first_world result }
+    /// A machine of the interpreter of a number, with no code, that has printed nothing.
+    pub fn new(alloc: Global, own: u32) -> Machine
+        ensures waits { Waits (first_world own) result }
+        ensures own { result.own ≡ own }
         ensures table { result.table ≡ no_code }
         ensures idle { result.standing ≡ Standing.Idle }
         ensures printed { printed_of result ≡ [] }
         ensures outcome { result.outcome ≡ Exit.Returned }
     {
         Machine {
-            state: State::new(alloc),
+            state: State::new(alloc, own),
         }
     }
 
@@ -58,11 +62,11 @@ impl Machine {
     /// table comes back and the machine is as it was. Code of 2^63 instructions, for which no memory is large enough,
     /// counts as memory refused.
     ///
-    /// The run from there may never come to be closed: no instruction of it lacks what it takes, and none is missing. Of
-    /// each text that is compiled, the law `stays_open` of `si_slots` says so.
+    /// The run from there may never come to be closed, whatever it is answered: no instruction of it lacks what it takes, and
+    /// none is missing. Of each text that is compiled, the law `stays_open` of `si_slots` says so.
     pub fn load(&mut self, table: CodeTable, at: usize) -> Result<(), AllocFailed<CodeTable>>
-        requires { NeverCloses (run_at (table_of table, at) first_world) }
-        ensures stands { OnOk result (Stands (run_at (table_of table, at) first_world) self.new) }
+        requires { NeverCloses (run_at (table_of table, at) (first_world self.old.own)) }
+        ensures stands { OnOk result (Stands (run_at (table_of table, at) (first_world self.old.own)) self.new) }
         ensures running { OnOk result (IsRunning self.new) }
         ensures printed { OnOk result (printed_of self.new ≡ []) }
         ensures err { OnErr result (self.new ≡ self.old) }
@@ -71,7 +75,7 @@ impl Machine {
         if table.len() >= 1 << 63 {
             return Err(AllocFailed { value: table });
         }
-        let mut state = State::new(table.allocator());
+        let mut state = State::new(table.allocator(), self.state.own);
         state.table = table;
         match state.learn() {
             Ok(()) => {
@@ -124,9 +128,9 @@ impl Machine {
         }
     }
 
-    /// Binds a global name to the value of a parcel, between runs; where scripts have no value for the parcel, nothing is
-    /// bound. The name is bound by its bytes, which are its characters where it is ASCII, as each name of a script is. A
-    /// name that no text has spoken of gets a slot in the table, whose code stays the same. Where memory is refused the
+    /// Binds a global name to the value of a parcel, between runs. The name is bound by its bytes, which are its characters
+    /// where it is ASCII, as each name of a script is. A name that no text has spoken of gets a slot in the table, whose code
+    /// stays the same. Where memory is refused the
     /// machine stands still from then on.
     pub fn bind(&mut self, name: &str, parcel: &Parcel) -> Result<(), NoMemory>
         ensures bound { OnOk result ((w : World) → Waits w self.old → Waits (bound_to name.now (value_of_parcel parcel.now) w) self.new) }
@@ -144,13 +148,26 @@ impl Machine {
         }
     }
 
-    /// Whether a run was begun that has not ended, and memory was not refused.
+    /// Whether a run was begun that has not ended and waits for no answer, and memory was not refused.
     pub fn is_running(&self) -> bool
         ensures { IsTrue result ↔ IsRunning self.now }
     {
         match self.state.standing {
             Standing::Running => true,
             Standing::Idle => false,
+            Standing::Waiting => false,
+            Standing::Starved => false,
+        }
+    }
+
+    /// Whether an action was asked whose answer is awaited.
+    pub fn is_waiting(&self) -> bool
+        ensures { IsTrue result ↔ IsWaiting self.now }
+    {
+        match self.state.standing {
+            Standing::Waiting => true,
+            Standing::Idle => false,
+            Standing::Running => false,
             Standing::Starved => false,
         }
     }
@@ -162,6 +179,7 @@ impl Machine {
         match self.state.standing {
             Standing::Starved => true,
             Standing::Running => false,
+            Standing::Waiting => false,
             Standing::Idle => false,
         }
     }
@@ -183,7 +201,7 @@ impl Machine {
         mem::replace(&mut self.state.printed, String::new(alloc))
     }
 
-    /// One instruction.
+    /// One instruction; with it the machine may come to wait for an answer.
     #[inline(always)]
     pub fn step(&mut self) -> Step
         ghost c: { Course }
@@ -192,6 +210,30 @@ impl Machine {
         ensures { Steps c self.old self.new result }
     {
         self.state.step()
+    }
+
+    /// The action that was asked, moved out: it is to be handed out once. It makes the request at which the course stands.
+    pub fn take_request(&mut self) -> Action
+        ghost c: { Course }
+        requires { HasAction c.place self.old.action }
+        ensures asked { IsActionAt c.place (action_of result) }
+        ensures rest { self.new ≡ record self.old { action = None } }
+    {
+        match mem::replace(&mut self.state.action, None) {
+            Some(action) => action,
+            None => unreachable!(),
+        }
+    }
+
+    /// The answer to the action that was asked: the course goes on by just this answer. One that does not fit is never given;
+    /// it would be as None. Where memory is refused the machine stands still from then on.
+    pub fn answer(&mut self, answer: &Answer) -> Step
+        ghost c: { Course }
+        requires stands { Stands c self.old }
+        requires waiting { IsWaiting self.old }
+        ensures { Answers c (answer_in (answer_of answer.now)) self.old self.new result }
+    {
+        self.state.answer(answer)
     }
 
     /// How the run ended that has come to its end. `AllocError` where memory is refused.

@@ -27,6 +27,8 @@ pub enum Step {
     Local,
     /// One instruction, with which the run has ended.
     Ended,
+    /// One instruction, with which the machine asks an action, which it hands out, and waits for the answer.
+    Wants,
     /// No instruction: memory was refused. The machine stands still.
     Starved,
 }

@@ -19,9 +19,11 @@ pub enum Expr {
     Bytes(Octets),
     Unary(UnaryOperator, Box<Expr>),
     Binary(BinaryOperator, Box<Expr>, Box<Expr>),
+    /// `object.NAME`: the object, and the name, which is ASCII.
+    Attribute(Box<Expr>, String),
     /// A callee, its arguments, and the names of those that are passed by name, which are the last ones. No name comes
-    /// twice.
-    Call(Box<Expr>, Vec<Expr>, Vec<String>),
+    /// twice. Where an attribute is called, the callee is its object, and the name of the attribute stands beside it.
+    Call(Box<Expr>, Option<String>, Vec<Expr>, Vec<String>),
     /// `object[index]`: the object, the index.
     Subscript(Box<Expr>, Box<Expr>),
     /// A tuple displayed in brackets: its items, from the left.

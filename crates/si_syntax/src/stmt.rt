@@ -2,7 +2,7 @@
 
 use crate::expr::Expr;
 use crate::target::Target;
-use si_plain::BinaryOperator;
+use si_plain::{BinaryOperator, ModuleName};
 
 /// The line in which a statement begins, counted from 1. It is a hint for people: no tree depends on it.
 pub type Line = usize;
@@ -26,6 +26,9 @@ pub enum Stmt {
     Return(Line, Option<Expr>),
     /// `global`, and its names, of which there is one at least.
     Global(Line, Vec<String>),
+    /// Its line, and the module: `import threading`, or `from concurrent import interpreters` (Python Language Reference
+    /// 3.14, 7.11).
+    Import(Line, ModuleName),
     /// `raise`, and its expression where there is one.
     Raise(Option<Expr>),
     Try(Try),

@@ -60,7 +60,7 @@ fn a_line_ends_in_lf_cr_or_cr_lf_and_the_last_one_may_lack_it(rt: HostRuntime) -
     ] {
         assert_eq!(rt;
             shown(alloc, text)?.as_str(),
-            "[Assign(Assign { target: Named(\"x\"), value: Int(1) }), Evaluate(Call(Name(\"f\"), [Name(\"x\")], []))]",
+            "[Assign(Assign { target: Named(\"x\"), value: Int(1) }), Evaluate(Call(Name(\"f\"), None, [Name(\"x\")], []))]",
             "{text:?}"
         );
     }
@@ -134,7 +134,7 @@ fn operators_bind_as_in_python(rt: HostRuntime) -> Result<(), Fail> {
         ),
         (
             "-a[0] ** b(1)[c]",
-            "Unary(Minus, Binary(Power, Subscript(Name(\"a\"), Int(0)), Subscript(Call(Name(\"b\"), [Int(1)], []), Name(\"c\"))))",
+            "Unary(Minus, Binary(Power, Subscript(Name(\"a\"), Int(0)), Subscript(Call(Name(\"b\"), None, [Int(1)], []), Name(\"c\"))))",
         ),
         (
             "a if b or c else d if False else e",
@@ -163,7 +163,7 @@ fn tuples_are_displayed_in_brackets(rt: HostRuntime) -> Result<(), Fail> {
         ),
         (
             "(a, b)[0] + f((c,), d)",
-            "Binary(Add, Subscript(Tuple([Name(\"a\"), Name(\"b\")]), Int(0)), Call(Name(\"f\"), [Tuple([Name(\"c\")]), Name(\"d\")], []))",
+            "Binary(Add, Subscript(Tuple([Name(\"a\"), Name(\"b\")]), Int(0)), Call(Name(\"f\"), None, [Tuple([Name(\"c\")]), Name(\"d\")], []))",
         ),
     ] {
         let wanted = format!(in alloc; "[Evaluate({tree})]")?;
@@ -249,7 +249,7 @@ fn loops_may_have_an_else(rt: HostRuntime) -> Result<(), Fail> {
         ),
         (
             "for ((x)) in f(1) + 2:\n break\nelse:\n pass\n",
-            "For(For { target: Named(\"x\"), items: Binary(Add, Call(Name(\"f\"), [Int(1)], []), Int(2)), body: [Break(2)], last: [Pass] })",
+            "For(For { target: Named(\"x\"), items: Binary(Add, Call(Name(\"f\"), None, [Int(1)], []), Int(2)), body: [Break(2)], last: [Pass] })",
         ),
         (
             "for(x)in a if b else c: pass",
@@ -280,7 +280,7 @@ fn clauses_are_read_in_their_order(rt: HostRuntime) -> Result<(), Fail> {
         ),
         (
             "try: pass\nexcept E or f(1) as e: pass",
-            "Try(Try { body: [Pass], clauses: [Clause { value: Some(Boolean(Or, Name(\"E\"), [Call(Name(\"f\"), [Int(1)], [])])), name: Some(\"e\"), body: [Pass] }], last: [] })",
+            "Try(Try { body: [Pass], clauses: [Clause { value: Some(Boolean(Or, Name(\"E\"), [Call(Name(\"f\"), None, [Int(1)], [])])), name: Some(\"e\"), body: [Pass] }], last: [] })",
         ),
         (
             "try: pass\nexcept (E): pass\na",
@@ -310,7 +310,7 @@ fn arguments_are_passed_by_place_or_by_name(rt: HostRuntime) -> Result<(), Fail>
         ("(a), a=a", "[Name(\"a\"), Name(\"a\")], [\"a\"]"),
     ] {
         let text = format!(in alloc; "f({arguments})")?;
-        let wanted = format!(in alloc; "[Evaluate(Call(Name(\"f\"), {trees}))]")?;
+        let wanted = format!(in alloc; "[Evaluate(Call(Name(\"f\"), None, {trees}))]")?;
         assert_eq!(rt;
             shown(alloc, text.as_str())?.as_str(),
             wanted.as_str(),
@@ -343,7 +343,7 @@ fn functions_are_read_with_their_lines(rt: HostRuntime) -> Result<(), Fail> {
         ),
         (
             "def f():\n def g(a): break\n return g(\n  a=1)",
-            "Define(Define { line: 1, name: \"f\", parameters: [], body: [Define(Define { line: 2, name: \"g\", parameters: [\"a\"], body: [Break(2)] }), Return(3, Some(Call(Name(\"g\"), [Int(1)], [\"a\"])))] })",
+            "Define(Define { line: 1, name: \"f\", parameters: [], body: [Define(Define { line: 2, name: \"g\", parameters: [\"a\"], body: [Break(2)] }), Return(3, Some(Call(Name(\"g\"), None, [Int(1)], [\"a\"])))] })",
         ),
     ] {
         let wanted = format!(in alloc; "[{trees}]")?;

@@ -18,8 +18,8 @@ inputs log = map answer_in (answers_of log)
 -- an interpreter of this number, log and lines is at a moment of its course; all but its text and its standing, which are
 -- the moment's
 pub record Track (id : ℕ) (log : List Logged) (l : ℕ) (c : Course) : Type 0 where
-  pub after : IsAfter (inputs log) c
-  pub ran : go l (start (inputs log)) ≡ c
+  pub after : IsAfter id (inputs log) c
+  pub ran : go l (start id (inputs log)) ≡ c
   pub lines : c.lines ≡ l
   pub asked : Asked id [] log (joined (texts c.printed))
   pub stood : Stood id [] 0 log l

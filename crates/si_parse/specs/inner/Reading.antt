@@ -1,12 +1,14 @@
 -- Reading as a function on lists of terminals, which the parser computes: what stands between grammar and code.
-use Rattle.std.specs.Prelude.{ℕ, zero, suc, ◌+◌, max, List, [], ◌∷◌, ◌++◌, length, Option, Some, None, option_map, nat_lt, nat_le, nat_eq, Bool, true, false, not, ◌&&◌, if◌then◌else◌}
+use Rattle.std.specs.Prelude.{codes, ℕ, zero, suc, ◌+◌, max, List, [], ◌∷◌, ◌++◌, length, Option, Some, None, option_map, nat_lt, nat_le, nat_eq, Bool, true, false, not, ◌&&◌, if◌then◌else◌}
+use Rattle.si_plain.specs.declared.modules.ModuleName.{ModuleName}
+use Rattle.si_plain.specs.declared.modules.ModuleName.TheVariants.{Threading, Interpreters}
 use Rattle.si_semantics.specs.Value.{Text, Nothing, Truth, Int, Str, Bytes}
-use Rattle.si_semantics.specs.Tree.{BinaryOperator, UnaryOperator, ComparisonOperator, BooleanOperator, Expr, Stmt, Target, Stmts}
+use Rattle.si_semantics.specs.Tree.{BinaryOperator, UnaryOperator, ComparisonOperator, BooleanOperator, Expr, Stmt, Target, Stmts, callee_of}
 use Rattle.si_semantics.specs.Tree as tree
 use Rattle.si_semantics.specs.Scope.{is_in}
 use Rattle.si_semantics.specs.Tokens.{Symbol, Keyword}
 use Rattle.si_semantics.specs.Tokens as token
-use Rattle.si_semantics.specs.Text.{max_length}
+use Rattle.si_semantics.specs.Text.{max_length, same_text}
 use Rattle.si_parse.specs.inner.Numbers.{same_symbol, same_keyword}
 use Rattle.si_semantics.specs.Grammar.{Terminal, NAME, NUMBER, STRING, BYTES, Sign, Word, NEWLINE, INDENT, DEDENT, ENDMARKER, Argument, Positional, ByName, value_of_int, value_of_str, value_of_bytes, left_level, right_level, prefix_level, item_level, is_identity, Link, chain_of, exprs_of, max_depth, Branch, stmts_of, elifs_of, Clause, clauses_of, max_nesting, max_parameters, word_of}
 
@@ -33,6 +35,7 @@ after t (u ∷ ts) = if is_same u t then Some ts else None
 -- what a terminal does after an operand
 pub data Continuation : Type 0 where
   operator : BinaryOperator → Continuation
+  attribute : Continuation
   arguments : Continuation
   index : Continuation
   comparison : Continuation
@@ -52,6 +55,7 @@ role_of token.Star = operator tree.Multiply
 role_of token.DoubleSlash = operator tree.FloorDivide
 role_of token.Percent = operator tree.Modulo
 role_of token.DoubleStar = operator tree.Power
+role_of token.Dot = attribute
 role_of token.LeftParenthesis = arguments
 role_of token.LeftBracket = index
 role_of token.Less = comparison
@@ -89,6 +93,7 @@ continuation_at (t ∷ ts) = continuation_of t
 -- lies the strength of the chain's operator, and no production: so no operator has the strength of a chain or of a prefix.
 abbrev pub strength_of : Continuation → ℕ
 strength_of (operator op) = left_level op
+strength_of attribute = 18
 strength_of arguments = 18
 strength_of index = 18
 strength_of comparison = 9
@@ -308,9 +313,20 @@ within n e d ts = if nat_le d n then Some (e, d, ts) else None
 abbrev pub binary_by : Parser → ℕ → Expr → ℕ → BinaryOperator → List Terminal → Parsed
 binary_by sub n e d op ts = then_read (sub (right_level op) ts) (λ r. within n (tree.Binary op e r.0) (max d r.1 + 1) r.2)
 
--- the call of a tree with arguments that were read
+-- an attribute, by the name that was read after the dot
+abbrev pub attributed : ℕ → Expr → ℕ → Text × List Terminal → Parsed
+attributed n e d r = within n (tree.Attribute e r.0) (d + 1) r.1
+
+-- from after the dot
+abbrev pub attribute_by : ℕ → Expr → ℕ → List Terminal → Parsed
+attribute_by n e d ts = then_read (name_at ts) (attributed n e d)
+
+-- The call of a tree with arguments that were read. Where the tree is an attribute, its object is the callee.
+abbrev pub call_of : Expr → Passed → Expr
+call_of e p = tree.Call (callee_of e).0 (callee_of e).1 (exprs_of p.0) p.1
+
 abbrev pub called : ℕ → Expr → ℕ → (List Argument × ℕ) × List Terminal → Parsed
-called n e d r = then_read (passed_from ([], []) r.0.0) (λ p. within n (tree.Call e (exprs_of p.0) p.1) (max d r.0.1 + 1) r.1)
+called n e d r = then_read (passed_from ([], []) r.0.0) (λ p. within n (call_of e p) (max d r.0.1 + 1) r.1)
 
 abbrev pub call_by : Parser → ℕ → Expr → ℕ → List Terminal → Parsed
 call_by sub n e d ts = then_read (arguments_by sub ts) (called n e d)
@@ -383,6 +399,7 @@ compare_by sub n e d ts = then_read (links_by sub ts) (λ r. within n (tree.Comp
 -- the operand with what continues it; the terminals begin with the one that does
 abbrev pub extended_by : Parser → ℕ → Expr → ℕ → List Terminal → Continuation → Parsed
 extended_by sub n e d ts (operator op) = binary_by sub n e d op (rest_of ts)
+extended_by sub n e d ts attribute = attribute_by n e d (rest_of ts)
 extended_by sub n e d ts arguments = call_by sub n e d (rest_of ts)
 extended_by sub n e d ts index = subscript_by sub n e d (rest_of ts)
 extended_by sub n e d ts comparison = compare_by sub n e d ts
@@ -603,16 +620,46 @@ raised_by sub ts = then_read (value_by (sub 1) ts) (λ r. Some (tree.Raise r.0, 
 abbrev pub global_by : List Terminal → Option (Stmt × List Terminal)
 global_by ts = then_read (names_by ts) (λ r. Some (tree.Global r.0, r.1))
 
+-- the terminals after this name, where it stands first
+abbrev pub named : Text → Text × List Terminal → Option (List Terminal)
+named x n = if same_text n.0 x then Some n.1 else None
+
+abbrev pub after_name : Text → Step
+after_name x ts = then_read (name_at ts) (named x)
+
+-- the terminals after an `import` of this name
+abbrev pub after_import : Text → Step
+after_import x ts = then_read (after (Word token.ImportWord) ts) (after_name x)
+
+-- the terminals after a `from` and this name
+abbrev pub after_from : Text → Step
+after_from x ts = then_read (after (Word token.FromWord) ts) (after_name x)
+
+-- the terminals after the import of `concurrent.interpreters`
+abbrev pub after_interpreters : Step
+after_interpreters ts = then_read (after_from (codes "concurrent") ts) (after_import (codes "interpreters"))
+
+-- the module that is imported, once it is known whether the imports of either follow
+abbrev pub imported : (threading interpreters : Option (List Terminal)) → Option (ModuleName × List Terminal)
+imported (Some rest) y = Some (Threading, rest)
+imported None (Some rest) = Some (Interpreters, rest)
+imported None None = None
+
+-- the module whose import stands first, and the terminals after it
+abbrev pub import_at : List Terminal → Option (ModuleName × List Terminal)
+import_at ts = imported (after_import (codes "threading") ts) (after_interpreters ts)
+
 -- a small statement, by the word that stands first
-abbrev pub small_from : Parser → List Terminal → Option Stmt → (return global raise : Option (List Terminal)) → Option (Stmt × List Terminal)
-small_from sub ts (Some s) r g x = Some (s, rest_of ts)
-small_from sub ts None (Some rest) g x = returned_by sub rest
-small_from sub ts None None (Some rest) x = global_by rest
-small_from sub ts None None None (Some rest) = raised_by sub rest
-small_from sub ts None None None None = spelled_by sub ts
+abbrev pub small_from : Parser → List Terminal → Option Stmt → Option (ModuleName × List Terminal) → (return global raise : Option (List Terminal)) → Option (Stmt × List Terminal)
+small_from sub ts (Some s) i r g x = Some (s, rest_of ts)
+small_from sub ts None (Some i) r g x = Some (tree.Import i.0, i.1)
+small_from sub ts None None (Some rest) g x = returned_by sub rest
+small_from sub ts None None None (Some rest) x = global_by rest
+small_from sub ts None None None None (Some rest) = raised_by sub rest
+small_from sub ts None None None None None = spelled_by sub ts
 
 abbrev pub statement_by : Parser → List Terminal → Option (Stmt × List Terminal)
-statement_by sub ts = small_from sub ts (word_statement ts) (after (Word token.ReturnWord) ts) (after (Word token.GlobalWord) ts) (after (Word token.RaiseWord) ts)
+statement_by sub ts = small_from sub ts (word_statement ts) (import_at ts) (after (Word token.ReturnWord) ts) (after (Word token.GlobalWord) ts) (after (Word token.RaiseWord) ts)
 
 abbrev pub with_statement : List Stmt → Stmt × List Terminal → List Stmt
 with_statement body r = body ++ r.0 ∷ []

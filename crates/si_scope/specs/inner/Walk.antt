@@ -53,6 +53,7 @@ abbrev mutual
   after (tree.Define f ps b) loop returns s = None
   after (tree.Return a) loop returns s = if returns then Some (using (names_of_value a) s) else None
   after (tree.Global xs) loop returns s = declaring xs s
+  after (tree.Import m) loop returns s = None
   after (tree.Raise a) loop returns s = Some (using (names_of_value a) s)
   after (tree.Try b cs c) loop returns s =
       option_and_then (λ t. option_and_then (after_all c loop returns) (after_clauses cs loop returns t)) (after_all b loop returns s)

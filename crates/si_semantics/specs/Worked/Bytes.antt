@@ -1,5 +1,5 @@
 -- Worked cases of bytes: what scripts print and how they end, computed from the definitions.
-use Rattle.std.specs.Prelude.{◌≡◌, codes, ℕ, List, [], ◌∷◌, Some, false}
+use Rattle.std.specs.Prelude.{None, ◌≡◌, codes, ℕ, List, [], ◌∷◌, Some, false}
 use Rattle.si_semantics.specs.Value.{Bytes}
 use Rattle.si_semantics.specs.Value as value
 use Rattle.si_semantics.specs.Tree as tree
@@ -66,7 +66,7 @@ pub record BytesCases : Type 0 where
   --     print(min(b'b', b'a', b'ab'), max(b'a', b'b'))
   pub least_and_greatest :
       printed
-      (tree.Call (tree.Name (codes "min")) (tree.MoreExprs (bytes (codes "b")) (tree.MoreExprs (bytes (codes "a")) (tree.MoreExprs ab tree.NoExprs))) []
+      (tree.Call (tree.Name (codes "min")) None (tree.MoreExprs (bytes (codes "b")) (tree.MoreExprs (bytes (codes "a")) (tree.MoreExprs ab tree.NoExprs))) []
       ∷ of_two (codes "max") (bytes (codes "a")) (bytes (codes "b"))
       ∷ [])
       ≡ codes "b'a' b'b'\n"

@@ -708,5 +708,5 @@ pub record ExceptionCases : Type 0 where
   pub print_too_deep : ends_within 201 (nested 200 (prints (tree.Name e ∷ []))) ≡ codes "raised RecursionError: too deep\n"
   -- ---- texts of one life
   -- the exception of a text is not active in the next one, and what the first bound is still there
-  pub second_text : texts_of (life_of 0 two_texts) ≡ codes "division by zero\n" ∷ []
-  pub none_active_in_a_second_text : outcome (life_of 0 two_texts) ≡ Raised RuntimeError (codes "no active exception")
+  pub second_text : texts_of (life_of 0 0 two_texts) ≡ codes "division by zero\n" ∷ []
+  pub none_active_in_a_second_text : outcome (life_of 0 0 two_texts) ≡ Raised RuntimeError (codes "no active exception")

@@ -28,7 +28,7 @@ x = codes "x"
 
 -- a call of a function by its name
 abbrev pub called : Text → List Expr → Expr
-called y args = tree.Call (tree.Name y) (arguments args) []
+called y args = tree.Call (tree.Name y) None (arguments args) []
 
 -- a statement that prints these
 abbrev pub prints : List Expr → Stmt
@@ -106,11 +106,11 @@ pub record FunctionCases : Type 0 where
   -- `def f(n): pass`, then `f(print('a'), 2)`: the arguments are evaluated, then the call is refused
   pub wrong_number_of_arguments : report_of (define f (n ∷ []) (tree.Pass ∷ []) ∷ tree.Evaluate (called f (print (a_text ∷ []) ∷ int 2 ∷ [])) ∷ []) ≡ codes "== interpreter 0 ==\na\nraised TypeError: wrong arguments\nend: finished\n"
   -- `def f(n): pass`, then `f(n=print('a'))`
-  pub argument_by_name : report_of (define f (n ∷ []) (tree.Pass ∷ []) ∷ tree.Evaluate (tree.Call (tree.Name f) (arguments (print (a_text ∷ []) ∷ [])) (n ∷ [])) ∷ []) ≡ codes "== interpreter 0 ==\na\nraised TypeError: wrong arguments\nend: finished\n"
+  pub argument_by_name : report_of (define f (n ∷ []) (tree.Pass ∷ []) ∷ tree.Evaluate (tree.Call (tree.Name f) None (arguments (print (a_text ∷ []) ∷ [])) (n ∷ [])) ∷ []) ≡ codes "== interpreter 0 ==\na\nraised TypeError: wrong arguments\nend: finished\n"
   -- `print(n='a')`
-  pub print_by_name : report_of (tree.Evaluate (tree.Call (tree.Name (codes "print")) (arguments (a_text ∷ [])) (n ∷ [])) ∷ []) ≡ codes "== interpreter 0 ==\nraised TypeError: wrong arguments\nend: finished\n"
+  pub print_by_name : report_of (tree.Evaluate (tree.Call (tree.Name (codes "print")) None (arguments (a_text ∷ [])) (n ∷ [])) ∷ []) ≡ codes "== interpreter 0 ==\nraised TypeError: wrong arguments\nend: finished\n"
   -- `'a'(n='a')`
-  pub not_callable_by_name : report_of (tree.Evaluate (tree.Call a_text (arguments (a_text ∷ [])) (n ∷ [])) ∷ []) ≡ codes "== interpreter 0 ==\nraised TypeError: not callable\nend: finished\n"
+  pub not_callable_by_name : report_of (tree.Evaluate (tree.Call a_text None (arguments (a_text ∷ [])) (n ∷ [])) ∷ []) ≡ codes "== interpreter 0 ==\nraised TypeError: not callable\nend: finished\n"
   -- `def f(): pass`, then `print(f)`
   pub shown_by_name : report_of (define f [] (tree.Pass ∷ []) ∷ prints (tree.Name f ∷ []) ∷ []) ≡ codes "== interpreter 0 ==\n<function f>\nend: finished\n"
   -- `def f(): pass`, then `print(f == 1)`, `f == f`: of two functions there is no answer
@@ -128,5 +128,5 @@ pub record FunctionCases : Type 0 where
   pub number_in_an_else_suite : left_in (run_of three_functions) g ≡ Some (Function g 1)
   pub number_behind_an_if : left_in (run_of three_functions) h ≡ Some (Function h 2)
   -- the functions of a second text go on counting, and those of the first can still be called
-  pub second_text : texts_of (life_of 0 two_texts) ≡ codes "1 2\n" ∷ []
-  pub number_in_a_second_text : left_in (life_of 0 two_texts) g ≡ Some (Function g 1)
+  pub second_text : texts_of (life_of 0 0 two_texts) ≡ codes "1 2\n" ∷ []
+  pub number_in_a_second_text : left_in (life_of 0 0 two_texts) g ≡ Some (Function g 1)

@@ -1,5 +1,5 @@
 -- Worked cases of reading: which words of a text are the longest, and which tokens and which tree texts have.
-use Rattle.std.specs.Prelude.{codes, ℕ, List, [], ◌∷◌, map}
+use Rattle.std.specs.Prelude.{None, codes, ℕ, List, [], ◌∷◌, map}
 use Rattle.si_semantics.specs.Tree as tree
 use Rattle.si_semantics.specs.Tree.{Expr, Stmt}
 use Rattle.si_semantics.specs.Tokens as tokens
@@ -44,7 +44,7 @@ an_elif = tree.If (tree.Name x) (suite (tree.Pass ∷ [])) (suite (tree.If (tree
 
 -- `f(x, y=1)`
 abbrev pub a_call : Stmt
-a_call = tree.Evaluate (tree.Call (tree.Name f) (arguments (tree.Name x ∷ int 1 ∷ [])) (codes "y" ∷ []))
+a_call = tree.Evaluate (tree.Call (tree.Name f) None (arguments (tree.Name x ∷ int 1 ∷ [])) (codes "y" ∷ []))
 
 -- `while x:`, then `  if f:`, then `    break`
 abbrev pub a_while : Stmt

@@ -84,7 +84,7 @@ divides_by_zero = tree.Evaluate (tree.Binary tree.FloorDivide (int 1) (int 0))
 
 -- `KIND(arguments)`
 abbrev pub new : Expr → List Expr → Expr
-new k args = tree.Call k (arguments args) []
+new k args = tree.Call k None (arguments args) []
 
 -- calls of `range`, `str` and `repr`
 abbrev pub a_range : List Expr → Expr

@@ -24,7 +24,7 @@ arguments [] = tree.NoExprs
 arguments (a ∷ more) = tree.MoreExprs a (arguments more)
 
 abbrev pub print : List Expr → Expr
-print args = tree.Call (tree.Name (codes "print")) (arguments args) []
+print args = tree.Call (tree.Name (codes "print")) None (arguments args) []
 
 abbrev pub suite : List Stmt → Stmts
 suite [] = tree.NoStmts
@@ -91,7 +91,7 @@ four_jobs =
 
 -- the life of an interpreter that is given a text to run, with at most n turns of a loop
 abbrev pub run_within : ℕ → List Stmt → Told
-run_within n body = life_of n (Taken (Run (Some (record { body = suite body }))) ∷ [])
+run_within n body = life_of 0 n (Taken (Run (Some (record { body = suite body }))) ∷ [])
 
 -- the same of a text without a loop
 abbrev pub run_of : List Stmt → Told
@@ -138,9 +138,9 @@ pub record Cases : Type 0 where
   -- `print()`
   pub print_of_nothing : report_of (tree.Evaluate (print []) ∷ []) ≡ codes "== interpreter 0 ==\n\nend: finished\n"
   -- `f(print('a'))` where f is not bound: the callee comes before the arguments
-  pub callee_first : report_of (tree.Evaluate (tree.Call (tree.Name (codes "f")) (arguments (print (a_text ∷ []) ∷ [])) []) ∷ []) ≡ codes "== interpreter 0 ==\nraised NameError: name f is not defined\nend: finished\n"
+  pub callee_first : report_of (tree.Evaluate (tree.Call (tree.Name (codes "f")) None (arguments (print (a_text ∷ []) ∷ [])) []) ∷ []) ≡ codes "== interpreter 0 ==\nraised NameError: name f is not defined\nend: finished\n"
   -- `'a'(print('a'))`: the arguments are evaluated, then the call is refused
-  pub arguments_before_the_call : report_of (tree.Evaluate (tree.Call a_text (arguments (print (a_text ∷ []) ∷ [])) []) ∷ []) ≡ codes "== interpreter 0 ==\na\nraised TypeError: not callable\nend: finished\n"
+  pub arguments_before_the_call : report_of (tree.Evaluate (tree.Call a_text None (arguments (print (a_text ∷ []) ∷ [])) []) ∷ []) ≡ codes "== interpreter 0 ==\na\nraised TypeError: not callable\nend: finished\n"
   -- `print('a') + print(2)`: the left operand comes first
   pub left_operand_first : report_of (tree.Evaluate (tree.Binary tree.Add (print (a_text ∷ [])) (print (int 2 ∷ []))) ∷ []) ≡ codes "== interpreter 0 ==\na\n2\nraised TypeError: wrong type\nend: finished\n"
   -- `x = x`: the name is looked up before it is bound
@@ -166,9 +166,9 @@ pub record Cases : Type 0 where
   -- to tell the end of the run is visit 22
   pub visits_of_a_run : end_of (run_of three_lines) ≡ Some (Some (End Returned), 22)
   -- each wait for a job is a visit (1, 2, 8, 10), and so is each end of a run (7, 9); `print(a)` is 3, 4, 5 and 6
-  pub pieces_of_a_life : pieces_of (life_of 0 four_jobs) ≡ record { text = codes "7\n"; number = 6 } ∷ []
+  pub pieces_of_a_life : pieces_of (life_of 0 0 four_jobs) ≡ record { text = codes "7\n"; number = 6 } ∷ []
   -- closed, it is gone
-  pub end_of_a_life : end_of (life_of 0 four_jobs) ≡ Some (None, 10)
+  pub end_of_a_life : end_of (life_of 0 0 four_jobs) ≡ Some (None, 10)
   -- `print(True + True, True & False, True | False, True ^ True, 'a' * True)`: they count as 1 and 0, and `&`, `|` and
   -- `^` give one of them
   pub truths_as_integers : shown (tree.Binary tree.Add (tree.Constant (Truth true)) (tree.Constant (Truth true)) ∷ tree.Binary tree.BitAnd (tree.Constant (Truth true)) (tree.Constant (Truth false)) ∷ tree.Binary tree.BitOr (tree.Constant (Truth true)) (tree.Constant (Truth false)) ∷ tree.Binary tree.BitXor (tree.Constant (Truth true)) (tree.Constant (Truth true)) ∷ tree.Binary tree.Multiply a_text (tree.Constant (Truth true)) ∷ []) ≡ codes "== interpreter 0 ==\n2 False True False a\nend: finished\n"

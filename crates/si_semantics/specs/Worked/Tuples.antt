@@ -4,7 +4,8 @@ use Rattle.si_plain.specs.declared.kind.Kind.TheVariants.{RecursionError, TypeEr
 use Rattle.si_semantics.specs.Value.{Text, Value, Truth, Int, Str, Bytes, Function, Range, Class, Address, MakeTuple, Exception, tuple_of}
 use Rattle.si_semantics.specs.Tree as tree
 use Rattle.si_semantics.specs.Tree.{Expr}
-use Rattle.si_semantics.specs.World.{World, first_world}
+use Rattle.si_semantics.specs.World.{World}
+use Rattle.si_semantics.specs.World as worlds
 use Rattle.si_semantics.specs.Text.{Written, Whole, Broken, repr_of, repr_in, str_in}
 use Rattle.si_semantics.specs.Tuples.{count_of, levels_of}
 use Rattle.si_semantics.specs.Operations.{gave, refused, wrong_type, wrong_arguments, operate, compare, are_equal, equal_within, is_true, length_of, contains, call_built_in, tuple_from, bytes_of, iterator_of, Items, Item, Exhausted, next_item, catches}
@@ -14,6 +15,10 @@ use Rattle.si_semantics.specs.Shareable.{parcel_of, value_of_parcel}
 use Rattle.si_semantics.specs.Worked.Straight.{int, str, arguments}
 use Rattle.si_semantics.specs.Worked.Functions.{called}
 use Rattle.si_semantics.specs.Worked.BuiltIns.{printed}
+
+-- as interpreter 0 begins
+abbrev pub first_world : World
+first_world = worlds.first_world 0
 
 -- ---- values
 

@@ -11,4 +11,4 @@ returns-in-Ok-clause-runs c =
 
 pub returns-in-Ok-clause-memory : goal.returns-in-Ok-clause-memory
 returns-in-Ok-clause-memory c = λ h.
-    c.place_character.ensures.memory (byte_told (integer_in (value_of c.args.arena.now c.args.value)) c.in-Ok.character first_world (c.in-Ok.ensures first_world) h)
+    c.place_character.ensures.memory (byte_told (integer_in (value_of c.args.arena.now c.args.value)) c.in-Ok.character (first_world 0) (c.in-Ok.ensures (first_world 0)) h)

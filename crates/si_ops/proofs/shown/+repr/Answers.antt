@@ -15,7 +15,7 @@ use Rattle.si_ops.proofs.Adding.{adds_as, adds_none}
 use Rattle.si_ops.proofs.Ends.{passed}
 use Rattle.si_ops.proofs.Lines.{lies_at}
 use Rattle.si_ops.proofs.Puts.{puts_behind, puts_next, puts_ends, whole_put, whole_lacks, row_lacks, row_breaks, row_closes, past_all}
-use Rattle.si_ops.proofs.Showing.{repr_shown, repr_deeper, repr_tuple, comma_is, opening_is, closing_is, end_is, kind_opens, rest_left, none_left, repr_bare, repr_made, repr_caused, bare_is, caused_is}
+use Rattle.si_ops.proofs.Showing.{repr_shown, repr_deeper, repr_bottom, repr_thread, repr_started, repr_tuple, comma_is, opening_is, closing_is, end_is, kind_opens, rest_left, none_left, repr_bare, repr_made, repr_caused, bare_is, caused_is}
 use Rattle.si_ops.proofs.shown.+repr.Goals as goal
 
 -- ---- exceptions
@@ -26,57 +26,57 @@ Shows m n x start old new r = Puts {U = Unit {0}} (repr_of (suc n) m.store (pure
 shows_as : (m : Memory) (n x start : ℕ) {Z : Type 0} (w : Written) (old new : String Z) (r : Result (Unit {0}) Fault) → repr_of (suc n) m.store (pure.Address x) ≡ w → Puts {U = Unit {0}} w start old new r → Shows m n x start old new r
 shows_as m n x start w old new r e p = subst (λ v. Puts {U = Unit {0}} v start old new r) (sym e) p
 
-pub put_exception-returns-in_err-put_bare-in-Bare : goal.put_exception-returns-in_err-put_bare-in-Bare
-put_exception-returns-in_err-put_bare-in-Bare t c =
+pub put_object-returns-in_err-put_bare-in-Bare : goal.put_object-returns-in_err-put_bare-in-Bare
+put_object-returns-in_err-put_bare-in-Bare t c =
     let m = c.args.arena.now in
     passed c.from_residual.result (Shows m c.args.depth c.args.address c.args.start c.args.out.now c.put_bare.new.out) NoMemory c.from_residual.ensures.1
     (shows_as m c.args.depth c.args.address c.args.start _ c.args.out.now c.put_bare.new.out (Err NoMemory) (repr_bare c.args.depth m c.args.address c.object.result c.in-Bare.kind c.object.ensures.object c.in-Bare.is)
     (whole_lacks ((name_of c.in-Bare.kind ++ codes "(") ++ codes ")") c.args.start c.args.out.now c.put_bare.new.out (bare_is c.in-Bare.kind) c.in_err-put_bare-in-Bare.ensures.err))
 
-pub put_exception-returns-in_ok-put_bare-in-Bare : goal.put_exception-returns-in_ok-put_bare-in-Bare
-put_exception-returns-in_ok-put_bare-in-Bare t c =
+pub put_object-returns-in_ok-put_bare-in-Bare : goal.put_object-returns-in_ok-put_bare-in-Bare
+put_object-returns-in_ok-put_bare-in-Bare t c =
     let m = c.args.arena.now in
     shows_as m c.args.depth c.args.address c.args.start _ c.args.out.now c.put_bare.new.out (Ok tt) (repr_bare c.args.depth m c.args.address c.object.result c.in-Bare.kind c.object.ensures.object c.in-Bare.is)
     (whole_put ((name_of c.in-Bare.kind ++ codes "(") ++ codes ")") c.args.start c.args.out.now c.put_bare.new.out (bare_is c.in-Bare.kind) c.in_ok-put_bare-in-Bare.ensures.ok)
 
-pub put_exception-returns-in_err-put_caused_repr-in-Caused : goal.put_exception-returns-in_err-put_caused_repr-in-Caused
-put_exception-returns-in_err-put_caused_repr-in-Caused t c =
+pub put_object-returns-in_err-put_caused_repr-in-Caused : goal.put_object-returns-in_err-put_caused_repr-in-Caused
+put_object-returns-in_err-put_caused_repr-in-Caused t c =
     let m = c.args.arena.now in
     passed c.from_residual-in_err-put_caused_repr-in-Caused.result (Shows m c.args.depth c.args.address c.args.start c.args.out.now c.put_caused_repr.new.out) NoMemory c.from_residual-in_err-put_caused_repr-in-Caused.ensures.1
     (shows_as m c.args.depth c.args.address c.args.start _ c.args.out.now c.put_caused_repr.new.out (Err NoMemory) (repr_caused c.args.depth m c.args.address c.object.result c.in-Caused.cause c.object.ensures.object c.in-Caused.is)
     (whole_lacks ((name_of (kind_of c.in-Caused.cause) ++ codes "(") ++ (repr_text (message_of m.names c.in-Caused.cause) ++ codes ")")) c.args.start c.args.out.now c.put_caused_repr.new.out (caused_is (kind_of c.in-Caused.cause) (repr_text (message_of m.names c.in-Caused.cause))) c.in_err-put_caused_repr-in-Caused.ensures.err))
 
-pub put_exception-returns-in_ok-put_caused_repr-in-Caused : goal.put_exception-returns-in_ok-put_caused_repr-in-Caused
-put_exception-returns-in_ok-put_caused_repr-in-Caused t c =
+pub put_object-returns-in_ok-put_caused_repr-in-Caused : goal.put_object-returns-in_ok-put_caused_repr-in-Caused
+put_object-returns-in_ok-put_caused_repr-in-Caused t c =
     let m = c.args.arena.now in
     shows_as m c.args.depth c.args.address c.args.start _ c.args.out.now c.put_caused_repr.new.out (Ok tt) (repr_caused c.args.depth m c.args.address c.object.result c.in-Caused.cause c.object.ensures.object c.in-Caused.is)
     (whole_put ((name_of (kind_of c.in-Caused.cause) ++ codes "(") ++ (repr_text (message_of m.names c.in-Caused.cause) ++ codes ")")) c.args.start c.args.out.now c.put_caused_repr.new.out (caused_is (kind_of c.in-Caused.cause) (repr_text (message_of m.names c.in-Caused.cause))) c.in_ok-put_caused_repr-in-Caused.ensures.ok)
 
-pub put_exception-returns-in_err-put_opening-in-Made : goal.put_exception-returns-in_err-put_opening-in-Made
-put_exception-returns-in_err-put_opening-in-Made t c =
+pub put_object-returns-in_err-put_opening-in-Made : goal.put_object-returns-in_err-put_opening-in-Made
+put_object-returns-in_err-put_opening-in-Made t c =
     let m = c.args.arena.now in
     passed c.from_residual-in_err-put_opening-in-Made.result (Shows m c.args.depth c.args.address c.args.start c.args.out.now c.put_opening.new.out) NoMemory c.from_residual-in_err-put_opening-in-Made.ensures.1
     (shows_as m c.args.depth c.args.address c.args.start _ c.args.out.now c.put_opening.new.out (Err NoMemory) (repr_made c.args.depth m c.args.address c.object.result c.in-Made.kind c.in-Made.argument c.object.ensures.object c.in-Made.is)
     (row_lacks (name_of c.in-Made.kind ++ codes "(") (repr_of c.args.depth m.store (value_of m c.in-Made.argument)) (codes ")") c.args.start c.args.out.now c.put_opening.new.out (kind_opens c.in-Made.kind) c.in_err-put_opening-in-Made.ensures.err))
 
-pub put_exception-returns-in_err-put_repr-in-Made : goal.put_exception-returns-in_err-put_repr-in-Made
-put_exception-returns-in_err-put_repr-in-Made t c =
+pub put_object-returns-in_err-put_repr-in-Made : goal.put_object-returns-in_err-put_repr-in-Made
+put_object-returns-in_err-put_repr-in-Made t c =
     let m = c.args.arena.now in
     let f = c.in_err-put_repr-in-Made.field-0.0 in
     passed c.from_residual-in_err-put_repr-in-Made.result (Shows m c.args.depth c.args.address c.args.start c.args.out.now c.put_repr.new.out) f c.from_residual-in_err-put_repr-in-Made.ensures.1
     (shows_as m c.args.depth c.args.address c.args.start _ c.args.out.now c.put_repr.new.out (Err f) (repr_made c.args.depth m c.args.address c.object.result c.in-Made.kind c.in-Made.argument c.object.ensures.object c.in-Made.is)
     (row_breaks (name_of c.in-Made.kind ++ codes "(") (repr_of c.args.depth m.store (value_of m c.in-Made.argument)) (codes ")") c.args.start c.args.out.now c.put_opening.new.out c.put_repr.new.out f (kind_opens c.in-Made.kind) c.in_ok-put_opening-in-Made.ensures.ok c.in_err-put_repr-in-Made.ensures))
 
-pub put_exception-returns-in_err-put-in-Made : goal.put_exception-returns-in_err-put-in-Made
-put_exception-returns-in_err-put-in-Made t c =
+pub put_object-returns-in_err-put-in-Made : goal.put_object-returns-in_err-put-in-Made
+put_object-returns-in_err-put-in-Made t c =
     let m = c.args.arena.now in
     passed c.from_residual-in_err-put-in-Made.result (Shows m c.args.depth c.args.address c.args.start c.args.out.now c.put.new.out) NoMemory c.from_residual-in_err-put-in-Made.ensures.1
     (shows_as m c.args.depth c.args.address c.args.start _ c.args.out.now c.put.new.out (Err NoMemory) (repr_made c.args.depth m c.args.address c.object.result c.in-Made.kind c.in-Made.argument c.object.ensures.object c.in-Made.is)
     (row_closes (name_of c.in-Made.kind ++ codes "(") (repr_of c.args.depth m.store (value_of m c.in-Made.argument)) (codes ")") c.args.start c.args.out.now c.put_opening.new.out c.put_repr.new.out c.put.new.out c.in_ok-put_repr-in-Made.field-0 (Err NoMemory) (kind_opens c.in-Made.kind) c.in_ok-put_opening-in-Made.ensures.ok c.in_ok-put_repr-in-Made.ensures
     (whole_lacks (codes ")") c.args.start c.put_repr.new.out c.put.new.out closing_is c.in_err-put-in-Made.ensures.err)))
 
-pub put_exception-returns-in_ok-put-in-Made : goal.put_exception-returns-in_ok-put-in-Made
-put_exception-returns-in_ok-put-in-Made t c =
+pub put_object-returns-in_ok-put-in-Made : goal.put_object-returns-in_ok-put-in-Made
+put_object-returns-in_ok-put-in-Made t c =
     let m = c.args.arena.now in
     shows_as m c.args.depth c.args.address c.args.start _ c.args.out.now c.put.new.out (Ok tt) (repr_made c.args.depth m c.args.address c.object.result c.in-Made.kind c.in-Made.argument c.object.ensures.object c.in-Made.is)
     (row_closes (name_of c.in-Made.kind ++ codes "(") (repr_of c.args.depth m.store (value_of m c.in-Made.argument)) (codes ")") c.args.start c.args.out.now c.put_opening.new.out c.put_repr.new.out c.put.new.out c.in_ok-put_repr-in-Made.field-0 (Ok tt) (kind_opens c.in-Made.kind) c.in_ok-put_opening-in-Made.ensures.ok c.in_ok-put_repr-in-Made.ensures
@@ -229,7 +229,7 @@ put_repr-returns-else-depth-eq0 t c =
 pub put_repr-returns-else-depth-eq0-2 : goal.put_repr-returns-else-depth-eq0-2
 put_repr-returns-else-depth-eq0-2 t c =
     let m = c.args.arena.now in
-    subst (λ w. Puts {U = Unit {0}} w c.args.start c.args.out.now c.put_exception.new.out c.put_exception.result) (repr_deeper c.args.depth m.store (pure.Address c.in-Object.address) (value_of m c.args.value) c.if-depth-eq0-2.false c.in-Object.ensures.value) c.put_exception.ensures
+    subst (λ w. Puts {U = Unit {0}} w c.args.start c.args.out.now c.put_object.new.out c.put_object.result) (repr_deeper c.args.depth m.store (pure.Address c.in-Object.address) (value_of m c.args.value) c.if-depth-eq0-2.false c.in-Object.ensures.value) c.put_object.ensures
 
 pub put_repr-returns-in_err-put_view-in_default : goal.put_repr-returns-in_err-put_view-in_default
 put_repr-returns-in_err-put_view-in_default t c =
@@ -244,3 +244,18 @@ put_repr-returns-in_ok-put_view-in_default t c =
     let m = c.args.arena.now in
     let v = c.view-view.result in
     (repr_atom (value_in m v), repr_shown c.args.depth m v c.args.value c.in_default.not-Tuple c.in_default.not-Object c.view-view.ensures.value, c.in_ok-put_view-in_default.ensures.ok m)
+
+pub put_repr-returns-then-depth-eq0-2 : goal.put_repr-returns-then-depth-eq0-2
+put_repr-returns-then-depth-eq0-2 t c =
+    let m = c.args.arena.now in
+    subst (λ w. Puts {U = Unit {0}} w c.args.start c.args.out.now c.put_bottom.new.out c.put_bottom.result) (repr_bottom c.args.depth m.store c.in-Object.address (value_of m c.args.value) c.if-depth-eq0-2.true c.in-Object.ensures.value) (c.put_bottom.ensures c.args.start)
+
+pub put_object-returns-in-Thread : goal.put_object-returns-in-Thread
+put_object-returns-in-Thread t c =
+    let m = c.args.arena.now in
+    subst (λ w. Puts {U = Unit {0}} w c.args.start c.args.out.now c.put_thread.new.out c.put_thread.result) (sym (repr_thread (suc c.args.depth) m c.args.address c.object.result _ _ c.object.ensures.object c.in-Thread.is)) (c.put_thread.ensures c.args.start)
+
+pub put_object-returns-in-Started : goal.put_object-returns-in-Started
+put_object-returns-in-Started t c =
+    let m = c.args.arena.now in
+    subst (λ w. Puts {U = Unit {0}} w c.args.start c.args.out.now c.put_thread-in-Started.new.out c.put_thread-in-Started.result) (sym (repr_started (suc c.args.depth) m c.args.address c.object.result _ c.object.ensures.object c.in-Started.is)) (c.put_thread-in-Started.ensures c.args.start)

@@ -17,8 +17,8 @@ decreases-put_items l = 4 * l.depth + 2
 abbrev pub decreases-put_others : goal.decreases-put_others
 decreases-put_others l = 4 * l.depth + 1
 
-abbrev pub decreases-put_exception : goal.decreases-put_exception
-decreases-put_exception l = 4 * l.depth + 1
+abbrev pub decreases-put_object : goal.decreases-put_object
+decreases-put_object l = 4 * l.depth + 1
 
 -- what is put behind the values so far and the rest, is behind all
 abbrev pub invariant-put_others-loop-item : goal.invariant-put_others-loop-item

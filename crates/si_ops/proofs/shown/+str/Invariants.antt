@@ -5,5 +5,5 @@ use Rattle.si_ops.proofs.shown.+str.Given as goal
 abbrev pub decreases-put_str : goal.decreases-put_str
 decreases-put_str l = 2 * l.depth
 
-abbrev pub decreases-put_exception_str : goal.decreases-put_exception_str
-decreases-put_exception_str l = 2 * l.depth + 1
+abbrev pub decreases-put_object_str : goal.decreases-put_object_str
+decreases-put_object_str l = 2 * l.depth + 1

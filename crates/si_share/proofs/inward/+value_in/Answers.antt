@@ -39,7 +39,7 @@ tuple_in-returns-in_err-value t c =
     let left = ap (λ us. values_of_parcels (trees_of us)) (left_tree ts c.items.item-index c.item-item.result c.item-item.is c.items-test.true) in
     let s = split_values (value_of_parcel c.item-item.result) (values_of_parcels (trees_of (drop (c.items.item-index + 1) ts))) c.items.invariant.values.0 (sym left ∙ c.items.invariant.values.1) in
     let p = err_from_is_err_and c.from_residual-in_err-value.result c.from_residual-in_err-value.ensures.1 in
-    rw (p.1, p.2) (part_left c.item-item.result ts _ c.args.arena.now c.items.arena c.value_in.new.arena s.0 s.3 c.items.invariant.extends c.items.invariant.store c.in_err-value.ensures.copied)
+    rw p.1 (part_left c.item-item.result ts _ c.args.arena.now c.items.arena c.value_in.new.arena s.0 s.3 c.items.invariant.extends c.items.invariant.store c.in_err-value.ensures.copied)
 
 pub tuple_in-items-preserved : goal.tuple_in-items-preserved
 tuple_in-items-preserved t c =

@@ -4,7 +4,7 @@ use Rattle.si_interp.specs.inner.Keeps.{moment_of}
 use Rattle.si_interp.proofs.interp.Interp.step.Given as goal
 
 abbrev pub ghost-line : goal.ghost-line
-ghost-line a = moment_of a.log.now a.locals
+ghost-line a = moment_of a.id a.log.now.items a.locals
 
-abbrev pub ghost-come_to_end : goal.ghost-come_to_end
-ghost-come_to_end a = next compiled (moment_of a.log.now.items a.locals)
+abbrev pub ghost-come_to_action : goal.ghost-come_to_action
+ghost-come_to_action a = next compiled (moment_of a.id a.log.now.items a.locals)

@@ -5,3 +5,6 @@ use Rattle.si_slots.proofs.literal.Literal.name.Goals as goal
 
 pub returns-in-Bytes : goal.returns-in-Bytes
 returns-in-Bytes c = chars-nil ∙ sym (ap name_in c.in-Bytes.is)
+
+pub returns-in-Keywords : goal.returns-in-Keywords
+returns-in-Keywords c = chars-nil ∙ sym (ap name_in c.in-Keywords.is)

@@ -12,6 +12,6 @@ begin_run-requires g c =
 
 pub returns-in-Ok-clause-stands : goal.returns-in-Ok-clause-stands
 returns-in-Ok-clause-stands g c =
-    begins c.args.table c.args.at g.w c.begin_run.new.self c.requires.1 c.begin_run.ensures.stands
+    begins c.args.table c.args.at g.w c.begin_run.new.self c.requires.1 c.begin_run.ensures.stands (ap (λ (s : State). s.standing) c.begin_run.ensures.state)
     (ap (λ (s : State). s.table) c.begin_run.ensures.state ∙ ap (λ (s : State). s.table) c.learn.ensures.same)
     (omega (arith, c.if-len.false, c.len.ensures))

@@ -8,10 +8,11 @@ step-requires g c =
     let s = c.self.inside.state in
     let st = subst (Stands g.c) (sym c.self.view_is) c.requires.0 in
     let run = subst IsRunning (sym c.self.view_is) c.requires.1 in
-    (ready_here g.c s st run, (leads_on g.c s st, is_short g.c s st))
+    (ready_here g.c s st run, (leads_on g.c s st run, is_short g.c s st))
 
 pub returns : goal.returns
 returns g c =
     let s = c.self.inside.state in
     let st = subst (Stands g.c) (sym c.self.view_is) c.requires.0 in
-    subst (λ o. Steps g.c o c.step.new.self c.step.result) c.self.view_is (steps g.c s c.step.new.self c.step.result st c.step.ensures)
+    let run = subst IsRunning (sym c.self.view_is) c.requires.1 in
+    subst (λ o. Steps g.c o c.step.new.self c.step.result) c.self.view_is (steps g.c s c.step.new.self c.step.result st run c.step.ensures)

@@ -11,10 +11,10 @@ returns-clause-ok c = λ w h.
     let s = c.args.self.now in
     let m = s.arena in
     let name : Text = c.in-Some.name.now in
-    slot_known s.table m s.literals.items s.names.items s.globals.items c.push.new.self.items s.built_ins.items c.push-2.new.self.items w name c.first_global.result c.built_in.result h
+    slot_known s.own s.table m s.literals.items s.names.items s.globals.items c.push.new.self.items s.built_ins.items c.push-2.new.self.items w name c.first_global.result c.built_in.result h
     (subst (λ k. slice_get s.table.names k ≡ Some name) c.requires.first (sym c.in-Some.ensures))
     (c.first_global.ensures.holds m)
-    (c.first_global.ensures.value m ∙ ap first_world.globals (c.as_str.ensures.characters ∙ c.in_ok-text.ensures))
+    (c.first_global.ensures.value m 0 ∙ ap ((first_world 0).globals) (c.as_str.ensures.characters ∙ c.in_ok-text.ensures))
     (c.built_in.ensures.holds m)
     (c.built_in.ensures.value m ∙ ap built_in (c.as_str-2.ensures.characters ∙ c.in_ok-text.ensures))
     c.in_ok-push.ensures.items c.in_ok-push-2.ensures.items

@@ -1,0 +1,103 @@
+-- Calls that go as their definitions.
+use Rattle.std.proofs.Common.{◌≡◌, ℕ, ℤ, pos, negsuc, true, false, ltb-true, ◌<◌, List, [], ◌∷◌, ◌++◌, length, Option, Some, None, Result, Ok, Err, refl, sym, ap, subst, ◌∙◌, arith}
+use Rattle.std.specs.Prelude.{unsigned_abs}
+use Rattle.std.specs.Int.Signed.{lt_z}
+use Rattle.si_semantics.specs.Value as pure
+use Rattle.si_semantics.specs.World as world
+use Rattle.si_semantics.specs.World.{World, Ran, Asked}
+use Rattle.si_semantics.specs.Operations.{gave, refused}
+use Rattle.si_semantics.specs.Attributes.{queue_of, placed}
+use Rattle.si_arena.specs.declared.value.Ref.{Ref}
+use Rattle.si_arena.specs.declared.value.Ref.TheVariants as value
+use Rattle.si_arena.specs.declared.cause.Cause.{Cause}
+use Rattle.si_arena.specs.declared.cause.Fault.{Fault}
+use Rattle.si_arena.specs.declared.cause.Fault.TheVariants.{Raises, NoMemory}
+use Rattle.si_arena.specs.Causes.{kind_of, message_of, CauseLies}
+use Rattle.si_arena.specs.Memory.{Memory, value_of, Lies, Extends, IsMade}
+use Rattle.si_arena.proofs.Lying.{extends_same, extends_made}
+use Rattle.si_parcel.specs.Shared as parcel
+use Rattle.si_ops.specs.Runs.{Throws}
+use Rattle.si_methods.specs.declared.request.Answered.{Answered}
+use Rattle.si_methods.specs.declared.request.Answered.TheVariants.{Value, Asks}
+use Rattle.si_methods.specs.Answering.{Answers}
+use Rattle.si_methods.specs.Passing.{PutsItem, IsSent, IsUnsent}
+use Rattle.si_semantics.specs.Shareable.{sent_as}
+use Rattle.si_semantics.specs.Attributes.{shared, prepares, parcels_by_name}
+use Rattle.si_semantics.specs.Parcels.{Tree}
+use Rattle.si_semantics.specs.Attributes.{puts}
+
+-- a call that goes as another
+pub answers_as : (f g : World → Ran) (own : ℕ) (old new : Memory) (r : Result Answered Fault) → ((w : World) → w.store ≡ old.store → f w ≡ g w) → Answers g own old new r → Answers f own old new r
+answers_as f g own old new (Ok (Value r)) same h = ((λ w e o. same w e ∙ h.0 w e o), h.1, h.2)
+answers_as f g own old new (Ok (Asks kept action)) same h = (
+  record {
+    request = h.0.request;
+    asks = λ w e. same w e ∙ h.0.asks w e;
+    made_by = h.0.made_by;
+    kept_is = h.0.kept_is;
+    lies = h.0.lies;
+  },
+  h.1,
+)
+answers_as f g own old new (Err (Raises cause)) same h = (((λ w e. same w e ∙ h.0.0 w e), h.0.1), h.1)
+answers_as f g own old new (Err NoMemory) same h = h
+
+-- a call that gives a value, and changes nothing
+pub gives : (f : World → Ran) (own : ℕ) (m : Memory) (r : Ref) → Lies m r → ((w : World) → w.store ≡ m.store → f w ≡ gave (value_of m r) w) → Answers f own m m (Ok (Value r))
+gives f own m r lies g = ((λ w e o. g w e ∙ ap (λ s. gave (value_of m r) (record w { store = s })) e), lies, extends_same m)
+
+-- a call that raises
+pub throws : (f : World → Ran) (own : ℕ) (m : Memory) (cause : Cause) → CauseLies m.names cause → ((w : World) → w.store ≡ m.store → f w ≡ refused (kind_of cause) (message_of m.names cause) w) → Answers f own m m (Err (Raises cause))
+throws f own m cause lies g = ((g, lies), refl)
+
+-- a call that raises as an operation does
+pub throws_as : (f : World → Ran) (own : ℕ) (m : Memory) (cause : Cause) → Throws f m cause → Answers f own m m (Err (Raises cause))
+throws_as f own m cause h = (h, refl)
+
+-- an object is placed
+pub places : (o : pure.Object) (own : ℕ) (old new : Memory) (r : Ref) → IsMade o old new r → Answers (λ w. placed o w) own old new (Ok (Value r))
+places o own old new r h = (
+  (λ w e p.
+      ap (λ (s : List pure.Object). gave (pure.Address (length s)) (record w { store = s ++ o ∷ [] })) e
+      ∙ ap (λ v. gave v (record w { store = old.store ++ o ∷ [] })) (sym (ap (value_of new) h.address))
+      ∙ ap (λ (m : Memory). gave (value_of new r) (record w { store = m.store })) (sym h.memory)),
+  subst (Lies new) (sym h.address) (omega (arith, ap (λ (m : Memory). length m.store) h.memory, longer old.store o)),
+  extends_made h,
+)
+  where
+    longer : (os : List pure.Object) (o : pure.Object) → length os < length (os ++ o ∷ [])
+    longer [] o = omega arith
+    longer (x ∷ os) o = omega (arith, longer os o)
+
+-- the most items of a queue
+pub below_bound : (n : ℤ) (w : World) → lt_z n (pos 0) ≡ true → queue_of (Some n) w ≡ Asked (world.CreateQueue 0) w
+below_bound (pos m) w e = absurd (omega (arith, ltb-true m 0 e))
+below_bound (negsuc m) w e = refl
+
+pub within_bound : (n : ℤ) (w : World) → lt_z n (pos 0) ≡ false → queue_of (Some n) w ≡ Asked (world.CreateQueue (unsigned_abs n)) w
+within_bound (pos m) w e = refl
+within_bound (negsuc m) w e = absurd cc
+
+-- a call that puts no item
+pub puts_as : (takes : (pure.Value → Ran) → World → Ran) (v : pure.Value) (own : ℕ) (m : Memory) (fault : Fault) (request : ℕ → Tree → world.Request) → PutsItem takes v m (Err fault) → Answers (λ w. takes (λ u. puts request v u w) w) own m m (Err fault)
+puts_as takes v own m (Raises cause) request h = (h request, refl)
+puts_as takes v own m NoMemory request h = refl
+
+-- an item that goes as another
+pub puts_through : (f g : (pure.Value → Ran) → World → Ran) (v : pure.Value) (m : Memory) (r : Result (ℕ × Tree) Fault) → ((does : pure.Value → Ran) (w : World) → f does w ≡ g does w) → PutsItem g v m r → PutsItem f v m r
+puts_through f g v m (Ok b) same h = λ request w. same (λ u. puts request v u w) w ∙ h request w
+puts_through f g v m (Err (Raises cause)) same h = λ request. ((λ w e. same (λ u. puts request v u w) w ∙ (h request).0 w e), (h request).1)
+puts_through f g v m (Err NoMemory) same h = tt
+
+-- an item that is not sent is not put
+pub not_put : (v u : pure.Value) (q n : ℕ) (m : Memory) (f : Fault) → v ≡ pure.Queue q n → IsSent u (Err f) → PutsItem (λ does w. does u) v m (Err f)
+not_put v u q n m (Raises cause) e h = λ request.
+    subst (Throws (λ w. puts request v u w) m) (sym h.1)
+    ((λ w s. ap (λ x. puts request x u w) e ∙ ap (λ o. shared o (λ p. Asked (request q p) w) w) h.0), tt)
+not_put v u q n m NoMemory e h = tt
+
+-- names of which a value is not sent are not bound
+pub not_bound : (i : ℕ) (named : List (pure.Text × pure.Value)) (own : ℕ) (m : Memory) (f : Fault) → IsUnsent named f → Answers (λ w. prepares i (parcels_by_name named) w) own m m (Err f)
+not_bound i named own m (Raises cause) h =
+    (subst (Throws (λ w. prepares i (parcels_by_name named) w) m) (sym h.1) ((λ w s. ap (λ o. prepares i o w) h.0), tt), refl)
+not_bound i named own m NoMemory h = refl

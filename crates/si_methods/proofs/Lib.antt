@@ -1,0 +1,11 @@
+pub mod Kept
+pub mod Words
+pub mod Ending
+pub mod Telling
+pub mod Naming
+pub mod Attributed
+pub mod Passed
+pub mod Calling
+pub mod Otherwise
+pub mod Made
+pub mod Sending

@@ -1,0 +1,5 @@
+use Rattle.si_methods.proofs.Kept as kept
+use Rattle.si_methods.proofs.laws.same_fit.Goals as goal
+
+pub returns : goal.returns
+returns c = kept.same_fit

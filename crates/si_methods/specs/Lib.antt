@@ -1,0 +1,9 @@
+pub mod Methods
+pub mod Requests
+pub mod Kept
+pub mod Given
+pub mod Passing
+pub mod Shown
+pub mod Answering
+pub mod Replying
+pub mod Laws
