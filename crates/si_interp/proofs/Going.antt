@@ -2,7 +2,7 @@
 use Rattle.std.proofs.Common.{◌≡◌, ℕ, zero, suc, ◌<◌, List, [], ◌∷◌, ◌++◌, Option, Some, None, refl, ap, sym, ◌∙◌, arith, ⊎_elim}
 use Rattle.si_semantics.specs.World.{Answer}
 use Rattle.si_semantics.specs.Life as language
-use Rattle.si_semantics.specs.Operations.{reply}
+use Rattle.si_semantics.specs.Replies.{reply}
 use Rattle.si_slots.specs.Machine.{Place, At, Calling, Taking, Ending, Closed, Course, on, next, start}
 use Rattle.si_slots.specs.Code.{compiled}
 use Rattle.si_slots.specs.Shows.{standing_of}

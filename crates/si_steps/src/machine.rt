@@ -35,10 +35,11 @@ impl Model for Machine {
     ghost use Rattle.si_steps.specs.declared.state.State.{State};
     ghost use Rattle.std.specs.Coded.{codes};
     ghost use Rattle.si_semantics.specs.Code.{value_code};
+    ghost use Rattle.si_parcel.specs.TreeCode.{tree_code};
 
     ghost Value = { State };
 
-    ghost coded = { Prim.hlevel (codes, value_code) };
+    ghost coded = { Prim.hlevel (codes, value_code, tree_code) };
 
     ghost view = { λ m. m.state };
 }
