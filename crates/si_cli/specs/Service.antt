@@ -130,20 +130,6 @@ IsOfRun NoMemory = Unit {0}
 IsOfRun Write = Unit {0}
 IsOfRun _ = ⊥
 
--- a fault of saving a schedule
-abbrev pub IsOfSaving : CliFault → Type 0
-IsOfSaving NoMemory = Unit {0}
-IsOfSaving Write = Unit {0}
-IsOfSaving _ = ⊥
-
--- a fault of making a run again, before anything is written
-abbrev pub IsOfRepeating : CliFault → Type 0
-IsOfRepeating (Script line) = Unit {0}
-IsOfRepeating (BadSchedule line) = Unit {0}
-IsOfRepeating (NotFollowed fault) = Unit {0}
-IsOfRepeating NoMemory = Unit {0}
-IsOfRepeating _ = ⊥
-
 -- bytes are no schedule's: they are not UTF-8, which counts as their first line, or this is their first bad line
 abbrev pub IsBadSchedule : List ℕ → ℕ → Type 0
 IsBadSchedule bytes line = ((¬ IsUtf8 bytes) × (line ≡ 1)) ⊎ IsBadLine bytes line

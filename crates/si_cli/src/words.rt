@@ -5,7 +5,8 @@ ghost use Rattle.std.specs.Prelude.{◌≡◌, ℕ, IfNone, IfOk, IfErr, IfSome,
 ghost use Rattle.clap.specs.Words.{app_of, kind_of, rule_of};
 ghost use Rattle.si_cli.specs.Status.{status_of_words};
 ghost use Rattle.si_plain.specs.Ranges.{Numbers};
-ghost use Rattle.si_cli.specs.Words.{Allows, AllowsInterpreters, AllowsTurns, AreRead, AreRepeat, AreTaken, IsReadFrom, IsSaidBy, Takes, TellsHelp, asks_help, check, helps, history, interpreters, is_help, is_topic, limited, name_of, planning, repeats, repeats_name, replay, saving, script, serial, texts, turns};
+ghost use Rattle.si_cli.specs.Words.{Allows, AllowsInterpreters, AllowsTurns, AreRead, AreRepeat, AreTaken, IsReadFrom, IsSaidBy, Takes, TellsHelp, asks_help, check, helps, history, interpreters, is_help, is_topic, name_of, planning, replay, saving, script, serial, texts, turns};
+ghost use Rattle.si_cli.specs.inner.Commands.{limited, repeats, repeats_name};
 ghost use Rattle.si_cli.specs.inner.Requests.{repeat_in};
 
 use crate::asked::Request;
