@@ -100,9 +100,9 @@ impl WordsFault {
 
 /// What the words ask for. The first is the program's name, the second that of a command.
 ///
-/// `WordsFault::Words` where no command is named, its definition doesn't take the words after it, no schedule is named where
-/// one is needed, the value of `--interpreters` is no number from 1 to 64, that of `--turns` none from 1 to 1,099,511,627,776, or help is asked for;
-/// `WordsFault::NoMemory` where memory was refused.
+/// `WordsFault::Words` where no command is named, its definition doesn't take the words after it, no schedule is named
+/// where one is needed, the value of `--interpreters` is no number from 1 to 64, that of `--turns` none from 1 to
+/// 1,099,511,627,776, or help is asked for; `WordsFault::NoMemory` where memory was refused.
 pub fn request<'a>(alloc: Global, words: &'a [&'a str]) -> Result<Request<'a>, WordsFault>
     ensures said { IfOk result (IsSaidBy (texts words.entry.now)) }
     // Words that no command takes are refused.
