@@ -14,7 +14,8 @@ replied-requires g c = awaits_answer g.c c.args.action.now c.args.machine.now c.
 
 pub unreachable-requires : goal.unreachable-requires
 unreachable-requires g c =
-    not_given c.args.answer.now c.in_default-answer.not-Given (subst (λ (a : Action). fits (answer_of c.args.answer.now) (action_of a) ≡ true) c.in-Take.is c.requires.1.1)
+    not_given c.args.answer.now c.in_default-answer.not-Given
+    (subst (λ (a : Action). fits (answer_of c.args.answer.now) (action_of a) ≡ true) c.in-Take.is c.requires.1.1)
 
 pub returns-in-End-clause-leads : goal.returns-in-End-clause-leads
 returns-in-End-clause-leads g c =
@@ -22,4 +23,5 @@ returns-in-End-clause-leads g c =
 
 pub returns-in_default-clause-leads : goal.returns-in_default-clause-leads
 returns-in_default-clause-leads g c =
-    leads_same g.c c.args.action.now c.args.answer.now c.replied.new.machine c.replied.result c.in_default.not-Take c.requires.1.1 c.replied.ensures.leads
+    leads_same g.c c.args.action.now c.args.answer.now c.replied.new.machine c.replied.result c.in_default.not-Take c.requires.1.1
+    c.replied.ensures.leads
