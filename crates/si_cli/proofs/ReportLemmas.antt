@@ -15,8 +15,8 @@ use Rattle.si_semantics.specs.Life as life
 use Rattle.si_semantics.specs.Report.{heading, kind_and_message, outcome_line}
 use Rattle.si_semantics.specs.Value.{Text}
 use Rattle.si_plain.specs.Characters.{characters_of}
-use Rattle.si_interp.specs.Meaning.{InterpView}
-use Rattle.si_cli.specs.Report.{part_of, raised_lines}
+use Rattle.si_interp.specs.Meaning.{InterpView, Logged}
+use Rattle.si_cli.specs.Report.{part_by, part_of, raised_lines}
 use Rattle.si_cli.specs.inner.Parts.{after_kind}
 
 -- what is appended in two steps
@@ -99,12 +99,21 @@ heading_bytes id h =
     (encodes-append digits (codes " ==" ++ codes "\n") ∙ ap₂ (λ x y. x ++ y) (own_bytes digits h) ending))
 
 -- the bytes of an interpreter's part, in the parts in which they are written
-pub part_bytes : (v : InterpView) (printed : List ℕ) → IsUtf8 printed → characters_of printed ≡ v.printed → encode_utf8_all (heading v.id) ++ (printed ++ encode_utf8_all (raised_lines v.log)) ≡ encode_utf8_all (part_of v)
-part_bytes v printed text is =
-    sym (encodes-append (heading v.id) (v.printed ++ raised_lines v.log)
-    ∙ ap (λ l. encode_utf8_all (heading v.id) ++ l)
-    (encodes-append v.printed (raised_lines v.log)
-    ∙ ap (λ l. l ++ encode_utf8_all (raised_lines v.log)) (ap encode_utf8_all (sym is) ∙ encodes-chars printed text)))
+pub part_bytes : (id : ℕ) (printed : List ℕ) (log : List Logged) → IsUtf8 printed → encode_utf8_all (heading id) ++ (printed ++ encode_utf8_all (raised_lines log)) ≡ encode_utf8_all (part_by id (characters_of printed) log)
+part_bytes id printed log text =
+    let seen = characters_of printed in
+    sym (encodes-append (heading id) (seen ++ raised_lines log)
+    ∙ ap (λ l. encode_utf8_all (heading id) ++ l)
+    (encodes-append seen (raised_lines log)
+    ∙ ap (λ l. l ++ encode_utf8_all (raised_lines log)) (encodes-chars printed text)))
+
+-- the part of this number, text and log was appended, which are those of an interpreter
+pub part_appended :
+    (x y : Option (List ℕ)) (v : InterpView) (id : ℕ) (printed : Text) (log : List Logged) → id ≡ v.id → printed ≡ v.printed → log ≡ v.log
+    → Appends x y (encode_utf8_all (part_by id printed log)) → Appends x y (encode_utf8_all (part_of v))
+part_appended x y v id printed log a b c h =
+    let same : part_by id printed log ≡ part_of v = rw (a, b, c) refl in
+    subst (λ (text : Text). Appends x y (encode_utf8_all text)) same h
 
 -- the bytes of one item more
 piece_bytes :

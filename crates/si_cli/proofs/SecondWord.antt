@@ -6,7 +6,8 @@ use Rattle.std.proofs.lemmas.Slice.Eq.{bytes_eq-Decides}
 use Rattle.si_cli.specs.declared.asked.Request.{Request}
 use Rattle.si_cli.specs.declared.words.WordsFault.{WordsFault}
 use Rattle.si_cli.specs.declared.words.WordsFault.TheVariants.{NoMemory}
-use Rattle.si_cli.specs.Words.{AreRead, AreRepeat, AreTaken, IsReadFrom, IsSaidBy, Names, Takes, TellsHelp, asks_help, check, helps, history, is_topic, is_word, name_of, repeats, repeats_name, replay, serial, texts}
+use Rattle.si_cli.specs.Words.{AreRead, AreRepeat, AreTaken, IsReadFrom, IsSaidBy, Names, Takes, TellsHelp, asks_help, check, helps, history, is_topic, is_word, name_of, replay, serial, texts}
+use Rattle.si_cli.specs.inner.Commands.{repeats, repeats_name}
 use Rattle.si_cli.specs.declared.words.Told.{Told}
 use Rattle.si_cli.specs.declared.words.Told.TheVariants as told
 

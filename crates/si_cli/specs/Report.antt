@@ -20,9 +20,14 @@ action_line _ = []
 abbrev pub raised_lines : List Logged → Text
 raised_lines log = flat_map (λ (l : Logged). action_line l.action) log
 
--- an interpreter's part: its heading, what it printed, and the lines of its exceptions
+-- an interpreter's part, by its number, what it printed and its log: its heading, what it printed, and the lines of its
+-- exceptions
+abbrev pub part_by : (id : ℕ) → (printed : Text) → List Logged → Text
+part_by id printed log = heading id ++ (printed ++ raised_lines log)
+
+-- that of an interpreter
 abbrev pub part_of : InterpView → Text
-part_of v = heading v.id ++ (v.printed ++ raised_lines v.log)
+part_of v = part_by v.id v.printed v.log
 
 -- the parts of interpreters, one after the other
 abbrev pub parts_of : List InterpView → Text

@@ -1,5 +1,5 @@
 -- What it means to carry out a command (this project's own).
-use Rattle.std.specs.Prelude.{◌≡◌, ◌⊎◌, ℕ, Bool, true, false, List, [], ◌∷◌, IsUtf8, Option, bytes_eq, codes, drop, encode_utf8_all, if◌then◌else◌, is_some, take}
+use Rattle.std.specs.Prelude.{◌≡◌, ◌≢◌, ◌⊎◌, ℕ, Bool, true, false, List, [], ◌∷◌, IsUtf8, Option, bytes_eq, codes, drop, encode_utf8_all, if◌then◌else◌, is_some, take}
 use Rattle.std.specs.Io.KnownBytes.{Appends, Keeps}
 use Rattle.si_plain.specs.Characters.{characters_of}
 use Rattle.si_plain.specs.Ranges.{Numbers}
@@ -12,6 +12,7 @@ use Rattle.si_world.specs.Worlds.{WorldView}
 use Rattle.si_world.specs.Reports.{recorded}
 use Rattle.si_replay.specs.Replays.{schedule_in, limits_for, core_after, Completes, IsReplayed, IsOfTurns, IsFault, IsWantOfMemory}
 use Rattle.si_replay.specs.declared.fault.ReplayFault.{ReplayFault}
+use Rattle.si_replay.specs.declared.fault.ReplayFault.TheVariants as replay_faults
 use Rattle.si_cli.specs.declared.fault.CliFault.{CliFault}
 use Rattle.si_cli.specs.declared.fault.CliFault.TheVariants.{Write, Script, Schedule as BadSchedule, Replay as NotFollowed, NoMemory, Input}
 use Rattle.si_cli.specs.declared.asked.Request.{Request}
@@ -130,20 +131,6 @@ IsOfRun NoMemory = Unit {0}
 IsOfRun Write = Unit {0}
 IsOfRun _ = ⊥
 
--- a fault of saving a schedule
-abbrev pub IsOfSaving : CliFault → Type 0
-IsOfSaving NoMemory = Unit {0}
-IsOfSaving Write = Unit {0}
-IsOfSaving _ = ⊥
-
--- a fault of making a run again, before anything is written
-abbrev pub IsOfRepeating : CliFault → Type 0
-IsOfRepeating (Script line) = Unit {0}
-IsOfRepeating (BadSchedule line) = Unit {0}
-IsOfRepeating (NotFollowed fault) = Unit {0}
-IsOfRepeating NoMemory = Unit {0}
-IsOfRepeating _ = ⊥
-
 -- bytes are no schedule's: they are not UTF-8, which counts as their first line, or this is their first bad line
 abbrev pub IsBadSchedule : List ℕ → ℕ → Type 0
 IsBadSchedule bytes line = ((¬ IsUtf8 bytes) × (line ≡ 1)) ⊎ IsBadLine bytes line
@@ -154,13 +141,15 @@ IsOfSchedule bytes (BadSchedule line) = IsBadSchedule bytes line
 IsOfSchedule bytes NoMemory = Unit {0}
 IsOfSchedule bytes _ = ⊥
 
--- the schedule can't be followed, for this fault; where some turns complete it, memory was refused
+-- the schedule can't be followed, for this fault; where some turns complete it, memory was refused. Where that was for the world
+-- or its recording, the fault is NoMemory, and not this one
 pub record IsNotFollowed (limits : Numbers) (script schedule : List ℕ) (fault : ReplayFault) : Type 0 where
   pub plan : Schedule
   pub is_plan : IsPlan schedule plan
   pub fault_is : IsFault (characters_of (without_mark script)) (limits_for limits plan) plan.callers fault
   pub memory : (turns : List ℕ) → Completes (characters_of (without_mark script)) (limits_for limits plan) plan.callers turns
       → IsWantOfMemory fault
+  pub other : fault ≢ replay_faults.NoMemory
 
 -- why a run is not made again: of a schedule that is none this is a bad line, and one that can't be followed is not followed
 abbrev pub IsNotRepeated : Numbers → (script schedule : List ℕ) → CliFault → Type 0

@@ -10,8 +10,6 @@ use Rattle.clap.specs.declared.error.kind.ErrorKind.TheVariants.{DisplayHelp, Di
 use Rattle.si_plain.specs.Ranges.{Numbers, is_interpreter_count, is_turn_count}
 use Rattle.si_cli.specs.declared.asked.Request.{Request}
 use Rattle.si_cli.specs.declared.asked.Request.TheVariants.{Serial, Check, Replay, History}
-use Rattle.si_cli.specs.declared.words.Told.{Told}
-use Rattle.si_cli.specs.declared.words.Told.TheVariants as told
 use Rattle.si_cli.specs.declared.words.WordsFault.{WordsFault}
 use Rattle.si_cli.specs.declared.words.WordsFault.TheVariants.{Words, NoMemory}
 
@@ -39,13 +37,9 @@ saving = record (new_rule (codes "record")) { long = Some (codes "record"); valu
 abbrev pub planning : Rule
 planning = record (new_rule (codes "schedule")) { long = Some (codes "schedule"); value_names = 1; action = Some Set }
 
--- the command `serial [SCRIPT] [--interpreters N] [--turns N]`
-abbrev pub limited : App
-limited = with_rule (with_rule (with_rule (new_app (codes "serial")) script) interpreters) turns
-
--- the same with `--record PATH`
+-- the command `serial [SCRIPT] [--interpreters N] [--turns N] [--record PATH]`
 abbrev pub serial : App
-serial = with_rule limited saving
+serial = with_rule (with_rule (with_rule (with_rule (new_app (codes "serial")) script) interpreters) turns) saving
 
 -- the command `check [SCRIPT]`
 abbrev pub check : App
@@ -58,16 +52,6 @@ replay = with_rule (with_rule (with_rule (new_app (codes "replay")) script) plan
 -- the command `history [SCRIPT] --schedule PATH [--turns N]`
 abbrev pub history : App
 history = with_rule (with_rule (with_rule (new_app (codes "history")) script) planning) turns
-
--- the command that makes a run again, and tells its report or its history
-abbrev pub repeats : Told → App
-repeats told.Report = replay
-repeats told.History = history
-
--- its name
-abbrev pub repeats_name : Told → Text
-repeats_name told.Report = codes "replay"
-repeats_name told.History = codes "history"
 
 -- the name of the command that is asked for
 abbrev pub name_of : Request → Text

@@ -3,8 +3,8 @@
 // Its one contract is that of `serve`. For `serial` the world that is reported is that of the script after turns that led to
 // it, in which each interpreter shows what its texts mean; what is appended to the writer is its report, and the answer is
 // its status; and if that is asked for, the schedule that was taken is saved first. For `replay` and `history` it is the
-// report of the run that has the schedule, or the lines of its calls. For `check` it is the line `ok`, where the script is read and well scoped. A script that is not is refused,
-// and no other.
+// report of the run that has the schedule, or the lines of its calls. For `check` it is the line `ok`, where the script is
+// read and well scoped. A script that is not is refused, and no other.
 //
 // In reading order: `asked` (what a command line asks for), `words` (how it is read), `input` (reading a script), `report`
 // (the text of a world's report), `status` (the status after it), `saving` (the schedule that was taken), `repeating` (runs

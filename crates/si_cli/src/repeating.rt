@@ -2,7 +2,8 @@
 
 ghost use Rattle.std.specs.Prelude.{IfErr, IfOk};
 ghost use Rattle.si_semantics.specs.Tree.{Stmts};
-ghost use Rattle.si_cli.specs.Service.{IsNotRepeated, IsOfRepeating, IsOfSchedule, IsPlan, IsRefusal, IsRepeated, IsScript, LeavesAlone, ReportsAgain, TellsHistory};
+ghost use Rattle.si_cli.specs.Service.{IsNotRepeated, IsOfSchedule, IsPlan, IsRefusal, IsRepeated, IsScript, LeavesAlone, ReportsAgain, TellsHistory};
+ghost use Rattle.si_cli.specs.inner.Faults.{IsOfRepeating};
 
 use crate::fault::CliFault;
 use crate::report::{write_recorded, write_text};

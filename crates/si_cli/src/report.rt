@@ -2,24 +2,25 @@
 
 ghost use Rattle.std.specs.Prelude.{◌≡◌, IsOkUnless, OnOk, encode_utf8_all};
 ghost use Rattle.std.specs.Io.KnownBytes.{Appends};
+ghost use Rattle.si_plain.specs.Characters.{characters_of};
 ghost use Rattle.si_semantics.specs.Life as life;
 ghost use Rattle.si_semantics.specs.Report.{heading, outcome_line};
 ghost use Rattle.si_parcel.specs.Shared.{action_of, outcome_of};
 ghost use Rattle.si_world.specs.Reports.{members, recorded};
-ghost use Rattle.si_cli.specs.Report.{action_line, end_line, part_of, parts_of, raised_lines, report_of};
+ghost use Rattle.si_cli.specs.Report.{action_line, end_line, part_by, parts_of, raised_lines, report_of};
 ghost use Rattle.si_cli.specs.inner.Parts.{after_kind};
 
 use crate::fault::CliFault;
 use itoa::Buffer;
-use si_interp::{Interp, Logged};
+use si_interp::Logged;
 use si_parcel::{Action, Outcome};
 use si_plain::{Kind, Text};
 use si_world::{End, Recording, Report, World};
 use std::io::Write;
 
-/// Appends the report of a world as it stands: of each interpreter that was created, by number, its heading, what it printed, and a
-/// line for each of its runs that an exception left; and last how the turns came to their end. `CliFault::Write` where a
-/// write failed; a part of the report may then be written.
+/// Appends the report of a world as it stands: of each interpreter that was created, by number, its heading, what it
+/// printed, and a line for each of its runs that an exception left; and last how the turns came to their end.
+/// `CliFault::Write` where a write failed; a part of the report may then be written.
 pub(crate) fn write_report<W: Write>(out: &mut W, world: &World) -> Result<(), CliFault>
     ensures report { OnOk result (Appends (W.contents out.old) (W.contents out.new) (encode_utf8_all (report_of (recorded world.now)))) }
     ensures fault { IsOkUnless result CliFault.Write }
@@ -43,20 +44,9 @@ fn write_reports<W: Write>(out: &mut W, reports: &[Report]) -> Result<(), CliFau
     ensures fault { IsOkUnless result CliFault.Write }
 {
     'reports: for report in reports {
-        write_reported(out, report)?;
+        write_part(out, report.id(), report.printed().as_str(), report.log())?;
     }
     Ok(())
-}
-
-/// Appends the part of an interpreter by what is recorded of it.
-fn write_reported<W: Write>(out: &mut W, report: &Report) -> Result<(), CliFault>
-    ensures part { OnOk result (Appends (W.contents out.old) (W.contents out.new)
-        (encode_utf8_all (part_of report.now))) }
-    ensures fault { IsOkUnless result CliFault.Write }
-{
-    write_heading(out, report.id())?;
-    write_text(out, report.printed().as_str())?;
-    write_raised_lines(out, report.log())
 }
 
 /// Appends the parts of all interpreters that were created.
@@ -69,21 +59,21 @@ fn write_parts<W: Write>(out: &mut W, world: &World) -> Result<(), CliFault>
     for i in 0..world.created() {
         match world.interp(i) {
             None => unreachable!(),
-            Some(interp) => write_part(out, interp)?,
+            Some(interp) => write_part(out, interp.id(), interp.printed(), interp.log())?,
         }
     }
     Ok(())
 }
 
-/// Appends an interpreter's part.
-fn write_part<W: Write>(out: &mut W, interp: &Interp) -> Result<(), CliFault>
+/// Appends an interpreter's part, by its number, what it has printed and its log.
+fn write_part<W: Write>(out: &mut W, id: u32, printed: &str, log: &[Logged]) -> Result<(), CliFault>
     ensures part { OnOk result (Appends (W.contents out.old) (W.contents out.new)
-        (encode_utf8_all (part_of interp.now))) }
+        (encode_utf8_all (part_by id (characters_of printed.now) log.now))) }
     ensures fault { IsOkUnless result CliFault.Write }
 {
-    write_heading(out, interp.id())?;
-    write_text(out, interp.printed())?;
-    write_raised_lines(out, interp.log())
+    write_heading(out, id)?;
+    write_text(out, printed)?;
+    write_raised_lines(out, log)
 }
 
 /// Appends the line that begins the part of an interpreter with this number.

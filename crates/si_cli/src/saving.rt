@@ -4,7 +4,8 @@ ghost use Rattle.std.specs.Prelude.{IfErr, OnOk};
 ghost use Rattle.std.specs.Io.KnownBytes.{Appends};
 ghost use Rattle.si_schedule.specs.Schedules.{text_of};
 ghost use Rattle.si_replay.specs.Replays.{schedule_in};
-ghost use Rattle.si_cli.specs.Service.{IsOfSaving, LeavesAlone};
+ghost use Rattle.si_cli.specs.Service.{LeavesAlone};
+ghost use Rattle.si_cli.specs.inner.Faults.{IsOfSaving};
 
 use crate::fault::CliFault;
 use crate::report::write_text;

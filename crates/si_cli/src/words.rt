@@ -5,7 +5,8 @@ ghost use Rattle.std.specs.Prelude.{◌≡◌, ℕ, IfNone, IfOk, IfErr, IfSome,
 ghost use Rattle.clap.specs.Words.{app_of, kind_of, rule_of};
 ghost use Rattle.si_cli.specs.Status.{status_of_words};
 ghost use Rattle.si_plain.specs.Ranges.{Numbers};
-ghost use Rattle.si_cli.specs.Words.{Allows, AllowsInterpreters, AllowsTurns, AreRead, AreRepeat, AreTaken, IsReadFrom, IsSaidBy, Takes, TellsHelp, asks_help, check, helps, history, interpreters, is_help, is_topic, limited, name_of, planning, repeats, repeats_name, replay, saving, script, serial, texts, turns};
+ghost use Rattle.si_cli.specs.Words.{Allows, AllowsInterpreters, AllowsTurns, AreRead, AreRepeat, AreTaken, IsReadFrom, IsSaidBy, Takes, TellsHelp, asks_help, check, helps, history, interpreters, is_help, is_topic, name_of, planning, replay, saving, script, serial, texts, turns};
+ghost use Rattle.si_cli.specs.inner.Commands.{limited, repeats, repeats_name};
 ghost use Rattle.si_cli.specs.inner.Requests.{repeat_in};
 
 use crate::asked::Request;
@@ -99,9 +100,9 @@ impl WordsFault {
 
 /// What the words ask for. The first is the program's name, the second that of a command.
 ///
-/// `WordsFault::Words` where no command is named, its definition doesn't take the words after it, no schedule is named where
-/// one is needed, the value of `--interpreters` is no number from 1 to 64, that of `--turns` none from 1 to 1,099,511,627,776, or help is asked for;
-/// `WordsFault::NoMemory` where memory was refused.
+/// `WordsFault::Words` where no command is named, its definition doesn't take the words after it, no schedule is named
+/// where one is needed, the value of `--interpreters` is no number from 1 to 64, that of `--turns` none from 1 to
+/// 1,099,511,627,776, or help is asked for; `WordsFault::NoMemory` where memory was refused.
 pub fn request<'a>(alloc: Global, words: &'a [&'a str]) -> Result<Request<'a>, WordsFault>
     ensures said { IfOk result (IsSaidBy (texts words.entry.now)) }
     // Words that no command takes are refused.

@@ -1,5 +1,5 @@
 -- What the parts of a replay do to a world, and what the whole leaves.
-use Rattle.std.proofs.Common.{◌≡◌, ◌≢◌, ℕ, zero, suc, ◌+◌, ◌-◌, ◌<◌, ◌≤◌, List, [], ◌∷◌, ◌++◌, length, map, replicate, set, take, refl, ap, sym, ◌∙◌, subst, arith, inl, inr, true, false, slice_get, slice_index, Some}
+use Rattle.std.proofs.Common.{◌≡◌, ◌≢◌, ℕ, zero, suc, ◌+◌, ◌<◌, ◌≤◌, List, [], ◌∷◌, ◌++◌, length, replicate, set, take, refl, ap, sym, ◌∙◌, subst, arith, inl, inr, true, false, slice_get, Some}
 use Rattle.std.proofs.lemmas.List.{map-append, length-take}
 use Rattle.std.proofs.lemmas.Bool.Decides.{leb_tells, eqb_tells}
 use Rattle.si_plain.specs.Ranges.{Numbers}
@@ -106,12 +106,38 @@ steps_more old mid i new s t =
     }
 
 -- so many
-pub steps_many : (n : ℕ) (old mid : WorldView) (i : ℕ) (new : WorldView) → Steps old i mid → Ran mid (replicate n i) (replicate n marks.Local) new → Steps old i new
+steps_many : (n : ℕ) (old mid : WorldView) (i : ℕ) (new : WorldView) → Steps old i mid → Ran mid (replicate n i) (replicate n marks.Local) new → Steps old i new
 steps_many zero old mid i new s r = subst (λ (w : WorldView). Steps old i w) (sym r) s
 steps_many (suc n) old mid i new s r = steps_many n old r.0 i new (steps_more old mid i r.0 s r.1) r.2
 
 pub steps_ran : (old new : WorldView) (i n : ℕ) → RanLines old i n false new → Steps old i new
 steps_ran old new i n l = steps_many n old old i new (steps_none old i) (subst (λ (ms : List Mark). Ran old (replicate n i) ms new) l.are l.ran)
+
+-- so many, and one turn more
+record SplitLast (old : WorldView) (i k : ℕ) (m : Mark) (new : WorldView) : Type 0 where
+  before : WorldView
+  ran : Ran old (replicate k i) (replicate k marks.Local) before
+  last : Turned before i m new
+
+-- the last of a list of turns of one interpreter
+split_last : (k : ℕ) (old : WorldView) (i : ℕ) (m : Mark) (new : WorldView) → Ran old (replicate (suc k) i) (replicate k marks.Local ++ m ∷ []) new → SplitLast old i k m new
+split_last zero old i m new r = record { before = old; ran = refl; last = subst (λ (w : WorldView). Turned old i m w) (sym r.2) r.1 }
+split_last (suc k) old i m new r = let s = split_last k r.0 i m new r.2 in record { before = s.before; ran = (r.0, r.1, s.ran); last = s.last }
+
+-- lines, for the last of which memory was refused
+pub starved_ran : (old new : WorldView) (i n : ℕ) → RanLines old i n true new → Stretched old i marks.Starved new
+starved_ran old new i n l =
+    let k = l.are.0 in
+    let count : n ≡ suc k = (let e = l.are.1 in omega arith) in
+    let ran = subst (λ (ms : List Mark). Ran old (replicate n i) ms new) l.are.2 l.ran in
+    let s = split_last k old i marks.Starved new (subst (λ (j : ℕ). Ran old (replicate j i) (replicate k marks.Local ++ marks.Starved ∷ []) new) count ran) in
+    record {
+      before = s.before;
+      is = λ fed. absurd (fed refl);
+      steps = steps_many k old old i s.before (steps_none old i) s.ran;
+      last = s.last;
+      other = λ e. absurd (cc e);
+    }
 
 -- a turn of an interpreter that has no line to run is not Local
 pub not_local : (old : WorldView) (i : ℕ) (m : Mark) (new : WorldView) → HasNoLine old i → Turned old i m new → m ≢ marks.Local
@@ -120,20 +146,6 @@ not_local old i m new h t e =
     let o = k.1 in
     let a = h o.before k.0 o.stood o.moves.0 in
     let b = o.moves.1 in
-    omega arith
-
--- how many it has left
-abbrev pub left_of : WorldView → ℕ → ℕ
-left_of w i = w.past.limits.turns - slice_index (map (λ (v : InterpView). v.locals) w.interps) i
-
-pub left_less : (old : WorldView) (i : ℕ) (new : WorldView) → Turned old i marks.Local new → left_of new i < left_of old i
-left_less old i new t =
-    let o = (moved_if old i marks.Local new t local_not_nobody).1 in
-    let a = index-map old.interps i o.before o.stood in
-    let b = index-map new.interps i o.after (now_at old i marks.Local new o) in
-    let c = o.moves.3.locals in
-    let d = o.moves.1 in
-    let e = ap (λ (p : Past). p.limits.turns) o.moves.2 in
     omega arith
 
 -- ---- what the last mark says
@@ -147,9 +159,9 @@ waits old i new n s =
     let o = k.1 in
     record {
       before = s.before;
-      is = s.is;
+      is = s.is (λ e. absurd (cc e));
       past = s.steps.past;
-      because = (k.0, (o.moves.0, at_core s.before i o.before s.is (s.steps.fed n) o.stood ∙ o.moves.1, o.moves.2));
+      because = (k.0, (o.moves.0, at_core s.before i o.before (s.is (λ e. absurd (cc e))) (s.steps.fed n) o.stood ∙ o.moves.1, o.moves.2));
     }
 
 pub spends : (old : WorldView) (i : ℕ) (new : WorldView) → NoneStarved old → Stretched old i marks.Spent new → Stops old.past i IsSpent
@@ -158,9 +170,9 @@ spends old i new n s =
     let o = k.1 in
     record {
       before = s.before;
-      is = s.is;
+      is = s.is (λ e. absurd (cc e));
       past = s.steps.past;
-      because = (k.0, at_core s.before i o.before s.is (s.steps.fed n) o.stood ∙ o.moves.0, (let a = index-map s.before.interps i o.before o.stood in let b = o.moves.1 in omega arith));
+      because = (k.0, at_core s.before i o.before (s.is (λ e. absurd (cc e))) (s.steps.fed n) o.stood ∙ o.moves.0, (let a = index-map s.before.interps i o.before o.stood in let b = o.moves.1 in omega arith));
     }
 
 nobody_is : (w : WorldView) (i : ℕ) (new : WorldView) → IsWorld w → NoneStarved w → MovesOne w i marks.Nobody new → IsNobody (core_of w) i
@@ -172,11 +184,11 @@ nobody_is w i new h n o = elim o.moves.0 [
 pub misses : (old : WorldView) (i : ℕ) (new : WorldView) → NoneStarved old → Stretched old i marks.Nobody new → Stops old.past i IsNobody
 misses old i new n s = record {
   before = s.before;
-  is = s.is;
+  is = s.is (λ e. absurd (cc e));
   past = s.steps.past;
   because = elim (leb_tells (created s.before.past) i) [
     | inl a ↦ inl a.1
-    | inr a ↦ nobody_is s.before i new s.is (s.steps.fed n) (s.last.made a.1)
+    | inr a ↦ nobody_is s.before i new (s.is (λ e. absurd (cc e))) (s.steps.fed n) (s.last.made a.1)
   ];
 }
 
@@ -198,9 +210,9 @@ one_more old i new n s =
     let o = k.1 in
     record {
       before = s.before;
-      is = s.is;
+      is = s.is (λ e. absurd (cc e));
       past = s.steps.past;
-      because = (k.0, (o.moves.0, at_core s.before i o.before s.is (s.steps.fed n) o.stood ∙ o.moves.2, ap is_enabled o.moves.3.replied));
+      because = (k.0, (o.moves.0, at_core s.before i o.before (s.is (λ e. absurd (cc e))) (s.steps.fed n) o.stood ∙ o.moves.2, ap is_enabled o.moves.3.replied));
     }
 
 -- ---- all other marks: nothing changed, and the interpreter can't move

@@ -4,7 +4,6 @@ ghost use Rattle.std.specs.Prelude.{◌≡◌, ◌≢◌, ℕ, List, [], IfOk, I
 ghost use Rattle.si_plain.specs.Characters.{characters_of};
 ghost use Rattle.si_interp.specs.Meaning.{InterpView, Starved};
 ghost use Rattle.si_world.specs.Core.{NoneStarved};
-ghost use Rattle.si_world.specs.declared.mark.Mark.TheVariants as marks;
 ghost use Rattle.si_replay.specs.Replays.{limits_for, core_after, Completes, IsReplayed, IsOfTurns, IsFault, IsWantOfMemory};
 ghost use Rattle.si_replay.specs.inner.Steps.{Stretched, Entered, IsEntryFault, Settled, Rested, IsTailFault, Walked, IsLeft};
 
@@ -17,7 +16,7 @@ use std::alloc::Global;
 
 // Turns of interpreter i until one is marked otherwise than Local: that mark.
 fn stretch(world: &mut World, i: u32) -> Mark
-    ensures { result ≢ marks.Starved → Stretched world.old i result world.new }
+    ensures { Stretched world.old i result world.new }
 {
     let (_lines, starved) = world.lines(i);
     world.facts();

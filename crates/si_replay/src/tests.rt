@@ -42,17 +42,32 @@ fn is_same(one: &Recording, other: &Recording) -> bool {
     }
 }
 
-#[test]
-fn made_again(rt: HostRuntime) -> Result<(), Fail> {
-    let alloc = rt.alloc();
-    let world = served(alloc, "print(6 * 7)\n")?;
+// A run of a script, and the same made again from its schedule.
+fn run_twice(alloc: Global, script: &str) -> Result<(Recording, Recording), Fail> {
+    let world = served(alloc, script)?;
     replays_again(&world);
     let schedule = schedule_of(alloc, &world)?;
-    assert_eq!(rt; schedule.callers().len(), 2);
     let once = world.recording()?;
-    let Ok(again) = replay(alloc, "print(6 * 7)\n", limits(1_000)?, &schedule) else {
+    let Ok(again) = replay(alloc, script, limits(1_000)?, &schedule) else {
         return Err("not replayed")?;
     };
+    Ok((once, again))
+}
+
+#[test]
+fn made_again(rt: HostRuntime) -> Result<(), Fail> {
+    let (once, again) = run_twice(rt.alloc(), "print(6 * 7)\n")?;
+    assert_eq!(rt; again.journal().len(), 2);
+    assert!(rt; is_same(&once, &again));
+    Ok(())
+}
+
+#[test]
+fn two_made_again(rt: HostRuntime) -> Result<(), Fail> {
+    let script =
+        "from concurrent import interpreters\ni = interpreters.create()\ni.exec('print(6 * 7)')\n";
+    let (once, again) = run_twice(rt.alloc(), script)?;
+    assert_eq!(rt; again.reports().len(), 2);
     assert!(rt; is_same(&once, &again));
     Ok(())
 }

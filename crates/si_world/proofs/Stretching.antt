@@ -1,7 +1,7 @@
 -- Turns of one interpreter while nothing is asked of what all share.
 use Rattle.std.proofs.Common.{◌≡◌, ℕ, zero, suc, ◌+◌, ◌<◌, ◌≤◌, List, [], ◌∷◌, ◌++◌, length, length-append, set, replicate, refl, ap, sym, ◌∙◌, subst, arith, inl, inr, Bool, true, false, slice_get, Some}
 use Rattle.std.proofs.lemmas.Bool.Decides.{eqb_tells}
-use Rattle.std.proofs.lemmas.List.{length-set}
+use Rattle.std.proofs.lemmas.List.{length-set, replicate_more}
 use Rattle.si_hub.specs.HubCode.{Past}
 use Rattle.si_interp.specs.Meaning.{InterpView, Stand, Ready, At, Gone, Starved, Shows}
 use Rattle.si_interp.specs.View.{Counts, step_at, starved_view}
@@ -50,14 +50,8 @@ stretched_more turns v u w n m b s h x a l k e = record {
   idle_end = after-append 0 s.marks (m ∷ []) ∙ ap (λ (x : ℕ). idle_after x (m ∷ [])) s.idle_end ∙ e;
 }
 
-replicate_more : {A : Type 0} (n : ℕ) (x : A) → replicate n x ++ x ∷ [] ≡ replicate (suc n) x
-replicate_more zero x = refl
-replicate_more (suc n) x = ap (λ (xs : List _). x ∷ xs) (replicate_more n x)
-
 more_lines : (n : ℕ) (ms : List Mark) → AreLines n false ms → AreLines (n + 1) false (ms ++ marks.Local ∷ [])
-more_lines n ms e =
-    let k : suc n ≡ n + 1 = omega arith in
-    ap (λ (xs : List Mark). xs ++ marks.Local ∷ []) e ∙ replicate_more n marks.Local ∙ ap (λ (j : ℕ). replicate j marks.Local) k
+more_lines n ms e = ap (λ (xs : List Mark). xs ++ marks.Local ∷ []) e ∙ replicate_more n marks.Local
 
 -- a line that counts
 pub stretched_line : (turns : ℕ) (v u w : InterpView) (n : ℕ) → Stretched turns v n false u → u.stand ≡ Ready → u.locals < turns → Counts u w → Stretched turns v (n + 1) false w

@@ -16,7 +16,8 @@ impl World {
         ensures ran { RanLines self.old i result.0 result.1 self.new }
         ensures all { result.1 ≡ false → HasNoLine self.new i }
     {
-        self.some_lines(i, u64::MAX)
+        let turns = self.limits().turns();
+        self.some_lines(i, turns)
     }
 
     // The same of at most `left` turns.
@@ -24,7 +25,7 @@ impl World {
         ensures gives { Gives 0 self.old result.0 self.new (last_idle result.1) }
         ensures within { result.0 ≤ left }
         ensures ran { RanLines self.old i result.0 result.1 self.new }
-        ensures all { left ≡ 18446744073709551615 → result.1 ≡ false → HasNoLine self.new i }
+        ensures all { self.old.past.limits.turns ≤ left → result.1 ≡ false → HasNoLine self.new i }
     {
         if i >= self.made {
             return (0, false);

@@ -113,6 +113,35 @@ fn turns_used_up(rt: HostRuntime) -> Result<(), Fail> {
     Ok(())
 }
 
+// Interpreter 0 makes another, and waits for its run.
+const TWO: &str =
+    "from concurrent import interpreters\ni = interpreters.create()\ni.exec('print(6 * 7)')\n";
+
+#[test]
+fn one_that_is_created_has_its_turns(rt: HostRuntime) -> Result<(), Fail> {
+    let mut world = world(rt.alloc(), TWO, 2, 1_000)?;
+    let recording = recorded(&mut world)?;
+    assert_eq!(rt; recording.end(), End::Finished);
+    assert_eq!(rt; world.created(), 2);
+    let Some(report) = recording.reports().last() else {
+        return Err("no report")?;
+    };
+    assert_eq!(rt; report.id(), 1);
+    assert!(rt; report.printed().as_str() == "42\n");
+    Ok(())
+}
+
+#[test]
+fn run_that_waits_for_good(rt: HostRuntime) -> Result<(), Fail> {
+    let script = "from concurrent import interpreters\ninterpreters.create_queue().get()\n";
+    let mut world = world(rt.alloc(), script, 1, 1_000)?;
+    let recording = recorded(&mut world)?;
+    assert_eq!(rt; recording.end(), End::Stuck);
+    assert_eq!(rt; recording.queues().len(), 1);
+    assert_eq!(rt; world.turn(0), Mark::Waited);
+    Ok(())
+}
+
 // Whether a run has ended since its text isn't read.
 fn is_unread(action: &Action) -> bool {
     matches!(action, Action::End(Outcome::Raised(Kind::SyntaxError, _)))

@@ -33,10 +33,11 @@ pub record Steps (old : WorldView) (i : ℕ) (new : WorldView) : Type 0 where
   pub leads : Leads old new
   pub others : (k : ℕ) → k ≢ i → slice_get new.interps k ≡ slice_get old.interps k
 
--- and a last turn, marked otherwise
+-- and a last turn, marked otherwise. What every world keeps true is known of the world before it where memory was refused in none
+-- of them
 pub record Stretched (old : WorldView) (i : ℕ) (m : Mark) (new : WorldView) : Type 0 where
   pub before : WorldView
-  pub is : IsWorld before
+  pub is : m ≢ marks.Starved → IsWorld before
   pub steps : Steps old i before
   pub last : Turned before i m new
   pub other : m ≢ marks.Local

@@ -248,58 +248,65 @@ fn turns_are_counted(rt: HostRuntime) -> Result<(), Fail> {
     Ok(())
 }
 
+// What words ask of `serial`: its script, and how many interpreters and turns there may be.
+fn serial_asked<'a>(
+    alloc: Global,
+    words: &'a [&'a str],
+) -> Result<(Option<&'a str>, u32, u64), Fail> {
+    let Ok(asked) = request(alloc, words) else {
+        return Err(Fail::from("the words are refused"));
+    };
+    match &asked {
+        Request::Serial { limits, .. } => {
+            Ok((asked.script(), limits.interpreters(), limits.turns()))
+        }
+        _ => Err(Fail::from("another command is asked for")),
+    }
+}
+
 #[test]
 fn words_that_are_taken(rt: HostRuntime) -> Result<(), Fail> {
-    let cases: [(&[&str], Option<&str>, u32, u64); 7] = [
-        (&["subpy", "serial"], None, 8, 1_000_000),
-        (&["subpy", "serial", "a.py"], Some("a.py"), 8, 1_000_000),
-        (
-            &["subpy", "serial", "--", "-a.py"],
-            Some("-a.py"),
-            8,
-            1_000_000,
-        ),
-        (&["subpy", "serial", "--turns", "1"], None, 8, 1),
+    let cases: [(&[&str], Option<&str>); 3] = [
+        (&["subpy", "serial"], None),
+        (&["subpy", "serial", "a.py"], Some("a.py")),
+        (&["subpy", "serial", "--", "-a.py"], Some("-a.py")),
+    ];
+    for (words, wanted) in cases {
+        let (script, interpreters, turns) = serial_asked(rt.alloc(), words)?;
+        assert!(rt; script == wanted);
+        assert_eq!(rt; (interpreters, turns), (8, 1_000_000));
+    }
+    Ok(())
+}
+
+#[test]
+fn words_of_limits(rt: HostRuntime) -> Result<(), Fail> {
+    let both = [
+        "subpy",
+        "serial",
+        "--turns",
+        "1099511627776",
+        "a.py",
+        "--interpreters=1",
+    ];
+    let cases: [(&[&str], Option<&str>, (u32, u64)); 4] = [
+        (&["subpy", "serial", "--turns", "1"], None, (8, 1)),
         (
             &["subpy", "serial", "a.py", "--turns=+007"],
             Some("a.py"),
-            8,
-            7,
+            (8, 7),
         ),
         (
             &["subpy", "serial", "--interpreters", "64", "a.py"],
             Some("a.py"),
-            64,
-            1_000_000,
+            (64, 1_000_000),
         ),
-        (
-            &[
-                "subpy",
-                "serial",
-                "--turns",
-                "1099511627776",
-                "a.py",
-                "--interpreters=1",
-            ],
-            Some("a.py"),
-            1,
-            1_099_511_627_776,
-        ),
+        (&both, Some("a.py"), (1, 1_099_511_627_776)),
     ];
-    for (words, script, interpreters, turns) in cases {
-        let Ok(asked) = request(rt.alloc(), words) else {
-            return Err(Fail::from("the words are refused"));
-        };
-        assert!(rt; asked.script() == script);
-        match &asked {
-            Request::Serial { limits, .. } => {
-                assert_eq!(rt;
-                    (limits.interpreters(), limits.turns()),
-                    (interpreters, turns)
-                )
-            }
-            _ => return Err(Fail::from("another command is asked for")),
-        }
+    for (words, wanted, limits) in cases {
+        let (script, interpreters, turns) = serial_asked(rt.alloc(), words)?;
+        assert!(rt; script == wanted);
+        assert_eq!(rt; (interpreters, turns), limits);
     }
     Ok(())
 }

@@ -7,7 +7,8 @@ use Rattle.clap.specs.Words.{Text, app_of, built, fault_of, first_of, found_of, 
 use Rattle.clap.proofs.OnLiterals.{clap_on_literals}
 use Rattle.clap.proofs.WalkLemmas.{first_value-rows}
 use Rattle.si_plain.specs.Ranges.{Numbers}
-use Rattle.si_cli.specs.Words.{Allows, AllowsTurns, IsReadFrom, IsRepeatFrom, TellsHelp, history, is_help, name_of, repeats, repeats_name, replay, texts}
+use Rattle.si_cli.specs.Words.{Allows, AllowsTurns, IsReadFrom, IsRepeatFrom, TellsHelp, history, is_help, name_of, replay, texts}
+use Rattle.si_cli.specs.inner.Commands.{repeats, repeats_name}
 use Rattle.si_cli.specs.declared.words.Told.{Told}
 use Rattle.si_cli.specs.declared.words.Told.TheVariants as told
 use Rattle.si_cli.specs.inner.Requests.{repeat_in}

@@ -8,7 +8,7 @@ unreachable-requires g c =
     let had = subst (λ (s : State). HasAction g.c.place s.action) (sym c.self.view_is) c.requires in
     absurd (subst (HasAction g.c.place) (sym c.in-None.ensures.value) had)
 
-pub returns-in-Some-clause-asked : goal.returns-in-Some-clause-asked
-returns-in-Some-clause-asked g c =
+pub returns-clause-asked : goal.returns-clause-asked
+returns-clause-asked g c =
     let had = subst (λ (s : State). HasAction g.c.place s.action) (sym c.self.view_is) c.requires in
     subst (HasAction g.c.place) (sym c.in-Some.ensures.value) had

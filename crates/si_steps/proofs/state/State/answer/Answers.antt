@@ -1,19 +1,18 @@
-use Rattle.std.proofs.Common.{◌≡◌, ◌∙◌, Ok, refl, subst, sym, arith}
+use Rattle.std.proofs.Common.{◌≡◌, ◌∙◌, Ok, ap, refl, subst, sym, arith}
 use Rattle.si_arena.specs.declared.object.Object.{Object}
 use Rattle.si_arena.specs.declared.value.Ref.{Ref}
 use Rattle.si_arena.specs.Memory.{object_of, Lies, ObjectLies}
 use Rattle.si_parcel.specs.Shared.{answer_of}
-use Rattle.si_parcel.specs.declared.action.Action.{Action}
-use Rattle.si_methods.specs.declared.request.Awaited.{Awaited}
 use Rattle.si_methods.specs.declared.replying.Replied.{Replied}
 use Rattle.si_methods.specs.Kept.{AwaitedLies}
 use Rattle.si_methods.specs.Given.{answer_in}
 use Rattle.si_methods.specs.Replying.{Replies}
 use Rattle.si_steps.specs.declared.state.State.{State}
+use Rattle.si_steps.specs.declared.state.Standing.TheVariants as standing
 use Rattle.si_steps.specs.inner.Asking.{Fails, KeepsRequest, Resumes}
-use Rattle.si_steps.proofs.Lines.{where_ok}
+use Rattle.si_steps.proofs.Lines.{where_ok, where_err}
 use Rattle.si_steps.proofs.Sources.{at_same}
-use Rattle.si_steps.proofs.Asked.{Awaits, asking, answer_asked, answer_failed, answer_got, answer_starved, awaiting_stands, first_starved, given_line, kept_failed, kept_starved, with_arena}
+use Rattle.si_steps.proofs.Asked.{Awaits, asking_as, answer_asked, answer_failed, answer_got, answer_starved, awaiting_stands, first_starved, given_line, kept_failed, kept_starved, with_arena}
 use Rattle.si_steps.proofs.state.State.answer.Goals as goal
 
 pub reply-requires : goal.reply-requires
@@ -88,8 +87,7 @@ returns-in-Ok-Wants-clause-did g c =
     let room = where_ok c.make_room.result (sym c.is_err.ensures.value ∙ c.if-is_err.false) c.make_room.ensures.ok in
     let waits : Awaits g.q.0 old.target old mid g.q.1 = record { waits = c.requires; target = refl; room = room } in
     let asks = subst (λ (r : Replied). Replies mid.awaited a mid.arena m (Ok r)) k.field-0-is k.ensures in
-    let kept = subst (λ (x : Awaited). c.ask.new.self ≡ asking x _ old.target old.pc (with_arena m mid)) k.awaited-is c.ask.ensures.state in
-    let state = subst (λ (y : Action). c.ask.new.self ≡ asking k.awaited y old.target old.pc (with_arena m mid)) k.action-is kept in
+    let state = asking_as old.target old.pc (with_arena m mid) c.ask.new.self k.awaited-is k.action-is c.ask.ensures.state in
     answer_asked g.q.0 a old.target old mid c.ask.new.self g.q.1 k.awaited k.action m c.ask.result waits asks c.ask.ensures.step state
 
 pub returns-in-Ok-Wants-clause-kept : goal.returns-in-Ok-Wants-clause-kept
@@ -111,3 +109,18 @@ returns-in-Err-clause-kept g c =
     let starved = c.starve-in-Err in
     let room = where_ok c.make_room.result (sym c.is_err.ensures.value ∙ c.if-is_err.false) c.make_room.ensures.ok in
     subst (KeepsRequest old starved.new.self) (sym starved.ensures.step) (kept_starved old.target old c.make_room.new.self starved.new.self c.reply.new.arena room starved.ensures.state)
+
+pub returns-then-is_err-clause-did : goal.returns-then-is_err-clause-did
+returns-then-is_err-clause-did g c =
+    let old = c.args.self.now in
+    let a = answer_in (answer_of c.args.answer.now) in
+    let same = where_err c.make_room.result (sym c.is_err.ensures.value ∙ c.if-is_err.true) c.make_room.ensures.err in
+    let state = c.starve.ensures.state ∙ ap (λ (s : State). let t : State = record s { standing = standing.Starved } in t) same in
+    first_starved g.q.0 (given_line g.q.0 a old.target old g.q.1) old c.starve.new.self g.q.1 c.starve.result c.requires c.starve.ensures.step state
+
+pub returns-then-is_err-clause-kept : goal.returns-then-is_err-clause-kept
+returns-then-is_err-clause-kept g c =
+    let old = c.args.self.now in
+    let same = where_err c.make_room.result (sym c.is_err.ensures.value ∙ c.if-is_err.true) c.make_room.ensures.err in
+    let state = c.starve.ensures.state ∙ ap (λ (s : State). let t : State = record s { standing = standing.Starved } in t) same in
+    subst (KeepsRequest old c.starve.new.self) (sym c.starve.ensures.step) (ap (λ (s : State). s.awaited) state, ap (λ (s : State). s.target) state)

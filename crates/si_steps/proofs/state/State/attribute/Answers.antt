@@ -33,8 +33,8 @@ returns-in-Ok-None g c =
     let has = subst (λ (o : Option Ref). HasAttribute v x s.arena (Ok o)) k.field-0-is named in
     attribute_missing (source_of (words_at s) c.args.source) x (target_of c.args.target) s c.raise_no_attribute.new.self g.p c.in-Ok.value c.raise_no_attribute.result c.requires.0 c.in-Ok.ensures has c.raise_no_attribute.ensures
 
-pub returns-in-Err-attribute : goal.returns-in-Err-attribute
-returns-in-Err-attribute g c =
+pub returns : goal.returns
+returns g c =
     let s = c.args.self.now in
     let v = value_of s.arena c.in-Ok.value in
     let x = text_at s.table.names c.args.slot in

@@ -1,4 +1,4 @@
-use Rattle.std.proofs.Common.{◌≡◌, ◌+◌, ◌∙◌, Ok, Err, subst, sym}
+use Rattle.std.proofs.Common.{◌≡◌, ℕ, ◌+◌, ◌∙◌, Ok, Err, subst, sym}
 use Rattle.si_arena.specs.declared.cause.Cause.{Cause}
 use Rattle.si_arena.specs.declared.cause.Fault.{Fault}
 use Rattle.si_arena.specs.declared.value.Ref.{Ref}
@@ -7,11 +7,17 @@ use Rattle.si_parcel.specs.declared.action.Action.{Action}
 use Rattle.si_methods.specs.declared.request.Awaited.{Awaited}
 use Rattle.si_methods.specs.declared.request.Answered.{Answered}
 use Rattle.si_methods.specs.Answering.{Answers}
+use Rattle.si_slots.specs.declared.operand.Target.{Target}
+use Rattle.si_steps.specs.declared.state.State.{State}
 use Rattle.si_steps.specs.Moments.{Did}
 use Rattle.si_steps.specs.inner.Pieces.{IsUnderWay, Lands, raised_line}
 use Rattle.si_steps.proofs.Lines.{where_ok}
 use Rattle.si_steps.proofs.Asked.{Finds, asking, method_asked, method_gave, method_object, method_passed, method_refused, method_room, method_starved, method_threw, ran_method, with_arena}
 use Rattle.si_steps.proofs.state.State.call_found.Goals as goal
+
+-- what is asked is what was matched
+asks_same : {a b : Awaited} {x y : Action} (s new : State) (g : Target) (next : ℕ) → a ≡ b → x ≡ y → new ≡ asking a x g next s → new ≡ asking b y g next s
+asks_same s new g next e f h = cc
 
 pub arguments-arguments-requires : goal.arguments-arguments-requires
 arguments-arguments-requires g c =
@@ -66,8 +72,7 @@ returns-in-Ok-Asks g c =
     let room = where_ok c.make_room.result (sym c.is_err.ensures.value ∙ c.if-is_err.false) c.make_room.ensures.ok in
     let finds : Finds c.args.target c.args.at c.args.count old mid g.p r rs = record { call = c.requires; room = room; arguments = c.arguments-arguments.ensures } in
     let answers = subst (λ (v : Answered). Answers (ran_method c.args.method mid r rs c.args.names.now) mid.own mid.arena m (Ok v)) k.field-0-is k.ensures in
-    let kept = subst (λ (x : Awaited). c.ask.new.self ≡ asking x _ c.args.target (old.pc + 1) (with_arena m mid)) k.awaited-is c.ask.ensures.state in
-    let state = subst (λ (y : Action). c.ask.new.self ≡ asking k.awaited y c.args.target (old.pc + 1) (with_arena m mid)) k.action-is kept in
+    let state = asks_same (with_arena m mid) c.ask.new.self c.args.target (old.pc + 1) k.awaited-is k.action-is c.ask.ensures.state in
     method_asked c.args.method c.args.target c.args.at c.args.count c.args.names.now old mid c.ask.new.self g.p r rs m k.awaited k.action c.ask.result finds answers c.ask.ensures.step state
 
 pub returns-in-Err-Raises : goal.returns-in-Err-Raises

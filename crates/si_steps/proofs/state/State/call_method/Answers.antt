@@ -74,8 +74,8 @@ returns-then-is_empty g c =
     let none : length c.args.names.now ≡ 0 = eqb-true (length c.args.names.now) 0 (sym c.is_empty.ensures ∙ c.if-is_empty.true) in
     alike _ _ g.p s c.call.new.self c.call.result (ready_call t c.args.at c.args.count x c.args.names.now s g.p r none h is found).1 c.call.ensures
 
-pub returns-else-is_empty : goal.returns-else-is_empty
-returns-else-is_empty g c =
+pub returns : goal.returns
+returns g c =
     let s = c.args.self.now in
     let x = text_at s.table.names c.args.slot in
     let h = c.requires.0 in

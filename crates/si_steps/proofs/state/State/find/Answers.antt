@@ -34,8 +34,8 @@ returns-in-Ok-None g c =
     let is = subst (λ (o : Option Ref). IsCalled v x s.arena (Ok o)) k.field-0-is named in
     found_missing x c.args.at s c.raise_no_attribute.new.self g.p r c.raise_no_attribute.result c.requires.0 c.temporary-object.ensures is c.raise_no_attribute.ensures
 
-pub returns-in-Err-found : goal.returns-in-Err-found
-returns-in-Err-found g c =
+pub returns : goal.returns
+returns g c =
     let s = c.args.self.now in
     let r = c.temporary-object.result in
     let v = value_of s.arena r in

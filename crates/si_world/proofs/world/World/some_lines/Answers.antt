@@ -59,6 +59,6 @@ returns-clause-all c = λ e f.
     has_no_line c.self.inside.hub.past c.self.inside.interps.items c.args.i c.index_mut-interp.result.now c.stretch.new.interp (at (goal.at.returns-clause-all c).After-index_mut-interp)
     (λ r. (
     let t = c.turns-turns.ensures.value ∙ ap (λ (l : Numbers). l.turns) c.limits.ensures in
-    let few = c.turns-turns.type_inv in
+    let w = ap (λ (x : WorldView). x.past.limits.turns) c.self.view_is in
     let h = c.stretch.ensures.all (omega arith) f r in
     omega arith))

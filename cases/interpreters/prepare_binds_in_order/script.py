@@ -1,0 +1,10 @@
+from concurrent import interpreters
+a = interpreters.create()
+b = interpreters.create()
+a.exec('x = 0')
+a.prepare_main(x=1, y='a')
+a.prepare_main(None, x=2)
+a.prepare_main()
+b.exec('x = 5')
+a.exec('print(x, y)')
+b.exec('print(x, __name__)')

@@ -1,0 +1,5 @@
+from concurrent import interpreters
+try:
+    interpreters.create()
+except interpreters.InterpreterError as e:
+    print(e)

@@ -1,0 +1,2 @@
+from concurrent import interpreters
+interpreters.create().close()

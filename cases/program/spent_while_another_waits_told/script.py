@@ -1,0 +1,3 @@
+from concurrent import interpreters
+i = interpreters.create()
+i.exec('while True: pass')

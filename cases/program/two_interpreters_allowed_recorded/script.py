@@ -1,0 +1,3 @@
+from concurrent import interpreters
+interpreters.create()
+interpreters.create()

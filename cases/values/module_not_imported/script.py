@@ -1,0 +1,5 @@
+try:
+    interpreters.create()
+except NameError as e:
+    print(e)
+threading.Thread

@@ -1,0 +1,20 @@
+-- Parts of the definitions of commands, and the two commands that make a run again.
+use Rattle.std.specs.Prelude.{codes}
+use Rattle.clap.specs.Words.{App, Text, new_app, with_rule}
+use Rattle.si_cli.specs.declared.words.Told.{Told}
+use Rattle.si_cli.specs.declared.words.Told.TheVariants as told
+use Rattle.si_cli.specs.Words.{script, interpreters, turns, replay, history}
+
+-- `serial` without `--record PATH`
+abbrev pub limited : App
+limited = with_rule (with_rule (with_rule (new_app (codes "serial")) script) interpreters) turns
+
+-- the command that makes a run again, and tells its report or its history
+abbrev pub repeats : Told → App
+repeats told.Report = replay
+repeats told.History = history
+
+-- its name
+abbrev pub repeats_name : Told → Text
+repeats_name told.Report = codes "replay"
+repeats_name told.History = codes "history"
