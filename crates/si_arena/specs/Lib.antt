@@ -7,4 +7,3 @@ pub mod Tuples
 pub mod Arenas
 pub mod Views
 pub mod Objects
-pub mod inner

@@ -12,6 +12,3 @@ pub mod Tried
 pub mod Silent
 pub mod Elifs
 pub mod LoopStmts
-pub mod TargetCode
-pub mod AssignCode
-pub mod UpdateCode

@@ -5,4 +5,3 @@ pub mod Turns
 pub mod Functions
 pub mod Clauses
 pub mod Silence
-pub mod Stores

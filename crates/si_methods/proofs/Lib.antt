@@ -9,4 +9,3 @@ pub mod Calling
 pub mod Otherwise
 pub mod Made
 pub mod Sending
-pub mod Joined

@@ -3,8 +3,6 @@ pub mod Requests
 pub mod Kept
 pub mod Given
 pub mod Passing
-pub mod Needing
-pub mod Joining
 pub mod Shown
 pub mod Answering
 pub mod Replying

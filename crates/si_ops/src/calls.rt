@@ -11,7 +11,6 @@ ghost use Rattle.si_ops.specs.Calls.{Makes, Calls, Spans, call_of, NeedsNone, Is
 
 use crate::bytes::call_bytes;
 use crate::line::push_line;
-use crate::lists::call_list;
 use crate::operand::integer_in;
 use crate::provided::{
     call_abs, call_bool, call_chr, call_int, call_len, call_max, call_min, call_ord,
@@ -36,7 +35,7 @@ pub enum Called {
 /// `NotCallable` for any other value, `WrongArguments`, `WrongType`, `Arithmetic`, `TooDeep` and `TooLong` as the
 /// definition raises them. Where nothing is given, the arena and the text of `line` are as before. Memory is asked for
 /// neither by `print`, where the line has room, nor by `tuple`, where it makes none, nor by what makes no str, no bytes, no
-/// range, no list and no exception, nor where the value can't be called.
+/// range and no exception, nor where the value can't be called.
 pub fn call(
     arena: &mut Arena,
     line: &mut String,
@@ -115,10 +114,6 @@ fn call_built_in(
         BuiltIn::Tuple => {
             let tuple = call_tuple(arena, arguments)?;
             Ok(Called::Value(tuple))
-        }
-        BuiltIn::List => {
-            let list = call_list(arena, arguments)?;
-            Ok(Called::Value(list))
         }
     }
 }

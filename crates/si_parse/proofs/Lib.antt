@@ -18,8 +18,6 @@ pub mod Starts
 pub mod Sound
 pub mod Complete
 pub mod Unbracketed
-pub mod Targets
-pub mod Assigned
 pub mod Statements
 pub mod Handlers
 pub mod Blocks

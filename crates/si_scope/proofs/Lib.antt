@@ -1,5 +1,4 @@
 pub mod Apart
-pub mod Bound
 pub mod Declared
 pub mod Resolved
 pub mod Sets

@@ -68,8 +68,6 @@ fn resolve_stmt(
         Stmt::Evaluate(_)
         | Stmt::Assign(_)
         | Stmt::Augment(_)
-        | Stmt::AugmentItem(_)
-        | Stmt::Delete(_)
         | Stmt::Pass
         | Stmt::Import(_, _)
         | Stmt::Raise(_) => Ok(()),

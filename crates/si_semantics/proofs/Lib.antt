@@ -1,5 +1,4 @@
 pub mod Growing
-pub mod Further
 pub mod Worked
 pub mod WorkedFunctions
 pub mod WorkedExceptions
@@ -9,9 +8,6 @@ pub mod WorkedBuiltIns
 pub mod WorkedSequences
 pub mod WorkedBytes
 pub mod WorkedTuples
-pub mod WorkedLists
-pub mod WorkedTargets
-pub mod WorkedDicts
 pub mod WorkedAttributes
 pub mod WorkedModule
 pub mod WorkedScope
@@ -28,5 +24,4 @@ pub mod Rows
 pub mod Journals
 pub mod Cutting
 pub mod Deriving
-pub mod NotTargets
 pub mod WorkedGrammar

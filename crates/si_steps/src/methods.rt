@@ -119,7 +119,6 @@ impl State {
                 Step::Local
             }
             Ok(Answered::Asks(awaited, action)) => self.ask(awaited, action, target, next),
-            Ok(Answered::NoKey(key)) => self.raise_key(key),
             Err(Fault::Raises(cause)) => self.raise(cause),
             Err(Fault::NoMemory) => self.starve(),
         }

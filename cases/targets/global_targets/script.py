@@ -1,6 +1,0 @@
-def f():
-    global a, b
-    a, b = 1, [2]
-    b[0] += a
-f()
-print(a, b)

@@ -1,4 +1,0 @@
-pub mod Written
-pub mod Equal
-pub mod Held
-pub mod Objects
