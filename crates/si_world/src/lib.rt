@@ -21,7 +21,6 @@ mod world;
 
 pub use ending::End;
 pub use mark::Mark;
-pub use moving::stretch;
 pub use recording::{QueueItems, Recording};
 pub use report::{Report, Standing};
 pub use world::World;

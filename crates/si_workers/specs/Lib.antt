@@ -1,4 +1,0 @@
-pub mod Books
-pub mod BookCode
-pub mod Gathers
-pub mod inner

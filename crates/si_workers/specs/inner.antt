@@ -1,4 +1,0 @@
--- What stands between the definitions and the code.
-pub mod Slots
-pub mod Books
-pub mod Members
