@@ -11,12 +11,14 @@ use Rattle.si_history.specs.History.{history}
 use Rattle.si_world.specs.Worlds.{WorldView}
 use Rattle.si_world.specs.Reports.{recorded}
 use Rattle.si_replay.specs.Replays.{schedule_in, limits_for, core_after, Completes, IsReplayed, IsOfTurns, IsFault, IsWantOfMemory}
+use Rattle.si_workers.specs.Gathers.{IsGathered}
+use Rattle.si_workers.specs.declared.fault.RunFault.TheVariants as run_faults
 use Rattle.si_replay.specs.declared.fault.ReplayFault.{ReplayFault}
 use Rattle.si_replay.specs.declared.fault.ReplayFault.TheVariants as replay_faults
 use Rattle.si_cli.specs.declared.fault.CliFault.{CliFault}
-use Rattle.si_cli.specs.declared.fault.CliFault.TheVariants.{Write, Script, Schedule as BadSchedule, Replay as NotFollowed, NoMemory, Input}
+use Rattle.si_cli.specs.declared.fault.CliFault.TheVariants.{Write, Script, Schedule as BadSchedule, Replay as NotFollowed, Run as NotRun, NoMemory, Input}
 use Rattle.si_cli.specs.declared.asked.Request.{Request}
-use Rattle.si_cli.specs.declared.asked.Request.TheVariants.{Serial, Check, Replay, History}
+use Rattle.si_cli.specs.declared.asked.Request.TheVariants.{Serial, Run, Check, Replay, History}
 use Rattle.si_cli.specs.Report.{report_of, status_of}
 use Rattle.si_cli.specs.Runs.{IsRunOf}
 
@@ -101,11 +103,37 @@ pub record TellsHistory (limits : Numbers) (script schedule : List ℕ) (old new
   pub lines : Appends old new (encode_utf8_all (history recording.past.journal))
   pub status_is : answer ≡ status_of recording
 
+-- what is recorded of a run by worker threads of a script that is read, within these limits
+pub record HasWorked (limits : Numbers) (script : List ℕ) (recording : WorldView) : Type 0 where
+  pub body : Stmts
+  pub read : IsScript script body
+  pub gathered : IsGathered (characters_of (without_mark script)) limits recording
+
+-- such a run is reported, and its schedule saved where it is asked for
+pub record ReportsWorked (limits : Numbers) (is_saved : Bool) (script : List ℕ) (old new saved_old saved_new : Option (List ℕ)) (answer : ℕ) : Type 0 where
+  pub recording : WorldView
+  pub worked : HasWorked limits script recording
+  pub report : Appends old new (encode_utf8_all (report_of recording))
+  pub status_is : answer ≡ status_of recording
+  pub saved : Saves is_saved recording saved_old saved_new
+
+-- a request is that of `run`, which is carried out by worker threads, and no other is
+abbrev pub IsOfThreads : Request → Type 0
+IsOfThreads (Run path limits at) = Unit {0}
+IsOfThreads _ = ⊥
+
+-- a request of `run` is carried out: the run of the script by worker threads is reported, and its schedule saved where a path
+-- for it is named
+abbrev pub Works : Request → (script : List ℕ) → (old new saved_old saved_new : Option (List ℕ)) → ℕ → Type 0
+Works (Run path limits at) script old new saved_old saved_new answer = ReportsWorked limits (is_some at) script old new saved_old saved_new answer
+Works _ script old new saved_old saved_new answer = ⊥
+
 -- a request is carried out: `serial` reports the run of the script, and saves its schedule where a path for it is named;
 -- `check` tells that it is well formed, and runs nothing of it; `replay` reports the run that has the schedule, and `history`
--- tells its history. These three save nothing
+-- tells its history. These three save nothing. `run` is carried out by worker threads (`Works`)
 abbrev pub Answers : Request → (script schedule : List ℕ) → (old new saved_old saved_new : Option (List ℕ)) → ℕ → Type 0
 Answers (Serial path limits at) script schedule old new saved_old saved_new answer = Reports limits (is_some at) script old new saved_old saved_new answer
+Answers (Run path limits at) script schedule old new saved_old saved_new answer = ⊥
 Answers (Check path) script schedule old new saved_old saved_new answer = SaysOk script old new answer × Keeps saved_old saved_new
 Answers (Replay path plan limits) script schedule old new saved_old saved_new answer = ReportsAgain limits script schedule old new answer × Keeps saved_old saved_new
 Answers (History path plan limits) script schedule old new saved_old saved_new answer = TellsHistory limits script schedule old new answer × Keeps saved_old saved_new
@@ -156,11 +184,13 @@ abbrev pub IsNotRepeated : Numbers → (script schedule : List ℕ) → CliFault
 IsNotRepeated limits script schedule (BadSchedule line) = IsBadSchedule schedule line
 IsNotRepeated limits script schedule (NotFollowed fault) = IsNotFollowed limits script schedule fault
 IsNotRepeated limits script schedule Input = ⊥
+IsNotRepeated limits script schedule (NotRun fault) = ⊥
 IsNotRepeated limits script schedule _ = Unit {0}
 
 -- of schedules only the two commands tell a fault that read one
 abbrev pub IsOfPlan : Request → (script schedule : List ℕ) → CliFault → Type 0
 IsOfPlan (Serial path limits at) script schedule fault = IsOfRun fault
+IsOfPlan (Run path limits at) script schedule fault = ⊥
 IsOfPlan (Check path) script schedule fault = IsOfRun fault
 IsOfPlan (Replay path plan limits) script schedule fault = IsNotRepeated limits script schedule fault
 IsOfPlan (History path plan limits) script schedule fault = IsNotRepeated limits script schedule fault
@@ -171,6 +201,7 @@ LeavesAlone old new Write = Unit {0}
 LeavesAlone old new (Script line) = Keeps old new
 LeavesAlone old new (BadSchedule line) = Keeps old new
 LeavesAlone old new (NotFollowed fault) = Keeps old new
+LeavesAlone old new (NotRun fault) = Keeps old new
 LeavesAlone old new NoMemory = Keeps old new
 LeavesAlone old new Input = ⊥
 
@@ -189,3 +220,28 @@ SavesFirst is_saved script limits old new saved_old saved_new fault = Keeps save
 abbrev pub LeavesSaved : Request → List ℕ → (old new saved_old saved_new : Option (List ℕ)) → CliFault → Type 0
 LeavesSaved (Serial path limits at) script old new saved_old saved_new fault = SavesFirst (is_some at) script limits old new saved_old saved_new fault
 LeavesSaved request script old new saved_old saved_new fault = Keeps saved_old saved_new
+
+-- a fault of a run by worker threads, and of reporting it; where memory was refused, that is told as `NoMemory`
+abbrev pub IsOfWork : CliFault → Type 0
+IsOfWork (Script line) = Unit {0}
+IsOfWork (NotRun run_faults.NoMemory) = ⊥
+IsOfWork (NotRun fault) = Unit {0}
+IsOfWork NoMemory = Unit {0}
+IsOfWork Write = Unit {0}
+IsOfWork _ = ⊥
+
+-- the schedule of a run by worker threads is saved
+pub record IsWorkSaved (script : List ℕ) (limits : Numbers) (old new : Option (List ℕ)) : Type 0 where
+  pub recording : WorldView
+  pub worked : HasWorked limits script recording
+  pub saved : Appends old new (text_of (schedule_in recording))
+
+-- after a fault of a write the report is not begun, or the schedule is saved, where it is asked for; after another nothing is
+-- saved, nor where it is not asked for
+abbrev pub SavesWork : Bool → List ℕ → Numbers → (old new saved_old saved_new : Option (List ℕ)) → CliFault → Type 0
+SavesWork true script limits old new saved_old saved_new Write = Keeps old new ⊎ IsWorkSaved script limits saved_old saved_new
+SavesWork is_saved script limits old new saved_old saved_new fault = Keeps saved_old saved_new
+
+abbrev pub LeavesWork : Request → List ℕ → (old new saved_old saved_new : Option (List ℕ)) → CliFault → Type 0
+LeavesWork (Run path limits at) script old new saved_old saved_new fault = SavesWork (is_some at) script limits old new saved_old saved_new fault
+LeavesWork request script old new saved_old saved_new fault = Keeps saved_old saved_new

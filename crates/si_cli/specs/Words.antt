@@ -9,7 +9,7 @@ use Rattle.clap.specs.declared.error.kind.ErrorKind.{ErrorKind}
 use Rattle.clap.specs.declared.error.kind.ErrorKind.TheVariants.{DisplayHelp, DisplayVersion}
 use Rattle.si_plain.specs.Ranges.{Numbers, is_interpreter_count, is_turn_count}
 use Rattle.si_cli.specs.declared.asked.Request.{Request}
-use Rattle.si_cli.specs.declared.asked.Request.TheVariants.{Serial, Check, Replay, History}
+use Rattle.si_cli.specs.declared.asked.Request.TheVariants.{Serial, Run, Check, Replay, History}
 use Rattle.si_cli.specs.declared.words.WordsFault.{WordsFault}
 use Rattle.si_cli.specs.declared.words.WordsFault.TheVariants.{Words, NoMemory}
 
@@ -41,6 +41,10 @@ planning = record (new_rule (codes "schedule")) { long = Some (codes "schedule")
 abbrev pub serial : App
 serial = with_rule (with_rule (with_rule (with_rule (new_app (codes "serial")) script) interpreters) turns) saving
 
+-- the command `run [SCRIPT] [--interpreters N] [--turns N] [--record PATH]`
+abbrev pub run : App
+run = with_rule (with_rule (with_rule (with_rule (new_app (codes "run")) script) interpreters) turns) saving
+
 -- the command `check [SCRIPT]`
 abbrev pub check : App
 check = with_rule (new_app (codes "check")) script
@@ -56,6 +60,7 @@ history = with_rule (with_rule (with_rule (new_app (codes "history")) script) pl
 -- the name of the command that is asked for
 abbrev pub name_of : Request → Text
 name_of (Serial path limits at) = codes "serial"
+name_of (Run path limits at) = codes "run"
 name_of (Check path) = codes "check"
 name_of (Replay path plan limits) = codes "replay"
 name_of (History path plan limits) = codes "history"
@@ -71,6 +76,7 @@ path_among command words = first_of (codes "SCRIPT") (matches_of command words)
 -- the path of a request's script
 abbrev pub path_of : Request → Option Text
 path_of (Serial path limits at) = option_map (λ p. p.now) path
+path_of (Run path limits at) = option_map (λ p. p.now) path
 path_of (Check path) = option_map (λ p. p.now) path
 path_of (Replay path plan limits) = option_map (λ p. p.now) path
 path_of (History path plan limits) = option_map (λ p. p.now) path
@@ -78,6 +84,7 @@ path_of (History path plan limits) = option_map (λ p. p.now) path
 -- the path of the schedule that a request reads
 abbrev pub schedule_of : Request → Option Text
 schedule_of (Serial path limits at) = None
+schedule_of (Run path limits at) = None
 schedule_of (Check path) = None
 schedule_of (Replay path plan limits) = Some plan.now
 schedule_of (History path plan limits) = Some plan.now
@@ -85,6 +92,7 @@ schedule_of (History path plan limits) = Some plan.now
 -- the path at which a request saves its schedule
 abbrev pub saved_of : Request → Option Text
 saved_of (Serial path limits at) = option_map (λ p. p.now) at
+saved_of (Run path limits at) = option_map (λ p. p.now) at
 saved_of (Check path) = None
 saved_of (Replay path plan limits) = None
 saved_of (History path plan limits) = None
@@ -123,6 +131,12 @@ AllowsTurns (Some text) n = Writes text n × (is_turn_count n ≡ true)
 abbrev pub Allows : (interpreters turns : Option Text) → Numbers → Type 0
 Allows i t limits = AllowsInterpreters i limits.interpreters × AllowsTurns t limits.turns
 
+-- a script's path, limits and the path of a saved schedule are what the words of a command that runs a script say
+abbrev pub IsRunFrom : App → List Text → (path : Option Text) → Numbers → (at : Option Text) → Type 0
+IsRunFrom command words path limits at = (path ≡ path_among command words)
+    × Allows (interpreters_among command words) (turns_among command words) limits
+    × (at ≡ saved_among command words)
+
 -- a script's path, a schedule's and limits are what the words of a command that makes a run again say
 abbrev pub IsRepeatFrom : App → List Text → (path plan : Option Text) → Numbers → Type 0
 IsRepeatFrom command words path plan limits = (path ≡ path_among command words) × (plan ≡ schedule_among command words)
@@ -130,9 +144,8 @@ IsRepeatFrom command words path plan limits = (path ≡ path_among command words
 
 -- a request is what the words from the command's name on say
 abbrev pub IsReadFrom : List Text → Request → Type 0
-IsReadFrom words (Serial path limits at) = (path_of (Serial path limits at) ≡ path_among serial words)
-    × Allows (interpreters_among serial words) (turns_among serial words) limits
-    × (saved_of (Serial path limits at) ≡ saved_among serial words)
+IsReadFrom words (Serial path limits at) = IsRunFrom serial words (path_of (Serial path limits at)) limits (saved_of (Serial path limits at))
+IsReadFrom words (Run path limits at) = IsRunFrom run words (path_of (Run path limits at)) limits (saved_of (Run path limits at))
 IsReadFrom words (Check path) = path_of (Check path) ≡ path_among check words
 IsReadFrom words (Replay path plan limits) = IsRepeatFrom replay words (path_of (Replay path plan limits)) (Some plan.now) limits
 IsReadFrom words (History path plan limits) = IsRepeatFrom history words (path_of (History path plan limits)) (Some plan.now) limits
@@ -145,9 +158,9 @@ IsSaidBy words request = Names words (name_of request) × IsReadFrom (drop 1 wor
 abbrev pub Takes : App → List Text → Type 0
 Takes command words = fault_of command words ≡ []
 
--- `serial` takes the words from its name on, and they allow limits
-abbrev pub AreRead : List Text → Type 0
-AreRead words = Takes serial words × ((limits : Numbers) × Allows (interpreters_among serial words) (turns_among serial words) limits)
+-- a command that runs a script takes the words from its name on, and they allow limits
+abbrev pub AreRun : App → List Text → Type 0
+AreRun command words = Takes command words × ((limits : Numbers) × Allows (interpreters_among command words) (turns_among command words) limits)
 
 -- a command that makes a run again takes the words from its name on, they name a schedule, and they allow limits
 abbrev pub AreRepeat : App → List Text → Type 0
@@ -157,10 +170,11 @@ AreRepeat command words = Takes command words × ((plan : Text) × (schedule_amo
 -- the words name a command that takes the words from its name on, with numbers within their limits
 abbrev pub AreTaken : List Text → Type 0
 AreTaken words =
-    Names words (codes "serial") × AreRead (drop 1 words)
+    Names words (codes "serial") × AreRun serial (drop 1 words)
+    ⊎ (Names words (codes "run") × AreRun run (drop 1 words)
     ⊎ (Names words (codes "check") × Takes check (drop 1 words)
     ⊎ (Names words (codes "replay") × AreRepeat replay (drop 1 words)
-    ⊎ Names words (codes "history") × AreRepeat history (drop 1 words)))
+    ⊎ Names words (codes "history") × AreRepeat history (drop 1 words))))
 
 -- what clap finds asks for help, or for a version, which no command here has
 abbrev pub is_help : ErrorKind → Bool
@@ -180,7 +194,9 @@ is_word (Some word) text = bytes_eq word text
 -- what help is asked of: the program where nothing is named, or a command
 abbrev pub is_topic : Option Text → Bool
 is_topic None = true
-is_topic (Some word) = bytes_eq word (codes "serial") || (bytes_eq word (codes "check") || (bytes_eq word (codes "replay") || bytes_eq word (codes "history")))
+is_topic (Some word) =
+    bytes_eq word (codes "serial") || (bytes_eq word (codes "run") || (bytes_eq word (codes "check")
+    || (bytes_eq word (codes "replay") || bytes_eq word (codes "history"))))
 
 -- the words ask for help: the second is `-h` or `--help`, or `help` with nothing or a command after it, or names a
 -- command whose help the words from there on ask for
@@ -190,9 +206,10 @@ asks_help words =
     is_word second (codes "-h") || (is_word second (codes "--help")
     || ((is_word second (codes "help") && is_topic (slice_get words 2))
     || ((is_word second (codes "serial") && helps serial (drop 1 words))
+    || ((is_word second (codes "run") && helps run (drop 1 words))
     || ((is_word second (codes "check") && helps check (drop 1 words))
     || ((is_word second (codes "replay") && helps replay (drop 1 words))
-    || (is_word second (codes "history") && helps history (drop 1 words)))))))
+    || (is_word second (codes "history") && helps history (drop 1 words))))))))
 
 -- a fault tells help just where it is asked for; one of memory tells nothing
 abbrev pub TellsHelp : Bool → WordsFault → Type 0

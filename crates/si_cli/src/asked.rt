@@ -15,6 +15,12 @@ pub enum Request<'a> {
         limits: Limits,
         saved: Option<&'a str>,
     },
+    /// Run the script, each interpreter by a thread of its own, and report; the rest is as for `Serial`.
+    Run {
+        script: Option<&'a str>,
+        limits: Limits,
+        saved: Option<&'a str>,
+    },
     /// Say whether the script is read and well scoped, and run nothing of it.
     Check {
         script: Option<&'a str>,
@@ -41,6 +47,7 @@ impl<'a> Request<'a> {
     {
         match self {
             Request::Serial { script, .. } => *script,
+            Request::Run { script, .. } => *script,
             Request::Check { script } => *script,
             Request::Replay { script, .. } => *script,
             Request::History { script, .. } => *script,
@@ -53,6 +60,7 @@ impl<'a> Request<'a> {
     {
         match self {
             Request::Serial { .. } => None,
+            Request::Run { .. } => None,
             Request::Check { .. } => None,
             Request::Replay { schedule, .. } => Some(*schedule),
             Request::History { schedule, .. } => Some(*schedule),
@@ -65,6 +73,7 @@ impl<'a> Request<'a> {
     {
         match self {
             Request::Serial { saved, .. } => *saved,
+            Request::Run { saved, .. } => *saved,
             Request::Check { .. } => None,
             Request::Replay { .. } => None,
             Request::History { .. } => None,

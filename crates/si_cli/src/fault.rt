@@ -1,9 +1,10 @@
 // Why a command stops without a report.
 
 ghost use Rattle.std.specs.Prelude.{◌≡◌};
-ghost use Rattle.si_cli.specs.Status.{status_of_fault, status_of_replay};
+ghost use Rattle.si_cli.specs.Status.{status_of_fault, status_of_replay, status_of_run_fault};
 
 use si_replay::ReplayFault;
+use si_workers::RunFault;
 use std::alloc::AllocError;
 use thiserror::Error;
 
@@ -23,6 +24,9 @@ pub enum CliFault {
     /// The schedule can't be followed.
     #[error("{0}")]
     Replay(ReplayFault),
+    /// The script's worker threads came to no recording.
+    #[error("{0}")]
+    Run(RunFault),
     /// Memory was refused.
     #[error("out of memory")]
     NoMemory,
@@ -42,13 +46,15 @@ impl From<AllocError> for CliFault {
 }
 
 impl CliFault {
-    /// The status of a program that stops for this: 5 where memory was refused, also to an interpreter, else 2.
+    /// The status of a program that stops for this: 5 where memory was refused, also to an interpreter, 6 where a thread can't be
+    /// started or what the workers left doesn't hold together, else 2.
     pub fn status(&self) -> u8
         ensures { result ≡ status_of_fault self.now }
     {
         match self {
             CliFault::NoMemory => 5,
             CliFault::Replay(fault) => status_of_replay(*fault),
+            CliFault::Run(fault) => status_of_run_fault(*fault),
             CliFault::Write | CliFault::Script(_) | CliFault::Schedule(_) | CliFault::Input => 2,
         }
     }
@@ -65,5 +71,16 @@ fn status_of_replay(fault: ReplayFault) -> u8
         ReplayFault::Nobody(_) => 2,
         ReplayFault::Spent(_) => 2,
         ReplayFault::Unfinished => 2,
+    }
+}
+
+// The status where worker threads came to no recording.
+fn status_of_run_fault(fault: RunFault) -> u8
+    ensures { result ≡ status_of_run_fault fault }
+{
+    match fault {
+        RunFault::NoMemory => 5,
+        RunFault::NoThread => 6,
+        RunFault::Broken(_) => 6,
     }
 }

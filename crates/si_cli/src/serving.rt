@@ -4,7 +4,7 @@ ghost use Rattle.std.specs.Prelude.{◌≡◌, IfErr, IfOk, IsOkUnless, IsUtf8, 
 ghost use Rattle.std.specs.Io.KnownBytes.{Keeps};
 ghost use Rattle.si_semantics.specs.Layout.{line_at};
 ghost use Rattle.si_semantics.specs.Tree.{Stmts};
-ghost use Rattle.si_cli.specs.Service.{Answers, IsOfPlan, IsOfScript, HasRun, IsOfRun, IsReadable, IsRefusal, IsReported, IsScript, LeavesAlone, LeavesSaved, Reports, SavesFirst, SaysOk, without_mark};
+ghost use Rattle.si_cli.specs.Service.{Answers, IsOfPlan, IsOfScript, IsOfThreads, HasRun, IsOfRun, IsReadable, IsRefusal, IsReported, IsScript, LeavesAlone, LeavesSaved, Reports, SavesFirst, SaysOk, without_mark};
 
 use crate::asked::Request;
 use crate::fault::CliFault;
@@ -22,7 +22,7 @@ use std::io::Write;
 /// A byte order mark in UTF-8.
 const MARK: [u8; 3] = [0xef, 0xbb, 0xbf];
 
-/// Carries out a request, and answers the program's status.
+/// Carries out a request of any command but `run` (for that one there is `serve_run`), and answers the program's status.
 ///
 /// `Serial` runs the script, all interpreters turn by turn in rounds until none can be moved, and appends the report to
 /// `out`; before its first byte the schedule that was taken is appended to `saved`, if that is asked for. `Replay` makes the
@@ -47,6 +47,7 @@ pub fn serve<A: Write, B: Write>(
     saved: &mut A,
     out: &mut B,
 ) -> Result<u8, CliFault>
+    requires { IsOfThreads request.now → ⊥ }
     ensures answers { IfOk result
         (Answers request.now script.now schedule.now (B.contents out.old) (B.contents out.new) (A.contents saved.old) (A.contents saved.new)) }
     // Only a script that is not read is refused as a script.
@@ -64,6 +65,7 @@ pub fn serve<A: Write, B: Write>(
             saved: at,
             ..
         } => { serial(alloc, script, *limits, at.is_some(), saved, out) }
+        Request::Run { .. } => unreachable!(),
         Request::Check { .. } => check(alloc, script, out),
         Request::Replay { limits, .. } => repeat(alloc, script, schedule, *limits, out),
         Request::History { limits, .. } => tell_history(alloc, script, schedule, *limits, out),

@@ -5,9 +5,9 @@ ghost use Rattle.std.specs.Prelude.{◌≡◌, ℕ, IfNone, IfOk, IfErr, IfSome,
 ghost use Rattle.clap.specs.Words.{app_of, kind_of, rule_of};
 ghost use Rattle.si_cli.specs.Status.{status_of_words};
 ghost use Rattle.si_plain.specs.Ranges.{Numbers};
-ghost use Rattle.si_cli.specs.Words.{Allows, AllowsInterpreters, AllowsTurns, AreRead, AreRepeat, AreTaken, IsReadFrom, IsSaidBy, Takes, TellsHelp, asks_help, check, helps, history, interpreters, is_help, is_topic, name_of, planning, replay, saving, script, serial, texts, turns};
-ghost use Rattle.si_cli.specs.inner.Commands.{limited, repeats, repeats_name};
-ghost use Rattle.si_cli.specs.inner.Requests.{repeat_in};
+ghost use Rattle.si_cli.specs.Words.{Allows, AllowsInterpreters, AllowsTurns, AreRepeat, AreRun, AreTaken, IsReadFrom, IsSaidBy, Takes, TellsHelp, asks_help, check, helps, history, interpreters, is_help, is_topic, name_of, planning, replay, run, saving, script, serial, texts, turns};
+ghost use Rattle.si_cli.specs.inner.Commands.{limited, limited_run, repeats, repeats_name, runs, runs_name};
+ghost use Rattle.si_cli.specs.inner.Requests.{repeat_in, run_in};
 
 use crate::asked::Request;
 use clap::error::ErrorKind;
@@ -22,6 +22,8 @@ Usage: subpy COMMAND [ARGUMENTS]
 Commands:
   serial [SCRIPT] [--interpreters N] [--turns N] [--record PATH]
                   Runs a script, one turn after another, and prints its report
+  run [SCRIPT] [--interpreters N] [--turns N] [--record PATH]
+                  Runs a script, each interpreter by a thread of its own, and prints its report
   replay [SCRIPT] --schedule PATH [--turns N]
                   Makes a run again from its schedule, and prints its report
   history [SCRIPT] --schedule PATH [--turns N]
@@ -36,6 +38,7 @@ Statuses:
   3  a run waits for what can't come
   4  turns were used up
   5  memory was refused
+  6  a thread can't be started
 ";
 
 const SERIAL_HELP: &str =
@@ -44,6 +47,11 @@ const SERIAL_HELP: &str =
 'end: stuck' where a run waits for what can't come, 'end: spent' where an interpreter's turns were
 used up, or 'end: starved' where memory was refused to one. With --record the order in which interpreters
 acted is written to a file, before the report: a schedule, from which replay makes the same run again.";
+
+const RUN_HELP: &str =
+    "The report is as that of serial. The interpreters run at once, so the order in which they act may be another
+each time; with --record it is written to a file, before the report: a schedule, from which replay makes the
+same run again.";
 
 const REPLAY_HELP: &str =
     "The schedule is a file that --record has made: how many interpreters there may be, and whose actions are
@@ -57,6 +65,13 @@ asked, what it asked, ' = ', and what it was answered.";
 const CHECK_HELP: &str =
     "The line 'ok' is printed where the script can be read, and its statements and names stand where they
 may. Otherwise the fault is told on standard error, with status 2. Nothing of the script is run.";
+
+/// What moves the interpreters of a run.
+#[derive(Clone, Copy, Debug, PartialEq, Eq)]
+pub(crate) enum Mover {
+    Turns,
+    Threads,
+}
 
 /// What is told of a run that is made again.
 #[derive(Clone, Copy, Debug, PartialEq, Eq)]
@@ -116,7 +131,10 @@ pub fn request<'a>(alloc: Global, words: &'a [&'a str]) -> Result<Request<'a>, W
         return Err(refused(alloc, "no command is named"));
     };
     if *name == "serial" {
-        return serial_request(alloc, &words[1..]);
+        return run_request(alloc, &words[1..], Mover::Turns);
+    }
+    if *name == "run" {
+        return run_request(alloc, &words[1..], Mover::Threads);
     }
     if *name == "check" {
         return check_request(alloc, &words[1..]);
@@ -134,29 +152,54 @@ pub fn request<'a>(alloc: Global, words: &'a [&'a str]) -> Result<Request<'a>, W
     })
 }
 
-/// The request of the words from `serial` on.
-fn serial_request<'a>(alloc: Global, words: &'a [&'a str]) -> Result<Request<'a>, WordsFault>
-    ensures name { IfOk result (λ request. name_of request ≡ codes "serial") }
+/// The request of the words from the name of a command on that runs a script.
+fn run_request<'a>(
+    alloc: Global,
+    words: &'a [&'a str],
+    mover: Mover,
+) -> Result<Request<'a>, WordsFault>
+    ensures name { IfOk result (λ request. name_of request ≡ runs_name mover) }
     ensures said { IfOk result (IsReadFrom (texts words.entry.now)) }
-    ensures only { IfOk result (λ _. AreRead (texts words.entry.now)) }
-    ensures taken { IfErr result (λ fault. AreRead (texts words.entry.now) → fault ≡ WordsFault.NoMemory) }
-    ensures help { IfErr result (TellsHelp (helps serial (texts words.entry.now))) }
+    ensures only { IfOk result (λ _. AreRun (runs mover) (texts words.entry.now)) }
+    ensures taken { IfErr result (λ fault. AreRun (runs mover) (texts words.entry.now) → fault ≡ WordsFault.NoMemory) }
+    ensures help { IfErr result (TellsHelp (helps (runs mover) (texts words.entry.now))) }
 {
-    let command = serial_command(alloc)?;
+    let command = run_command(alloc, mover)?;
     match command.try_get_matches_from(words) {
         Ok(matches) => {
+            let script = matches.get_str("SCRIPT");
             let interpreters = matches.get_str("interpreters");
             let turns = matches.get_str("turns");
+            let saved = matches.get_str("record");
             match limits_of(alloc, interpreters, turns) {
-                Ok(limits) => Ok(Request::Serial {
-                    script: matches.get_str("SCRIPT"),
-                    limits,
-                    saved: matches.get_str("record"),
-                }),
+                Ok(limits) => Ok(run_of(mover, script, limits, saved)),
                 Err(fault) => Err(fault),
             }
         }
         Err(error) => Err(words_fault(alloc, &error)),
+    }
+}
+
+/// The request to run a script.
+fn run_of<'a>(
+    mover: Mover,
+    script: Option<&'a str>,
+    limits: Limits,
+    saved: Option<&'a str>,
+) -> Request<'a>
+    ensures { result ≡ run_in mover script.entry limits saved.entry }
+{
+    match mover {
+        Mover::Turns => Request::Serial {
+            script,
+            limits,
+            saved,
+        },
+        Mover::Threads => Request::Run {
+            script,
+            limits,
+            saved,
+        },
     }
 }
 
@@ -281,6 +324,16 @@ fn with_turns(limits: Limits, turns: Option<&str>) -> Option<Limits>
     }
 }
 
+/// The definition of the command that runs a script.
+fn run_command<'a>(alloc: Global, mover: Mover) -> Result<Command<'a>, AllocError>
+    ensures { IfOk result (λ command. app_of command ≡ runs mover) }
+{
+    match mover {
+        Mover::Turns => serial_command(alloc),
+        Mover::Threads => threads_command(alloc),
+    }
+}
+
 /// The definition of `serial`.
 fn serial_command<'a>(alloc: Global) -> Result<Command<'a>, AllocError>
     ensures { IfOk result (λ command. app_of command ≡ serial) }
@@ -296,6 +349,26 @@ fn limited_command<'a>(alloc: Global) -> Result<Command<'a>, AllocError>
         .about("Runs a script, one turn after another, and prints the report of each interpreter.")
         .override_usage("subpy serial [SCRIPT] [--interpreters N] [--turns N] [--record PATH]")
         .after_help(SERIAL_HELP)
+        .arg(script_argument(alloc))?
+        .arg(interpreters_argument(alloc))?
+        .arg(turns_argument(alloc))
+}
+
+/// The definition of `run`.
+fn threads_command<'a>(alloc: Global) -> Result<Command<'a>, AllocError>
+    ensures { IfOk result (λ command. app_of command ≡ run) }
+{
+    limited_run_command(alloc)?.arg(saving_argument(alloc))
+}
+
+/// The same without `--record`.
+fn limited_run_command<'a>(alloc: Global) -> Result<Command<'a>, AllocError>
+    ensures { IfOk result (λ command. app_of command ≡ limited_run) }
+{
+    Command::new(alloc, "run")
+        .about("Runs a script, each interpreter by a thread of its own, and prints the report of each.")
+        .override_usage("subpy run [SCRIPT] [--interpreters N] [--turns N] [--record PATH]")
+        .after_help(RUN_HELP)
         .arg(script_argument(alloc))?
         .arg(interpreters_argument(alloc))?
         .arg(turns_argument(alloc))
@@ -513,6 +586,7 @@ fn help_of(alloc: Global, words: &[&str]) -> WordsFault
         None => general_help(alloc),
         Some(name) => match *name {
             "serial" => command_help(serial_command(alloc)),
+            "run" => command_help(threads_command(alloc)),
             "check" => command_help(check_command(alloc)),
             "replay" => command_help(replay_command(alloc)),
             "history" => command_help(history_command(alloc)),

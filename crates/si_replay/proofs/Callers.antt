@@ -6,6 +6,7 @@ use Rattle.si_semantics.specs.History.{Call}
 use Rattle.si_schedule.specs.Schedules.{IsSchedule}
 use Rattle.si_world.specs.Legal.{exchange, calls_of}
 use Rattle.si_world.specs.Worlds.{WorldView, IsWorld}
+use Rattle.si_world.specs.Reports.{IsRecorded}
 use Rattle.si_replay.specs.Replays.{callers}
 use Rattle.si_replay.proofs.Ordering.{calls-split, no_calls}
 
@@ -30,3 +31,9 @@ callers_schedule w n by h en eb least most count = record {
   each = subst (λ (m : ℕ). AllByRecursion (λ i. i < m) by) (sym en) (subst (λ (xs : List ℕ). AllByRecursion (λ i. i < w.past.limits.interpreters) xs) (sym eb) (callers_below w h [] w.past.journal refl));
   count = count;
 }
+
+-- those of a recording too
+pub recorded_schedule : (r : WorldView) (n : ℕ) (by : List ℕ) → IsRecorded r → n ≡ r.past.limits.interpreters → by ≡ callers r.past.journal → 1 ≤ n → n ≤ 64 → length by < 2 ^ 64
+    → IsSchedule (record { interpreters = n; callers = by })
+recorded_schedule r n by h en eb least most count =
+    callers_schedule h.left n by h.is (en ∙ ap (λ (w : WorldView). w.past.limits.interpreters) h.seen) (eb ∙ ap (λ (w : WorldView). callers w.past.journal) h.seen) least most count

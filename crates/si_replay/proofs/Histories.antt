@@ -47,7 +47,7 @@ unfolding Told state_after
 told_at w s [] c cs t = t.0
 told_at w s (d ∷ done) c cs t = told_at w (state_then w s d.by d.action) done c cs t.1
 
-acts_at : (p : Past) (done : List Call) (c : Call) (cs : List Call) → IsTold (past_at p (done ++ c ∷ cs)) → Acts (past_at p done) c.by c.action c.answer (past_at p (done ++ c ∷ []))
+pub acts_at : (p : Past) (done : List Call) (c : Call) (cs : List Call) → IsTold (past_at p (done ++ c ∷ cs)) → Acts (past_at p done) c.by c.action c.answer (past_at p (done ++ c ∷ []))
 acts_at p done c cs t =
     let w = p.limits.interpreters in
     let f = first_state p.script in
@@ -56,7 +56,7 @@ acts_at p done c cs t =
       journal = refl;
     }
 
-after_grows : (p : Past) (done cs : List Call) → IsTold (past_at p (done ++ cs)) → created (past_at p done) ≤ created (past_at p (done ++ cs))
+pub after_grows : (p : Past) (done cs : List Call) → IsTold (past_at p (done ++ cs)) → created (past_at p done) ≤ created (past_at p (done ++ cs))
 after_grows p done [] t = let e = ap (λ (x : List Call). created (past_at p x)) (append-nil done) in omega arith
 after_grows p done (c ∷ cs) t =
     let a = grows_more (past_at p done) (past_at p (done ++ c ∷ [])) c.by c.action c.answer (acts_at p done c cs t) in

@@ -1,6 +1,6 @@
 -- The beginnings of lists.
 use Rattle.std.proofs.Common.{◌≡◌, ℕ, zero, suc, ◌+◌, ◌≤◌, List, [], ◌∷◌, ◌++◌, length, map, take, refl, ap, sym, ◌∙◌, arith, add-one, slice_get, Some, None, false}
-use Rattle.std.proofs.lemmas.List.{map-append}
+use Rattle.std.proofs.lemmas.List.{map-append, length-take}
 use Rattle.si_plain.specs.Ranges.{Numbers}
 use Rattle.si_semantics.specs.Value.{Text}
 use Rattle.si_semantics.specs.Shared.{Queue}
@@ -8,7 +8,8 @@ use Rattle.si_semantics.specs.History.{Call}
 use Rattle.si_hub.specs.HubCode.{Past}
 use Rattle.si_interp.specs.Meaning.{InterpView}
 use Rattle.si_interp.specs.View.{taken_view}
-use Rattle.si_world.specs.Worlds.{WorldView, IsWorld}
+use Rattle.si_world.specs.Worlds.{WorldView, world, created, IsWorld}
+use Rattle.si_world.specs.Reports.{IsRecorded}
 use Rattle.si_world.specs.inner.Copies.{AllFree}
 
 take_suc : {X : Type 0} (xs : List X) (i : ℕ) (x : X) → slice_get xs i ≡ Some x → take (suc i) xs ≡ take i xs ++ x ∷ []
@@ -56,3 +57,17 @@ past_is p s l j a b c =
     ap (λ (x : Text). (let q : Past = record { script = x; limits = l; journal = j } in q)) a
     ∙ ap (λ (x : Numbers). (let q : Past = record { script = p.script; limits = x; journal = j } in q)) b
     ∙ ap (λ (x : List Call). (let q : Past = record { script = p.script; limits = p.limits; journal = x } in q)) c
+
+-- what is recorded of a world
+pub recorded_is : (p : Past) (vs rs : List InterpView) → rs ≡ take (created p) vs → IsWorld (world p vs) → IsRecorded (world p rs)
+recorded_is p vs rs e h = record { left = world p vs; is = h; seen = ap (world p) e }
+
+-- there are no more reports than the limits allow interpreters
+pub few_recorded : (r : WorldView) → IsRecorded r → length r.interps ≤ r.past.limits.interpreters
+few_recorded r h =
+    let a = h.is.few in
+    let b = length-take (created h.left.past) h.left.interps in
+    let c = ap (λ (w : WorldView). length w.interps) h.seen in
+    let d = ap (λ (w : WorldView). w.past.limits.interpreters) h.seen in
+    let e = h.is.count in
+    omega arith

@@ -46,7 +46,7 @@ stands_so w i v m at fed =
     ∙ ap (λ (j : ℕ). course_stand j (answers_of v.log) v.locals) (sym m.id) ∙ sym f
 
 -- and has printed what it says
-prints_so : (w : WorldView) (i : ℕ) (v : InterpView) → IsMember w.past i v → slice_get w.interps i ≡ Some v → v.stand ≢ Starved → core_text (core_of w) i ≡ v.printed
+pub prints_so : (w : WorldView) (i : ℕ) (v : InterpView) → IsMember w.past i v → slice_get w.interps i ≡ Some v → v.stand ≢ Starved → core_text (core_of w) i ≡ v.printed
 prints_so w i v m at fed =
     let f = (m.shows.follows fed).text in
     let a : answers_to i w.past.journal ≡ answers_of v.log = ap (λ (es : List Exchange). map (λ (e : Exchange). e.answer) es) m.log ∙ answers-exchanges v.log in

@@ -1,5 +1,5 @@
 -- What is recorded of a world, and how a recording ends (this project's own).
-use Rattle.std.specs.Prelude.{ℕ, ◌+◌, List, [], ◌∷◌, nat_lt, nat_le, if◌then◌else◌, take, map}
+use Rattle.std.specs.Prelude.{◌≡◌, ℕ, ◌+◌, List, [], ◌∷◌, nat_lt, nat_le, if◌then◌else◌, take, map}
 use Rattle.si_semantics.specs.Parcels.{Tree}
 use Rattle.si_semantics.specs.Shared.{Queue, is_take}
 use Rattle.si_parcel.specs.Shared.{action_of}
@@ -10,7 +10,7 @@ use Rattle.si_world.specs.declared.report.Standing.{Standing}
 use Rattle.si_world.specs.declared.report.Standing.TheVariants as standing
 use Rattle.si_world.specs.declared.ending.End.{End}
 use Rattle.si_world.specs.declared.ending.End.TheVariants as end
-use Rattle.si_world.specs.Worlds.{WorldView, world, created}
+use Rattle.si_world.specs.Worlds.{WorldView, world, created, IsWorld}
 
 -- how an interpreter stands, by a value of the code
 abbrev pub stand_of : Standing → Stand
@@ -55,6 +55,12 @@ members w = take (created w.past) w.interps
 -- what is recorded of a world
 abbrev pub recorded : WorldView → WorldView
 recorded w = world w.past (members w)
+
+-- this is recorded of some world
+pub record IsRecorded (r : WorldView) : Type 0 where
+  pub left : WorldView
+  pub is : IsWorld left
+  pub seen : r ≡ recorded left
 
 -- what each queue holds after a past, by its number
 abbrev pub queue_items : Past → List (List Tree)

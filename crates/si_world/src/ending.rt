@@ -1,11 +1,12 @@
 // How a recording ends.
 
-ghost use Rattle.std.specs.Prelude.{◌≡◌, ◌≢◌, take};
+ghost use Rattle.std.specs.Prelude.{◌≡◌, ◌≢◌, ◌≤◌, length, take};
 ghost use Rattle.si_parcel.specs.Shared.{action_of};
 ghost use Rattle.si_interp.specs.Meaning.{At};
 ghost use Rattle.si_world.specs.Marks.{AtRest};
 ghost use Rattle.si_world.specs.Reports.{end_by, end_of, first_of_ends, members, rank};
 
+use crate::report::{Report, Standing};
 use crate::world::World;
 use si_hub::Hub;
 use si_interp::{Interp, State};
@@ -83,6 +84,36 @@ fn end_waiting(hub: &Hub, action: &Action, i: u32) -> End
         Action::Take => End::Finished,
         _ => End::Stuck,
     }
+}
+
+// What the report of one interpreter says of the end.
+fn end_seen(hub: &Hub, report: &Report, i: u32) -> End
+    ensures { result ≡ end_by hub.now.past i report.now.locals report.now.stand }
+{
+    match report.standing() {
+        Standing::Ready => {
+            if report.locals() < hub.limits().turns() {
+                End::Open
+            } else {
+                End::Spent
+            }
+        }
+        Standing::AtAction(action) => end_waiting(hub, action, i),
+        Standing::Gone => End::Finished,
+        Standing::Starved => End::Starved,
+    }
+}
+
+// How interpreters end that these are the reports of, by their numbers.
+pub(crate) fn end_of_reports(hub: &Hub, reports: &[Report]) -> End
+    requires { length reports.now ≤ 64 }
+    ensures { result ≡ end_of hub.now.past reports.now }
+{
+    let mut end = End::Finished;
+    for i in 0..reports.len() as u32 {
+        end = end.first(end_seen(hub, &reports[i as usize], i));
+    }
+    end
 }
 
 impl World {

@@ -21,6 +21,7 @@ mod world;
 
 pub use ending::End;
 pub use mark::Mark;
+pub use moving::stretch;
 pub use recording::{QueueItems, Recording};
 pub use report::{Report, Standing};
 pub use world::World;

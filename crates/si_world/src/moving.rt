@@ -119,8 +119,9 @@ fn run_lines(interp: &mut Interp, most: u64) -> (u64, bool)
     (given, false)
 }
 
-// At most `left` lines of an interpreter with its turns, as far as it has any to run.
-pub(crate) fn stretch(interp: &mut Interp, turns: u64, left: u64) -> (u64, bool)
+/// At most `left` lines of an interpreter with these turns, as far as it has any to run: how many turns these were, and whether
+/// memory was refused to it in the last of them.
+pub fn stretch(interp: &mut Interp, turns: u64, left: u64) -> (u64, bool)
     requires small { turns ≤ 1099511627776 }
     ensures stretched { Stretched turns interp.old result.0 result.1 interp.new }
     ensures within { result.0 ≤ left }

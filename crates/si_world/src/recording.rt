@@ -2,11 +2,11 @@
 
 ghost use Rattle.std.specs.Prelude.{◌≡◌, ◌≤◌, ◌<◌, IfOk, IfSome, MatchOption, None, Some, length, slice_get, take};
 ghost use Rattle.si_plain.specs.Characters.{characters_of};
-ghost use Rattle.si_world.specs.Worlds.{created};
-ghost use Rattle.si_world.specs.Reports.{end_of, queue_items, recorded};
+ghost use Rattle.si_world.specs.Worlds.{created, world};
+ghost use Rattle.si_world.specs.Reports.{end_of, queue_items, recorded, IsRecorded};
 ghost use Rattle.si_world.specs.inner.Copies.{AllFree};
 
-use crate::ending::End;
+use crate::ending::{End, end_of_reports};
 use crate::report::Report;
 use crate::world::World;
 use si_hub::{Call, Hub};
@@ -79,7 +79,7 @@ impl Model for Recording {
     ghost use Rattle.std.specs.Prelude.{◌≡◌};
     ghost use Rattle.si_world.specs.Worlds.{WorldView};
     ghost use Rattle.si_world.specs.WorldCode.{world_code};
-    ghost use Rattle.si_world.specs.Reports.{end_of, queue_items};
+    ghost use Rattle.si_world.specs.Reports.{end_of, queue_items, IsRecorded};
 
     ghost Value = { WorldView };
 
@@ -87,7 +87,7 @@ impl Model for Recording {
 
     ghost view = { λ r. record { past = record { script = r.script; limits = r.limits; journal = r.journal.items }; interps = r.reports.items } };
 
-    ghost invariant = { λ r. (r.queues.items ≡ queue_items (record { script = r.script; limits = r.limits; journal = r.journal.items })) × (r.end ≡ end_of (record { script = r.script; limits = r.limits; journal = r.journal.items }) r.reports.items) };
+    ghost invariant = { λ r. (r.queues.items ≡ queue_items (record { script = r.script; limits = r.limits; journal = r.journal.items })) × (r.end ≡ end_of (record { script = r.script; limits = r.limits; journal = r.journal.items }) r.reports.items) × IsRecorded (record { past = record { script = r.script; limits = r.limits; journal = r.journal.items }; interps = r.reports.items }) };
 }
 
 // The same calls again.
@@ -158,13 +158,27 @@ impl World {
     pub fn recording(&self) -> Result<Recording, NoMemory>
         ensures { IfOk result (λ r. r ≡ recorded self.now) }
     {
-        let alloc = self.alloc;
-        let script = Text::from_str(alloc, self.hub.script())?;
-        let limits = self.hub.limits();
-        let journal = copy_calls(alloc, self.hub.journal())?;
-        let queues = copy_queues(alloc, &self.hub)?;
-        let reports = copy_reports(alloc, self.interps.as_slice(), self.made)?;
-        let end = self.end();
+        let reports = copy_reports(self.alloc, self.interps.as_slice(), self.made)?;
+        Recording::of(self.alloc, &self.hub, reports)
+    }
+}
+
+impl Recording {
+    /// What is seen of a hub, by copy, with the reports of all interpreters that were created in it, by their numbers.
+    ///
+    /// # Errors
+    ///
+    /// `NoMemory` where memory was refused.
+    pub fn of(alloc: Global, hub: &Hub, reports: Vec<Report>) -> Result<Recording, NoMemory>
+        requires { IsRecorded (world hub.now.past reports.items) }
+        ensures { IfOk result (λ r. r ≡ world hub.now.past reports.items) }
+    {
+        let script = Text::from_str(alloc, hub.script())?;
+        let limits = hub.limits();
+        let journal = copy_calls(alloc, hub.journal())?;
+        let queues = copy_queues(alloc, hub)?;
+        let _most = limits.interpreters();
+        let end = end_of_reports(hub, reports.as_slice());
         Ok(Recording {
             script,
             limits,
@@ -174,9 +188,14 @@ impl World {
             end,
         })
     }
-}
 
-impl Recording {
+    /// It is recorded of a world. Costs nothing.
+    pub fn facts(&self)
+        ensures { IsRecorded self.now }
+    {
+        let _ = &self.journal;
+    }
+
     /// The script of interpreter 0's first run.
     pub fn script(&self) -> &str
         ensures { characters_of result.now ≡ self.now.past.script }

@@ -7,16 +7,30 @@
 #[cfg(test)]
 mod tests;
 
-use si_cli::{CliFault, MAX_SCHEDULE_BYTES, Request, WordsFault, read_input, request, serve};
+use si_cli::{
+    CliFault, MAX_SCHEDULE_BYTES, Request, WordsFault, read_input, request, serve, serve_run,
+};
 use si_plain::limits::MAX_FILE_BYTES;
+use si_workers::Gate;
 use std::alloc::AllocError;
 use std::fs::File;
 use std::io::{BufWriter, Write};
 use std::process::ExitCode;
+use std::sync::Wait;
+use std::thread::Threads;
 use std::{fmt, io};
 
 /// How many bytes of a report are gathered before they are written.
 const WRITE_SIZE: usize = 65_536;
+
+/// What is told of the stretches of worker threads: nothing is done then.
+struct Open;
+
+impl Gate for Open {
+    fn before(&self, _i: u32) {}
+
+    fn after(&self, _i: u32) {}
+}
 
 /// Where a file's bytes come from, or go to, as messages name it.
 #[derive(Clone, Copy)]
@@ -95,8 +109,9 @@ fn tell_fault(rt: &HostRuntime, request: &Request, fault: CliFault) -> u8 {
 }
 
 /// Carries out a request on the bytes of its files, and gives the program's status.
-fn carry_out_on<W: Write>(
+fn carry_out_on<W: Write, T: Threads + Wait + Sync>(
     rt: &HostRuntime,
+    threads: &T,
     request: &Request,
     script: &[u8],
     schedule: &[u8],
@@ -105,15 +120,28 @@ fn carry_out_on<W: Write>(
     let Ok(mut out) = BufWriter::with_capacity(rt.alloc(), WRITE_SIZE, io::writer(rt)) else {
         return tell(rt, CliFault::NoMemory, CliFault::NoMemory.status());
     };
-    match serve(rt.alloc(), request, script, schedule, saved, &mut out) {
+    let answer = match request {
+        Request::Run { .. } => serve_run(
+            threads,
+            rt.alloc(),
+            request,
+            script,
+            saved,
+            &mut out,
+            &Open,
+        ),
+        _ => serve(rt.alloc(), request, script, schedule, saved, &mut out),
+    };
+    match answer {
         Ok(status) => status,
         Err(fault) => tell_fault(rt, request, fault),
     }
 }
 
 /// Carries out a request whose schedule is saved at a path, and gives the program's status.
-fn carry_out_saving(
+fn carry_out_saving<T: Threads + Wait + Sync>(
     rt: &HostRuntime,
+    threads: &T,
     request: &Request,
     script: &[u8],
     schedule: &[u8],
@@ -123,19 +151,23 @@ fn carry_out_saving(
         return tell(rt, format_args!("can't write {}", Source(Some(path))), 2);
     };
     match BufWriter::with_capacity(rt.alloc(), WRITE_SIZE, file) {
-        Ok(mut saved) => carry_out_on(rt, request, script, schedule, &mut saved),
+        Ok(mut saved) => carry_out_on(rt, threads, request, script, schedule, &mut saved),
         Err(_) => tell(rt, CliFault::NoMemory, CliFault::NoMemory.status()),
     }
 }
 
 /// Carries out a request, and gives the program's status.
-fn carry_out(rt: &HostRuntime, request: &Request) -> Result<u8, u8> {
+fn carry_out<T: Threads + Wait + Sync>(
+    rt: &HostRuntime,
+    threads: &T,
+    request: &Request,
+) -> Result<u8, u8> {
     let script = bytes_of(rt, &Source(request.script()), MAX_FILE_BYTES)?;
     let schedule = schedule_bytes(rt, request)?;
     let (script, schedule) = (script.as_slice(), schedule.as_slice());
     Ok(match request.saved() {
-        None => carry_out_on(rt, request, script, schedule, &mut io::sink()),
-        Some(path) => carry_out_saving(rt, request, script, schedule, path),
+        None => carry_out_on(rt, threads, request, script, schedule, &mut io::sink()),
+        Some(path) => carry_out_saving(rt, threads, request, script, schedule, path),
     })
 }
 
@@ -152,8 +184,8 @@ fn answer_words(rt: &HostRuntime, fault: &WordsFault) -> u8 {
     }
 }
 
-/// Does what the words ask, and gives the program's status.
-fn answer(rt: &HostRuntime) -> Result<u8, AllocError> {
+/// Does what the words ask, and gives the program's status. `threads` is what may start threads, and wait for them.
+fn answer<T: Threads + Wait + Sync>(rt: &HostRuntime, threads: &T) -> Result<u8, AllocError> {
     let words: Vec<String> = match std::env::args(rt) {
         Ok(words) => words.collect(rt.alloc())?,
         Err(error) if error.kind() == io::ErrorKind::OutOfMemory => return Err(AllocError),
@@ -161,13 +193,13 @@ fn answer(rt: &HostRuntime) -> Result<u8, AllocError> {
     };
     let words: Vec<&str> = words.iter().map(|word| word.as_str()).collect(rt.alloc())?;
     match request(rt.alloc(), words.as_slice()) {
-        Ok(request) => Ok(carry_out(rt, &request).unwrap_or_else(|status| status)),
+        Ok(request) => Ok(carry_out(rt, threads, &request).unwrap_or_else(|status| status)),
         Err(fault) => Ok(answer_words(rt, &fault)),
     }
 }
 
 fn main(rt: HostRuntime) -> ExitCode {
-    match answer(&rt) {
+    match answer(&rt, &rt) {
         Ok(status) => ExitCode::from(status),
         Err(_) => ExitCode::from(tell(&rt, "out of memory", 5)),
     }

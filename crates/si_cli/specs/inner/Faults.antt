@@ -1,6 +1,7 @@
 -- Which faults the parts of a command have.
+use Rattle.si_workers.specs.declared.fault.RunFault.TheVariants as run_faults
 use Rattle.si_cli.specs.declared.fault.CliFault.{CliFault}
-use Rattle.si_cli.specs.declared.fault.CliFault.TheVariants.{Write, Script, Schedule as BadSchedule, Replay as NotFollowed, NoMemory}
+use Rattle.si_cli.specs.declared.fault.CliFault.TheVariants.{Write, Script, Schedule as BadSchedule, Replay as NotFollowed, Run as NotRun, NoMemory}
 
 -- a fault of saving a schedule
 abbrev pub IsOfSaving : CliFault → Type 0
@@ -15,3 +16,11 @@ IsOfRepeating (BadSchedule line) = Unit {0}
 IsOfRepeating (NotFollowed fault) = Unit {0}
 IsOfRepeating NoMemory = Unit {0}
 IsOfRepeating _ = ⊥
+
+-- a fault of a run by worker threads, before anything is written
+abbrev pub IsOfWorking : CliFault → Type 0
+IsOfWorking (Script line) = Unit {0}
+IsOfWorking (NotRun run_faults.NoMemory) = ⊥
+IsOfWorking (NotRun fault) = Unit {0}
+IsOfWorking NoMemory = Unit {0}
+IsOfWorking _ = ⊥

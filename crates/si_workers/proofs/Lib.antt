@@ -1,0 +1,7 @@
+mod Rousing
+mod Booking
+mod Logs
+mod Scripts
+mod Finding
+mod Left
+mod Crossing

@@ -1,0 +1,15 @@
+use Rattle.std.proofs.Common.{◌≡◌, ◌∙◌, ap, sym, slice_get, Some}
+use Rattle.std.proofs.lemmas.Option.{slice_get_within}
+use Rattle.si_hub.specs.HubCode.{Past}
+use Rattle.si_parcel.specs.Shared.{action_of}
+use Rattle.si_workers.specs.Books.{Busy, BookView}
+use Rattle.si_workers.proofs.Booking.{book_roused, book_waits}
+use Rattle.si_workers.proofs.book.Book.act.Goals as goal
+
+pub invariant_of-self : goal.invariant_of-self
+invariant_of-self c =
+    book_roused c.self.inside.hub.past c.act.new.self.past c.self.inside.slots.items c.rouse_all.new.slots.items c.self.invariant
+    (ap (λ (p : Past). p.limits) c.in-Ok.ensures.ok.journal) c.facts.ensures.told c.rouse_all.ensures
+
+pub set_slot-requires : goal.set_slot-requires
+set_slot-requires c = slice_get_within c.self.inside.slots.items c.args.i Busy (ap (λ (b : BookView). slice_get b.slots c.args.i) c.self.view_is ∙ c.requires)

@@ -1,0 +1,6 @@
+use Rattle.std.proofs.Common.{◌≡◌, replicate}
+use Rattle.si_workers.specs.Books.{Busy}
+use Rattle.si_workers.proofs.book.Book.new.Given as goal
+
+abbrev pub invariant-loop-k : goal.invariant-loop-k
+invariant-loop-k l = l.slots.items ≡ replicate l._k Busy

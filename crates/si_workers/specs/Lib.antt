@@ -1,0 +1,4 @@
+pub mod Books
+pub mod BookCode
+pub mod Gathers
+pub mod inner

@@ -1,0 +1,203 @@
+// What workers leave, put together.
+
+ghost use Rattle.std.specs.Prelude.{◌≡◌, ◌≢◌, ◌<◌, ◌≤◌, ◌⊎◌, ℕ, ◌+◌, IfOk, IfErr, IfSome, IfNone, OnOk, Some, None, ◌++◌, ◌∷◌, [], true, false, if◌then◌else◌, length, slice_get};
+ghost use Rattle.si_plain.specs.Characters.{characters_of};
+ghost use Rattle.si_interp.specs.Meaning.{InterpView};
+ghost use Rattle.si_world.specs.Legal.{calls_of, exchanges};
+ghost use Rattle.si_world.specs.Worlds.{IsMember, created};
+ghost use Rattle.si_world.specs.inner.Counting.{is_created};
+ghost use Rattle.si_workers.specs.Gathers.{IsGathered, IsOfReports, IsReport, IsMissing, IsDoubled, IsUnfit, IsStrange, IsRunFault};
+ghost use Rattle.si_workers.specs.inner.Members.{AreMembers, IsMemberFault};
+
+use crate::agreeing::agrees;
+use crate::book::Book;
+use crate::fault::RunFault;
+use crate::worked::Worked;
+use si_hub::{Call, Hub};
+use si_parcel::Answer;
+use si_plain::{Limits, NoMemory};
+use si_world::{End, Recording, Report};
+use std::alloc::Global;
+
+// Whether the hub is of this script and of these limits.
+fn is_of(hub: &Hub, script: &str, limits: Limits) -> bool
+    ensures yes { result ≡ true → (hub.now.past.script ≡ characters_of script.now) × (hub.now.past.limits ≡ limits) }
+    ensures no { result ≡ false → IsStrange hub.now.past (characters_of script.now) limits }
+{
+    hub.script() == script && hub.limits() == limits
+}
+
+// How many interpreters were created after a call, where so many were before it.
+fn created_after(call: &Call, made: u32) -> u32
+    requires { made ≤ 64 }
+    ensures { result ≡ (if is_created call.now.answer then made + 1 else made) }
+{
+    match call.answer {
+        Answer::Created(_) => made + 1,
+        _ => made,
+    }
+}
+
+// How many interpreters were created.
+fn created(hub: &Hub) -> u32
+    ensures { result ≡ created hub.now.past }
+{
+    hub.facts();
+    let _most = hub.limits().interpreters();
+    let journal = hub.journal();
+    let mut made = 1;
+    for call in journal {
+        made = created_after(call, made);
+    }
+    made
+}
+
+// The first place of a report of interpreter i from this place on.
+fn first_from(worked: &[Worked], i: u32, from: usize) -> Option<usize>
+    ensures some { IfSome result (λ k. (from ≤ k) × ((v : InterpView) × IsReport worked.now i k v)) }
+    ensures none { IfNone result ((k : ℕ) (v : InterpView) → from ≤ k → IsReport worked.now i k v → ⊥) }
+{
+    for k in from..worked.len() {
+        if worked[k].id() == i {
+            return Some(k);
+        }
+    }
+    None
+}
+
+// The place of interpreter i's report, if it has one and no other.
+fn place_of(worked: &[Worked], i: u32) -> Option<usize>
+    ensures some { IfSome result (λ k. (v : InterpView) × IsReport worked.now i k v) }
+    ensures none { IfNone result (IsMissing worked.now i ⊎ IsDoubled worked.now i) }
+{
+    match first_from(worked, i, 0) {
+        None => None,
+        Some(place) => match first_from(worked, i, place + 1) {
+            None => Some(place),
+            Some(_) => None,
+        },
+    }
+}
+
+// Whether the report of interpreter i has the journal's calls of it, and no more lines than there are turns.
+fn is_member(hub: &Hub, seen: &Worked, i: u32) -> bool
+    requires { seen.now.id ≡ i }
+    ensures yes { result ≡ true → IsMember hub.now.past i seen.now }
+    ensures no { result ≡ false → (calls_of i hub.now.past.journal ≢ exchanges seen.now.log) ⊎ (hub.now.past.limits.turns < seen.now.locals) }
+{
+    seen.facts();
+    if seen.locals() > hub.limits().turns() {
+        return false;
+    }
+    agrees(hub.journal(), i, seen.log())
+}
+
+// The report of interpreter i, by copy.
+fn member(alloc: Global, hub: &Hub, worked: &[Worked], i: u32) -> Result<Report, RunFault>
+    requires { i < hub.now.past.limits.interpreters }
+    ensures is { IfOk result (IsMember hub.now.past i) }
+    ensures from { IfOk result (λ v. (k : ℕ) × IsReport worked.now i k v) }
+    ensures fault { IfErr result (IsMemberFault hub.now.past worked.now) }
+{
+    match place_of(worked, i) {
+        None => Err(RunFault::Broken(i)),
+        Some(place) => {
+            let seen = &worked[place];
+            if !is_member(hub, seen, i) {
+                return Err(RunFault::Broken(i));
+            }
+            match seen.report(alloc) {
+                Ok(report) => Ok(report),
+                Err(_) => Err(RunFault::NoMemory),
+            }
+        }
+    }
+}
+
+// One report more.
+fn add(reports: &mut Vec<Report>, report: Report) -> Result<(), NoMemory>
+    ensures { OnOk result (reports.new.items ≡ reports.old.items ++ report ∷ []) }
+{
+    reports.push(report)?;
+    Ok(())
+}
+
+// The reports of all interpreters that the limits allow, by their numbers.
+fn members(alloc: Global, hub: &Hub, worked: &[Worked]) -> Result<Vec<Report>, RunFault>
+    ensures are { IfOk result (λ rs. AreMembers hub.now.past worked.now hub.now.past.limits.interpreters rs.items) }
+    ensures fault { IfErr result (IsMemberFault hub.now.past worked.now) }
+{
+    let mut reports = Vec::new(alloc);
+    for i in 0..hub.limits().interpreters() {
+        match member(alloc, hub, worked, i) {
+            Err(fault) => return Err(fault),
+            Ok(report) => add(&mut reports, report)?,
+        }
+    }
+    Ok(reports)
+}
+
+// What is recorded of a hub of this script and limits, with the reports of all interpreters.
+fn record(alloc: Global, hub: &Hub, worked: &[Worked]) -> Result<Recording, RunFault>
+    ensures gathered { IfOk result (IsGathered hub.now.past.script hub.now.past.limits) }
+    ensures of { IfOk result (IsOfReports hub.now.past worked.now) }
+    ensures fault { IfErr result (IsRunFault hub.now.past worked.now hub.now.past.script hub.now.past.limits) }
+{
+    match members(alloc, hub, worked) {
+        Err(fault) => Err(fault),
+        Ok(reports) => record_reports(alloc, hub, worked, reports),
+    }
+}
+
+// The same, with the reports of all interpreters that the limits allow, by their numbers.
+fn record_reports(
+    alloc: Global,
+    hub: &Hub,
+    worked: &[Worked],
+    reports: Vec<Report>,
+) -> Result<Recording, RunFault>
+    requires { AreMembers hub.now.past worked.now hub.now.past.limits.interpreters reports.items }
+    ensures gathered { IfOk result (IsGathered hub.now.past.script hub.now.past.limits) }
+    ensures of { IfOk result (IsOfReports hub.now.past worked.now) }
+    ensures fault { IfErr result (IsRunFault hub.now.past worked.now hub.now.past.script hub.now.past.limits) }
+{
+    hub.facts();
+    let mut reports = reports;
+    reports.truncate(created(hub) as usize);
+    match Recording::of(alloc, hub, reports) {
+        Err(_) => Err(RunFault::NoMemory),
+        Ok(recording) => match recording.end() {
+            End::Open => Err(RunFault::Broken(0)),
+            _ => Ok(recording),
+        },
+    }
+}
+
+/// What is recorded of a run of this script within these limits, of what its workers have left: the book, and of each
+/// interpreter that the limits allow what its worker has left of it, in any order.
+///
+/// # Errors
+///
+/// `Broken` with 0 where the book's hub is of another script or of other limits, or some interpreter can be moved; with the number of
+/// an interpreter of which nothing is left, or of which more than one report is, whose calls are not those of the journal, or
+/// which has run more lines than there are turns. `NoMemory` where memory was refused.
+pub fn gather(
+    alloc: Global,
+    book: Book,
+    worked: Vec<Worked>,
+    script: &str,
+    limits: Limits,
+) -> Result<Recording, RunFault>
+    // A world of the script is recorded, all of which is as the meaning says, and in which no interpreter can be moved;
+    ensures gathered { IfOk result (IsGathered (characters_of script.now) limits) }
+    // its calls are those of the book, and its reports those of the workers.
+    ensures of { IfOk result (IsOfReports book.past worked.items) }
+    // When each fault comes.
+    ensures fault { IfErr result (IsRunFault book.past worked.items (characters_of script.now) limits) }
+{
+    let hub = book.into_hub();
+    if !is_of(&hub, script, limits) {
+        return Err(RunFault::Broken(0));
+    }
+    record(alloc, &hub, worked.as_slice())
+}

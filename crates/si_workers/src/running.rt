@@ -1,0 +1,249 @@
+// Workers, each in a thread of its own.
+
+ghost use Rattle.std.specs.Prelude.{◌≡◌, IfOk, IsTrue, true, false};
+ghost use Rattle.si_plain.specs.Characters.{characters_of};
+ghost use Rattle.si_parcel.specs.Shared.{action_of};
+ghost use Rattle.si_interp.specs.Meaning.{At};
+ghost use Rattle.si_workers.specs.Gathers.{IsGathered};
+
+use crate::acted::Acted;
+use crate::book::Book;
+use crate::fault::RunFault;
+use crate::gathering::gather;
+use crate::worked::Worked;
+use si_hub::Hub;
+use si_interp::{Interp, State};
+use si_parcel::Action;
+use si_plain::{Limits, NoMemory};
+use si_world::{Recording, stretch};
+use std::alloc::Global;
+use std::sync::{Condvar, Mutex, MutexGuard, Wait};
+use std::thread;
+use std::thread::{JoinHandle, Threads};
+
+/// What is told of the stretches that interpreters run by themselves, by their workers, and without a lock.
+pub trait Gate {
+    /// Interpreter i is about to run at least one line.
+    fn before(&self, i: u32);
+
+    /// It has run them.
+    fn after(&self, i: u32);
+}
+
+// What workers share: the book, and what tells those that wait in it that some of them are to go on.
+#[derive(Drop)]
+struct Desk {
+    book: Mutex<Book>,
+    changed: Condvar,
+}
+
+// Runs the lines of an interpreter that has any, as far as its turns go.
+fn run_lines<G: Gate>(gate: &G, interp: &mut Interp, i: u32, limits: Limits) {
+    let turns = limits.turns();
+    if interp.state() == State::Ready && interp.locals() < turns {
+        gate.before(i);
+        let _given = stretch(interp, turns, turns);
+        gate.after(i);
+    }
+}
+
+// Whether this is the action that the interpreter has handed out.
+fn has_handed_out(interp: &Interp, action: &Action) -> bool
+    ensures taken { result ≡ true → interp.now.taken ≡ true }
+    ensures same { result ≡ true → interp.now.stand ≡ At (action_of action.now) }
+{
+    if !interp.is_taken() {
+        return false;
+    }
+    match interp.pending() {
+        None => false,
+        Some(pending) => *pending == *action,
+    }
+}
+
+// Gives an action back that waited in the book, if it is the one that the interpreter has handed out.
+fn give_back(interp: &mut Interp, action: Action) -> bool {
+    if !has_handed_out(interp, &action) {
+        return false;
+    }
+    interp.give_back(action);
+    true
+}
+
+// Waits in slot i until it is woken, or all is over. Whether its worker goes on.
+fn wait_in<R: Wait>(
+    rt: &R,
+    desk: &Desk,
+    guard: MutexGuard<'_, Book>,
+    interp: &mut Interp,
+    i: u32,
+) -> bool {
+    let mut guard = guard;
+    for _ in rt.forever() {
+        match guard.resume(i) {
+            Some(action) => return give_back(interp, action),
+            None => {}
+        }
+        if guard.over() {
+            match guard.reclaim(i) {
+                Some(action) => {
+                    give_back(interp, action);
+                }
+                None => {}
+            }
+            return false;
+        }
+        guard = desk.changed.wait(rt, guard);
+    }
+    unreachable!()
+}
+
+// The worker of slot i is done. Those that wait are told, where none is left that could wake them.
+fn rest<R: Wait>(rt: &R, desk: &Desk, i: u32) {
+    let mut guard = desk.book.lock(rt);
+    if guard.is_busy(i) {
+        guard.rest(i);
+        if guard.over() {
+            desk.changed.notify_all();
+        }
+    }
+}
+
+// Puts an action to the book. Whether the worker goes on.
+fn share<R: Wait>(rt: &R, desk: &Desk, interp: &mut Interp, i: u32, action: Action) -> bool
+    requires stands { interp.old.stand ≡ At (action_of action) }
+    requires taken { interp.old.taken ≡ true }
+{
+    let mut guard = desk.book.lock(rt);
+    if !guard.is_busy(i) {
+        return false;
+    }
+    match guard.act(i, action) {
+        Acted::Answered(answer) => {
+            let wakes = guard.has_woken();
+            drop(guard);
+            if wakes {
+                desk.changed.notify_all();
+            }
+            interp.answer(answer);
+            true
+        }
+        Acted::Refused(_) => {
+            drop(guard);
+            interp.starve();
+            rest(rt, desk, i);
+            false
+        }
+        Acted::Waits => {
+            if guard.over() {
+                desk.changed.notify_all();
+            }
+            wait_in(rt, desk, guard, interp, i)
+        }
+    }
+}
+
+// The work of one thread: the whole life of one interpreter.
+fn work<G: Gate, R: Wait>(rt: &R, desk: &Desk, gate: &G, interp: Interp, limits: Limits) -> Worked {
+    let mut interp = interp;
+    let i = interp.id();
+    for _ in rt.forever() {
+        run_lines(gate, &mut interp, i, limits);
+        match interp.take_action() {
+            None => {
+                rest(rt, desk, i);
+                return Worked::of(interp);
+            }
+            Some(action) => {
+                if !share(rt, desk, &mut interp, i, action) {
+                    return Worked::of(interp);
+                }
+            }
+        }
+    }
+    unreachable!()
+}
+
+// An interpreter for each number that the limits allow.
+fn first_interps(alloc: Global, limits: Limits) -> Result<Vec<Interp>, NoMemory> {
+    let mut interps = Vec::new(alloc);
+    for i in 0..limits.interpreters() {
+        interps.push(Interp::new(alloc, i)?)?;
+    }
+    Ok(interps)
+}
+
+// One more, for which there is room.
+fn keep<T: Drop>(all: &mut Vec<T>, one: T) {
+    let _ = all.push(one);
+}
+
+// Starts a thread for each interpreter, and returns when all have ended. Where one can't be started, its slot is put to rest, so
+// that the others don't wait for it.
+#[tactic(auto, using(crate::proofs::Crossing::interp_send, crate::proofs::Crossing::worked_send, crate::proofs::Crossing::desk_sync))]
+fn start_all<G: Gate + Sync, R: Threads + Wait + Sync>(
+    rt: &R,
+    desk: &Desk,
+    gate: &G,
+    interps: Vec<Interp>,
+    limits: Limits,
+    handles: Vec<JoinHandle<Worked>>,
+) -> Vec<JoinHandle<Worked>> {
+    thread::scope(thread::scope_env(), rt, move |scope| {
+        let mut handles = handles;
+        for interp in interps {
+            let i = interp.id();
+            match scope.spawn(move || work(rt, desk, gate, interp, limits)) {
+                Ok(handle) => keep(&mut handles, handle),
+                Err(_) => rest(rt, desk, i),
+            }
+        }
+        handles
+    })
+}
+
+// What the workers have left, each in a thread of its own.
+fn work_all<G: Gate + Sync, R: Threads + Wait + Sync>(
+    rt: &R,
+    alloc: Global,
+    desk: &Desk,
+    gate: &G,
+    interps: Vec<Interp>,
+    limits: Limits,
+) -> Result<Vec<Worked>, RunFault> {
+    let count = interps.len();
+    let handles = Vec::with_capacity(alloc, count)?;
+    let mut worked = Vec::with_capacity(alloc, count)?;
+    for handle in start_all(rt, desk, gate, interps, limits, handles) {
+        keep(&mut worked, handle.join(rt));
+    }
+    if worked.len() < count {
+        return Err(RunFault::NoThread);
+    }
+    Ok(worked)
+}
+
+/// Runs a script within these limits, each interpreter in a thread of its own: as many threads as the limits allow interpreters.
+/// The gate is told of each stretch that an interpreter runs by itself.
+///
+/// # Errors
+///
+/// `NoMemory` where memory was refused, `NoThread` where a thread can't be started. `Broken` is not to come.
+pub fn run<G: Gate + Sync, R: Threads + Wait + Sync>(
+    rt: &R,
+    alloc: Global,
+    script: &str,
+    limits: Limits,
+    gate: &G,
+) -> Result<Recording, RunFault>
+    ensures { IfOk result (IsGathered (characters_of script.now) limits) }
+{
+    let hub = Hub::new(alloc, script, limits)?;
+    let book = Mutex::new(Book::new(alloc, hub)?);
+    let interps = first_interps(alloc, limits)?;
+    let changed = Condvar::new();
+    let desk = Desk { book, changed };
+    let worked = work_all(rt, alloc, &desk, gate, interps, limits)?;
+    let Desk { book, changed: _ } = desk;
+    gather(alloc, book.into_inner(), worked, script, limits)
+}
