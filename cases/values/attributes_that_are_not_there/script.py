@@ -7,7 +7,7 @@ q = interpreters.create_queue()
 for k in range(17):
     try:
         if k == 0: interpreters.create
-        elif k == 1: interpreters.list_all()
+        elif k == 1: interpreters.list_all
         elif k == 2: threading.Thread
         elif k == 3: q.put
         elif k == 4: i.close

@@ -6,30 +6,33 @@ use Rattle.si_semantics.specs.Value as pure
 use Rattle.si_arena.specs.declared.value.Ref.{Ref}
 use Rattle.si_arena.specs.declared.value.Ref.TheVariants as value
 use Rattle.si_arena.specs.declared.object.Steps.{Steps}
-use Rattle.si_arena.specs.declared.object.Object.{Object}
+use Rattle.si_arena.specs.declared.held.Held.{Held}
 use Rattle.si_arena.specs.declared.tuples.Tuple.{Tuple}
 use Rattle.si_arena.specs.declared.cause.Fault.{Fault}
 use Rattle.si_arena.specs.declared.cause.Fault.TheVariants.{Raises, NoMemory}
 use Rattle.si_arena.specs.Texts.{Rows, text_of, IsText, IsNarrow, TextLies, Grows, Adds}
 use Rattle.si_arena.specs.Bytes.{text_of_bytes, bytes_of_text}
-use Rattle.si_arena.specs.Memory.{Memory, value_of, all_of, range_of, object_of, Lies, AllLie, ObjectLies, ObjectsLie, Lasts, Extends, Placed, PlacesText, PlacesBytes, IsNamed}
+use Rattle.si_arena.specs.Memory.{Memory, value_of, all_of, range_of, held_of, Lies, AllLie, HeldLies, ObjectsLie, Lasts, Extends, Placed, PlacesText, PlacesBytes, IsNamed}
 use Rattle.si_arena.specs.declared.tuples.Size.{Size}
 use Rattle.si_semantics.specs.Tuples.{count_of, levels_of}
 use Rattle.si_arena.specs.Tuples.{items_at, tuple_at, tuple_in, with_tuples, table, TupleLies, TuplesLie}
 use Rattle.si_arena.specs.Arenas.{base_of, grounds_of, memory_of, IsArena}
+use Rattle.si_arena.specs.inner.Words.{Words, words_of, Grown}
+use Rattle.si_arena.specs.inner.Keys.{HeldMeans, KeysMean}
 use Rattle.si_arena.proofs.Rows.{grows_none}
-use Rattle.si_arena.proofs.Lying.{extends_more, all-lasts, all_lie-extends, objects-lasts, objects_lie-extends, object_lies-extends}
+use Rattle.si_arena.proofs.Wording.{words-grow, words_lie-grow, keys-last, keys-push, keys-set, keys-grown, held_means-last}
+use Rattle.si_arena.proofs.Lying.{extends_more, all-lasts, all_lie-extends, objects-lasts, objects_lie-extends, held_lies-extends}
 use Rattle.si_arena.proofs.Tables.{Grounded, Shown, all-bare, table-lasts, tuples_lie-last, tuples_lie-push, table_push, table_at, length-table, default_same}
 
 -- ---- an arena goes on
 
 -- what does not change goes on, and the objects are as they were
-pub record Goes (old new : Memory) (os : List Object) : Type 0 where
+pub record Goes (old new : Memory) (os : List Held) : Type 0 where
   pub extends : Extends old new
   pub store : new.store ≡ old.store
   pub lie : ObjectsLie new os
 
-module _ (rows more_rows : Rows) (names more_names : List pure.Text) (ranges more_ranges : List Steps) (items wide : List Ref) (ts more_ts : List Tuple) (os : List Object) where
+module _ (rows more_rows : Rows) (names more_names : List pure.Text) (ranges more_ranges : List Steps) (items wide : List Ref) (ts more_ts : List Tuple) (os : List Held) where
   -- by other grounds
   pub goes : Lasts (memory_of rows names ranges items ts os) (memory_of more_rows more_names more_ranges wide more_ts os) → ObjectsLie (memory_of rows names ranges items ts os) os → Goes (memory_of rows names ranges items ts os) (memory_of more_rows more_names more_ranges wide more_ts os) os
   goes l h =
@@ -38,19 +41,19 @@ module _ (rows more_rows : Rows) (names more_names : List pure.Text) (ranges mor
       let own = grounds_of rows names ranges items ts in
       let to : Lasts m g = record { texts = l.texts; names = l.names; ranges = l.ranges; tuples = l.tuples } in
       let back : Lasts m own = record { texts = grows_none rows; names = ([], sym (append-nil names)); ranges = ([], sym (append-nil (map range_of ranges))); tuples = ([], sym (append-nil own.tuples)) } in
-      let same : map (object_of g) os ≡ map (object_of own) os = objects-lasts os to h ∙ sym (objects-lasts os back h) in
+      let same : map (held_of g) os ≡ map (held_of own) os = objects-lasts os to h ∙ sym (objects-lasts os back h) in
       let e : Extends m (memory_of more_rows more_names more_ranges wide more_ts os) = record { lasts = l; objects = omega (arith, ap length same) } in
       record { extends = e; store = same; lie = objects_lie-extends os e h }
 
 -- texts, names, ranges and the row of items go on, with the same tuples
-pub record Kept (old new : Memory) (os : List Object) : Type 0 where
+pub record Kept (old new : Memory) (os : List Held) : Type 0 where
   pub goes : Goes old new os
   pub tuples : new.tuples ≡ old.tuples
 
-module _ (rows more_rows : Rows) (names more_names : List pure.Text) (ranges more_ranges : List Steps) (items wide : List Ref) (ts : List Tuple) (os : List Object) (g : Grounded (base_of rows names ranges) (base_of more_rows more_names more_ranges)) (row : (more : List Ref) × (wide ≡ items ++ more)) (h : IsArena rows names ranges items ts os) where
+module _ (rows more_rows : Rows) (names more_names : List pure.Text) (ranges more_ranges : List Steps) (items wide : List Ref) (ts : List Tuple) (os : List Held) (ws : Words) (g : Grounded (base_of rows names ranges) (base_of more_rows more_names more_ranges)) (row : (more : List Ref) × (wide ≡ items ++ more)) (h : IsArena rows names ranges items ts os ws) where
   pub keeps : Kept (memory_of rows names ranges items ts os) (memory_of more_rows more_names more_ranges wide ts os) os
   keeps =
-      let s = map (object_of (grounds_of rows names ranges items ts)) os in
+      let s = map (held_of (grounds_of rows names ranges items ts)) os in
       let same : table (base_of more_rows more_names more_ranges) wide [] ts ≡ table (base_of rows names ranges) items [] ts = table-lasts s s g (omega arith) items wide row [] ts h.tuples in
       let l : Lasts (memory_of rows names ranges items ts os) (memory_of more_rows more_names more_ranges wide ts os) = record {
         texts = g.texts;
@@ -60,11 +63,14 @@ module _ (rows more_rows : Rows) (names more_names : List pure.Text) (ranges mor
       } in
       record { goes = goes rows more_rows names more_names ranges more_ranges items wide ts ts os l h.objects; tuples = same }
 
-  pub arena_kept : IsArena more_rows more_names more_ranges wide ts os
+  pub arena_kept : IsArena more_rows more_names more_ranges wide ts os ws
   arena_kept =
       let k = keeps in record {
         tuples = tuples_lie-last (memory_of rows names ranges items ts os).store (memory_of more_rows more_names more_ranges wide ts os).store g (omega (arith, ap length k.goes.store)) items wide row [] ts h.tuples;
         objects = k.goes.lie;
+        words = words_lie-grow rows more_rows ws g.texts h.words;
+        keys = subst (λ us. KeysMean (memory_of more_rows more_names more_ranges wide ts os) us os) (sym (words-grow rows more_rows ws.texts g.texts h.words.lie))
+            (keys-last (words_of rows ws) os k.goes.extends.lasts h.objects h.keys);
       }
 
 -- the row of items stays as it is
@@ -118,15 +124,15 @@ str_lies m (value.Interpreter it) i h = absurd i
 str_lies m (value.Exec it) i h = absurd i
 str_lies m (value.Object x) i h = absurd i
 
-module _ (t : List ℕ) (rows more : Rows) (names : List pure.Text) (ranges : List Steps) (items : List Ref) (ts : List Tuple) (os : List Object) where
-  pub text_kept : (r : Result Ref Fault) → Adds t rows more r → IsArena rows names ranges items ts os → IsArena more names ranges items ts os
-  text_kept (Ok r) a h = arena_kept rows more names names ranges ranges items items ts os (texts_last rows more names ranges a.1.grown) (same_row items) h
-  text_kept (Err (Raises c)) a h = subst (λ xs. IsArena xs names ranges items ts os) (sym a.2) h
-  text_kept (Err NoMemory) a h = subst (λ xs. IsArena xs names ranges items ts os) (sym a) h
+module _ (t : List ℕ) (rows more : Rows) (names : List pure.Text) (ranges : List Steps) (items : List Ref) (ts : List Tuple) (os : List Held) (ws : Words) where
+  pub text_kept : (r : Result Ref Fault) → Adds t rows more r → IsArena rows names ranges items ts os ws → IsArena more names ranges items ts os ws
+  text_kept (Ok r) a h = arena_kept rows more names names ranges ranges items items ts os ws (texts_last rows more names ranges a.1.grown) (same_row items) h
+  text_kept (Err (Raises c)) a h = subst (λ xs. IsArena xs names ranges items ts os ws) (sym a.2) h
+  text_kept (Err NoMemory) a h = subst (λ xs. IsArena xs names ranges items ts os ws) (sym a) h
 
-  pub text_placed : (r : Result Ref Fault) → Adds t rows more r → IsArena rows names ranges items ts os → PlacesText t (memory_of rows names ranges items ts os) (memory_of more names ranges items ts os) r
+  pub text_placed : (r : Result Ref Fault) → Adds t rows more r → IsArena rows names ranges items ts os ws → PlacesText t (memory_of rows names ranges items ts os) (memory_of more names ranges items ts os) r
   text_placed (Ok r) a h =
-      let g = keeps rows more names names ranges ranges items items ts os (texts_last rows more names ranges a.1.grown) (same_row items) h in
+      let g = keeps rows more names names ranges ranges items items ts os ws (texts_last rows more names ranges a.1.grown) (same_row items) h in
       let m = memory_of more names ranges items ts os in
       (a.0, record { denotes = str_is m t r a.1.text a.1.is; lies = str_lies m r a.1.text a.1.lies; extends = g.goes.extends; store = g.goes.store })
   text_placed (Err (Raises c)) a h = (a.0, a.1, ap (λ xs. memory_of xs names ranges items ts os) a.2)
@@ -176,11 +182,11 @@ bytes_lie m (value.Interpreter it) i n h = absurd i
 bytes_lie m (value.Exec it) i n h = absurd i
 bytes_lie m (value.Object x) i n h = absurd i
 
-module _ (t : List ℕ) (rows more : Rows) (names : List pure.Text) (ranges : List Steps) (items : List Ref) (ts : List Tuple) (os : List Object) where
-  pub bytes_placed : (r : Ref) → Adds t rows more (Ok r) → IsNarrow r → IsArena rows names ranges items ts os
+module _ (t : List ℕ) (rows more : Rows) (names : List pure.Text) (ranges : List Steps) (items : List Ref) (ts : List Tuple) (os : List Held) (ws : Words) where
+  pub bytes_placed : (r : Ref) → Adds t rows more (Ok r) → IsNarrow r → IsArena rows names ranges items ts os ws
       → PlacesBytes t (memory_of rows names ranges items ts os) (memory_of more names ranges items ts os) (Ok (bytes_of_text r))
   bytes_placed r a n h =
-      let g = keeps rows more names names ranges ranges items items ts os (texts_last rows more names ranges a.1.grown) (same_row items) h in
+      let g = keeps rows more names names ranges ranges items items ts os ws (texts_last rows more names ranges a.1.grown) (same_row items) h in
       let m = memory_of more names ranges items ts os in
       (a.0, record { denotes = bytes_are m t r a.1.text n a.1.is; lies = bytes_lie m r a.1.text n a.1.lies; extends = g.goes.extends; store = g.goes.store })
 
@@ -233,16 +239,16 @@ bytes_text_narrow (value.Object x) = tt
 
 -- ---- ranges and names
 
-module _ (rows : Rows) (names : List pure.Text) (ranges : List Steps) (items : List Ref) (ts : List Tuple) (os : List Object) (h : IsArena rows names ranges items ts os) where
+module _ (rows : Rows) (names : List pure.Text) (ranges : List Steps) (items : List Ref) (ts : List Tuple) (os : List Held) (ws : Words) (h : IsArena rows names ranges items ts os ws) where
   ranges_last : (s : Steps) → Grounded (base_of rows names ranges) (base_of rows names (ranges ++ s ∷ []))
   ranges_last s = record { texts = grows_none rows; names = ([], sym (append-nil names)); ranges = (range_of s ∷ [], map_push range_of ranges s) }
 
-  pub range_kept : (s : Steps) → IsArena rows names (ranges ++ s ∷ []) items ts os
-  range_kept s = arena_kept rows rows names names ranges (ranges ++ s ∷ []) items items ts os (ranges_last s) (same_row items) h
+  pub range_kept : (s : Steps) → IsArena rows names (ranges ++ s ∷ []) items ts os ws
+  range_kept s = arena_kept rows rows names names ranges (ranges ++ s ∷ []) items items ts os ws (ranges_last s) (same_row items) h
 
   pub range_placed : (s : Steps) (n : ℕ) → n ≡ length ranges → Placed (memory_of rows names ranges items ts os) (range_of s) (value.Range n) (memory_of rows names (ranges ++ s ∷ []) items ts os)
   range_placed s n e =
-      let g = keeps rows rows names names ranges (ranges ++ s ∷ []) items items ts os (ranges_last s) (same_row items) h in
+      let g = keeps rows rows names names ranges (ranges ++ s ∷ []) items items ts os ws (ranges_last s) (same_row items) h in
       let l : length (map range_of ranges) ≡ n = length-map ranges range_of ∙ sym e in
       let m : map range_of (ranges ++ s ∷ []) ≡ map range_of ranges ++ range_of s ∷ [] = map_push range_of ranges s in record {
         denotes = ap (λ xs. get_or xs n pure.Nothing) m ∙ get_or_push (map range_of ranges) (range_of s) pure.Nothing n l;
@@ -254,73 +260,88 @@ module _ (rows : Rows) (names : List pure.Text) (ranges : List Steps) (items : L
   names_last : (x : pure.Text) → Grounded (base_of rows names ranges) (base_of rows (names ++ x ∷ []) ranges)
   names_last x = record { texts = grows_none rows; names = (x ∷ [], refl); ranges = ([], sym (append-nil (map range_of ranges))) }
 
-  pub name_kept : (x : pure.Text) → IsArena rows (names ++ x ∷ []) ranges items ts os
-  name_kept x = arena_kept rows rows names (names ++ x ∷ []) ranges ranges items items ts os (names_last x) (same_row items) h
+  pub name_kept : (x : pure.Text) → IsArena rows (names ++ x ∷ []) ranges items ts os ws
+  name_kept x = arena_kept rows rows names (names ++ x ∷ []) ranges ranges items items ts os ws (names_last x) (same_row items) h
 
   pub name_added : (x : pure.Text) (n : ℕ) → n ≡ length names → IsNamed x (memory_of rows names ranges items ts os) (memory_of rows (names ++ x ∷ []) ranges items ts os) n
   name_added x n e =
-      let g = keeps rows rows names (names ++ x ∷ []) ranges ranges items items ts os (names_last x) (same_row items) h in
+      let g = keeps rows rows names (names ++ x ∷ []) ranges ranges items items ts os ws (names_last x) (same_row items) h in
       let b = base_of rows (names ++ x ∷ []) ranges in record {
         number = e;
-        memory = ap (λ s. record b { tuples = table b items [] ts; store = s }) g.goes.store ∙ ap (λ vs. record b { tuples = vs; store = map (object_of (grounds_of rows names ranges items ts)) os }) g.tuples;
+        memory = ap (λ s. record b { tuples = table b items [] ts; store = s }) g.goes.store ∙ ap (λ vs. record b { tuples = vs; store = map (held_of (grounds_of rows names ranges items ts)) os }) g.tuples;
       }
 
 -- ---- objects
 
-objects_push : (m : Memory) (os : List Object) (o : Object) → ObjectsLie m os → ObjectLies m o → ObjectsLie m (os ++ o ∷ [])
+objects_push : (m : Memory) (os : List Held) (o : Held) → ObjectsLie m os → HeldLies m o → ObjectsLie m (os ++ o ∷ [])
 objects_push m [] o h k = (k, tt)
 objects_push m (q ∷ os) o h k = (h.0, objects_push m os o h.1 k)
 
 grounded_same : (rows : Rows) (names : List pure.Text) (ranges : List Steps) → Grounded (base_of rows names ranges) (base_of rows names ranges)
 grounded_same rows names ranges = record { texts = grows_none rows; names = ([], sym (append-nil names)); ranges = ([], sym (append-nil (map range_of ranges))) }
 
-pub object_kept : (rows : Rows) (names : List pure.Text) (ranges : List Steps) (items : List Ref) (ts : List Tuple) (os : List Object) (o : Object) → IsArena rows names ranges items ts os → ObjectLies (memory_of rows names ranges items ts os) o → IsArena rows names ranges items ts (os ++ o ∷ [])
-object_kept rows names ranges items ts os o h k =
+pub object_kept : (rows : Rows) (names : List pure.Text) (ranges : List Steps) (items : List Ref) (ts : List Tuple) (os : List Held) (ws : Words) (o : Held) → IsArena rows names ranges items ts os ws → HeldLies (memory_of rows names ranges items ts os) o → HeldMeans (memory_of rows names ranges items ts os) (words_of rows ws) o
+    → IsArena rows names ranges items ts (os ++ o ∷ []) ws
+object_kept rows names ranges items ts os ws o h k means =
     let m = memory_of rows names ranges items ts (os ++ o ∷ []) in
     let g = grounds_of rows names ranges items ts in
-    let f = object_of g in
+    let f = held_of g in
     let longer : length (map f os) ≤ length (map f (os ++ o ∷ [])) = omega (arith, length-map os f, length-map (os ++ o ∷ []) f, length_push os o) in
     let e : Extends (memory_of rows names ranges items ts os) m = record {
       lasts = record { texts = grows_none rows; names = ([], sym (append-nil names)); ranges = ([], sym (append-nil (map range_of ranges))); tuples = ([], sym (append-nil g.tuples)) };
       objects = longer;
     } in record {
       tuples = tuples_lie-last (map f os) (map f (os ++ o ∷ [])) (grounded_same rows names ranges) longer items items (same_row items) [] ts h.tuples;
-      objects = objects_push m os o (objects_lie-extends os e h.objects) (object_lies-extends o e k);
+      objects = objects_push m os o (objects_lie-extends os e h.objects) (held_lies-extends o e k);
+      words = h.words;
+      keys = keys-push m (words_of rows ws) os o (keys-last (words_of rows ws) os e.lasts h.objects h.keys) (held_means-last (words_of rows ws) o e.lasts k means);
     }
 
-objects_set : (m : Memory) (os : List Object) (x : ℕ) (o : Object) → ObjectsLie m os → ObjectLies m o → ObjectsLie m (slice_set os x o)
+objects_set : (m : Memory) (os : List Held) (x : ℕ) (o : Held) → ObjectsLie m os → HeldLies m o → ObjectsLie m (slice_set os x o)
 objects_set m [] x o h k = h
 objects_set m (q ∷ os) zero o h k = (k, h.1)
 objects_set m (q ∷ os) (suc x) o h k = (h.0, objects_set m os x o h.1 k)
 
-length_set : {A : Type 0} (xs : List A) (x : ℕ) (a : A) → length (slice_set xs x a) ≡ length xs
+pub length_set : {A : Type 0} (xs : List A) (x : ℕ) (a : A) → length (slice_set xs x a) ≡ length xs
 length_set [] x a = refl
 length_set (b ∷ xs) zero a = refl
 length_set (b ∷ xs) (suc x) a = ap suc (length_set xs x a)
 
-pub object_changed : (rows : Rows) (names : List pure.Text) (ranges : List Steps) (items : List Ref) (ts : List Tuple) (os : List Object) (x : ℕ) (o : Object) → IsArena rows names ranges items ts os → ObjectLies (memory_of rows names ranges items ts os) o → IsArena rows names ranges items ts (slice_set os x o)
-object_changed rows names ranges items ts os x o h k =
+pub object_changed : (rows : Rows) (names : List pure.Text) (ranges : List Steps) (items : List Ref) (ts : List Tuple) (os : List Held) (ws : Words) (x : ℕ) (o : Held) → IsArena rows names ranges items ts os ws → HeldLies (memory_of rows names ranges items ts os) o → HeldMeans (memory_of rows names ranges items ts os) (words_of rows ws) o
+    → IsArena rows names ranges items ts (slice_set os x o) ws
+object_changed rows names ranges items ts os ws x o h k means =
     let m = memory_of rows names ranges items ts (slice_set os x o) in
     let g = grounds_of rows names ranges items ts in
-    let f = object_of g in
+    let f = held_of g in
     let longer : length (map f os) ≤ length (map f (slice_set os x o)) = omega (arith, length-map os f, length-map (slice_set os x o) f, length_set os x o) in
     let e : Extends (memory_of rows names ranges items ts os) m = record {
       lasts = record { texts = grows_none rows; names = ([], sym (append-nil names)); ranges = ([], sym (append-nil (map range_of ranges))); tuples = ([], sym (append-nil g.tuples)) };
       objects = longer;
     } in record {
       tuples = tuples_lie-last (map f os) (map f (slice_set os x o)) (grounded_same rows names ranges) longer items items (same_row items) [] ts h.tuples;
-      objects = objects_set m os x o (objects_lie-extends os e h.objects) (object_lies-extends o e k);
+      objects = objects_set m os x o (objects_lie-extends os e h.objects) (held_lies-extends o e k);
+      words = h.words;
+      keys = keys-set m (words_of rows ws) os x o (keys-last (words_of rows ws) os e.lasts h.objects h.keys) (held_means-last (words_of rows ws) o e.lasts k means);
     }
 
+-- more words
+pub arena_worded : (rows : Rows) (names : List pure.Text) (ranges : List Steps) (items : List Ref) (ts : List Tuple) (os : List Held) (ws more : Words) → IsArena rows names ranges items ts os ws → Grown rows ws more → IsArena rows names ranges items ts os more
+arena_worded rows names ranges items ts os ws more h g = record {
+  tuples = h.tuples;
+  objects = h.objects;
+  words = g.lie;
+  keys = keys-grown (memory_of rows names ranges items ts os) rows ws more os g h.keys;
+}
+
 -- the object at an address
-pub object_at : (m : Memory) (os : List Object) (x : ℕ) (o : Object) → ObjectsLie m os → x < length os → o ≡ get_or os x o → ObjectLies m o
+pub object_at : (m : Memory) (os : List Held) (x : ℕ) (o : Held) → ObjectsLie m os → x < length os → o ≡ get_or os x o → HeldLies m o
 object_at m [] x o h lt e = absurd (omega arith)
-object_at m (q ∷ os) zero o h lt e = subst (ObjectLies m) (sym e) h.0
+object_at m (q ∷ os) zero o h lt e = subst (HeldLies m) (sym e) h.0
 object_at m (q ∷ os) (suc x) o h lt e = object_at m os x o h.1 (omega arith) e
 
 -- ---- tuples
 
-module _ (rows : Rows) (names : List pure.Text) (ranges : List Steps) (items : List Ref) (ts : List Tuple) (os : List Object) (h : IsArena rows names ranges items ts os) where
+module _ (rows : Rows) (names : List pure.Text) (ranges : List Steps) (items : List Ref) (ts : List Tuple) (os : List Held) (ws : Words) (h : IsArena rows names ranges items ts os ws) where
   -- a tuple by its place
   pub tuple_shown : (x : ℕ) → x < length (grounds_of rows names ranges items ts).tuples → Shown (memory_of rows names ranges items ts os).store (memory_of rows names ranges items ts os) items (get_or (grounds_of rows names ranges items ts).tuples x pure.Nothing) (tuple_in (record { items = items; tuples = ts }) x)
   tuple_shown x lt =
@@ -351,10 +372,10 @@ module _ (rows : Rows) (names : List pure.Text) (ranges : List Steps) (items : L
     own_items = ap (take (length xs)) (drop_at items xs (length items) refl) ∙ take_all (length xs) xs (omega arith)
 
     mid : Kept (memory_of rows names ranges items ts os) (memory_of rows names ranges (items ++ xs) ts os) os
-    mid = keeps rows rows names names ranges ranges items (items ++ xs) ts os (grounded_same rows names ranges) row_more h
+    mid = keeps rows rows names names ranges ranges items (items ++ xs) ts os ws (grounded_same rows names ranges) row_more h
 
-    mid_arena : IsArena rows names ranges (items ++ xs) ts os
-    mid_arena = arena_kept rows rows names names ranges ranges items (items ++ xs) ts os (grounded_same rows names ranges) row_more h
+    mid_arena : IsArena rows names ranges (items ++ xs) ts os ws
+    mid_arena = arena_kept rows rows names names ranges ranges items (items ++ xs) ts os ws (grounded_same rows names ranges) row_more h
 
     denoted : tuple_at (grounds_of rows names ranges (items ++ xs) ts) (items ++ xs) pushed ≡ pure.tuple_of (all_of (memory_of rows names ranges items ts os) xs)
     denoted =
@@ -384,11 +405,13 @@ module _ (rows : Rows) (names : List pure.Text) (ranges : List Steps) (items : L
         } in
         goes rows rows names names ranges ranges (items ++ xs) (items ++ xs) ts (ts ++ pushed ∷ []) os l mid_arena.objects
 
-    pub tuple_kept : IsArena rows names ranges (items ++ xs) (ts ++ record { start = length items; length = length xs; size = size } ∷ []) os
+    pub tuple_kept : IsArena rows names ranges (items ++ xs) (ts ++ record { start = length items; length = length xs; size = size } ∷ []) os ws
     tuple_kept = record {
       tuples = subst (λ s. TuplesLie s (base_of rows names ranges) (items ++ xs) [] (ts ++ pushed ∷ [])) (sym after.store)
           (tuples_lie-push (memory_of rows names ranges (items ++ xs) ts os).store (base_of rows names ranges) (items ++ xs) [] ts pushed mid_arena.tuples pushed_lies);
       objects = after.lie;
+      words = h.words;
+      keys = keys-last (words_of rows ws) os after.extends.lasts mid_arena.objects mid_arena.keys;
     }
 
     pub tuple_placed : (place : ℕ) → place ≡ length ts → Placed (memory_of rows names ranges items ts os) (pure.tuple_of (all_of (memory_of rows names ranges items ts os) xs)) (value.Tuple place) (memory_of rows names ranges (items ++ xs) (ts ++ record { start = length items; length = length xs; size = size } ∷ []) os)
@@ -412,9 +435,9 @@ pub record TupleAt (m : Memory) (items : List Ref) (ts : List Tuple) (x : ℕ) :
   pub values : (tuple_in (record { items = items; tuples = ts }) x).size.values ≡ count_of (get_or m.tuples x pure.Nothing)
   pub levels : (tuple_in (record { items = items; tuples = ts }) x).size.levels ≡ levels_of (get_or m.tuples x pure.Nothing)
 
-tuple_here : (rows : Rows) (names : List pure.Text) (ranges : List Steps) (items : List Ref) (ts : List Tuple) (os : List Object) → IsArena rows names ranges items ts os → (x : ℕ) → x < length (memory_of rows names ranges items ts os).tuples → TupleAt (memory_of rows names ranges items ts os) items ts x
-tuple_here rows names ranges items ts os h x lt =
-    let s = tuple_shown rows names ranges items ts os h x lt in record {
+tuple_here : (rows : Rows) (names : List pure.Text) (ranges : List Steps) (items : List Ref) (ts : List Tuple) (os : List Held) (ws : Words) → IsArena rows names ranges items ts os ws → (x : ℕ) → x < length (memory_of rows names ranges items ts os).tuples → TupleAt (memory_of rows names ranges items ts os) items ts x
+tuple_here rows names ranges items ts os ws h x lt =
+    let s = tuple_shown rows names ranges items ts os ws h x lt in record {
       there = omega (arith, lt, length-table (base_of rows names ranges) items [] ts);
       within = s.within;
       lie = s.lie;
@@ -423,5 +446,5 @@ tuple_here rows names ranges items ts os h x lt =
       levels = s.levels;
     }
 
-pub tuple_view : (m : Memory) (rows : Rows) (names : List pure.Text) (ranges : List Steps) (items : List Ref) (ts : List Tuple) (os : List Object) → memory_of rows names ranges items ts os ≡ m → IsArena rows names ranges items ts os → (x : ℕ) → x < length m.tuples → TupleAt m items ts x
-tuple_view m rows names ranges items ts os e h x lt = subst (λ n. x < length n.tuples → TupleAt n items ts x) e (tuple_here rows names ranges items ts os h x) lt
+pub tuple_view : (m : Memory) (rows : Rows) (names : List pure.Text) (ranges : List Steps) (items : List Ref) (ts : List Tuple) (os : List Held) (ws : Words) → memory_of rows names ranges items ts os ≡ m → IsArena rows names ranges items ts os ws → (x : ℕ) → x < length m.tuples → TupleAt m items ts x
+tuple_view m rows names ranges items ts os ws e h x lt = subst (λ n. x < length n.tuples → TupleAt n items ts x) e (tuple_here rows names ranges items ts os ws h x) lt

@@ -1,6 +1,12 @@
 pub mod Rows
 pub mod Repeats
+pub mod Compared
 pub mod Lying
+pub mod Wording
+pub mod Keyed
 pub mod Tables
 pub mod Sizes
 pub mod Growing
+pub mod Changed
+pub mod Gathering
+pub mod Holding

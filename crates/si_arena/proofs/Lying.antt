@@ -1,6 +1,6 @@
 -- What lies in an arena goes on lying in it, and denotes the same, after anything is placed or made: the laws that the
 -- crates above cite.
-use Rattle.std.proofs.Common.{◌≡◌, ℕ, ◌<◌, ◌≤◌, List, [], ◌∷◌, ◌++◌, map, length, get_or, Some, ap, ap₂, refl, sym, ◌∙◌, arith, append-nil, append_assoc, length-append}
+use Rattle.std.proofs.Common.{◌≡◌, ℕ, ◌<◌, ◌≤◌, List, [], ◌∷◌, ◌++◌, map, length, get_or, Some, ap, ap₂, refl, sym, subst, ◌∙◌, arith, append-nil, append_assoc, length-append}
 use Rattle.std.proofs.lemmas.List.{get_or_append_left}
 use Rattle.si_semantics.specs.Value as pure
 use Rattle.si_arena.specs.declared.value.Ref.{Ref}
@@ -9,8 +9,12 @@ use Rattle.si_arena.specs.declared.cause.Cause.{Cause}
 use Rattle.si_arena.specs.declared.cause.Cause.TheVariants as cause
 use Rattle.si_arena.specs.declared.object.Object.{Object}
 use Rattle.si_arena.specs.declared.object.Object.TheVariants.{Bare, Made, Caused, Thread, Started}
+use Rattle.si_arena.specs.declared.atom.Atom.{Atom}
+use Rattle.si_arena.specs.declared.dict.Pair.{Pair}
+use Rattle.si_arena.specs.declared.held.Held.{Held}
+use Rattle.si_arena.specs.declared.held.Held.TheVariants as held
 use Rattle.si_arena.specs.Causes.{kind_of, message_of, not_defined, not_bound, no_attribute, name_at, CauseLies}
-use Rattle.si_arena.specs.Memory.{Holds, bound_of, Memory, value_of, all_of, object_of, Lies, AllLie, ObjectLies, ObjectsLie, Lasts, Extends, IsMade, IsNamed}
+use Rattle.si_arena.specs.Memory.{Holds, bound_of, Memory, value_of, all_of, object_of, Lies, AllLie, ObjectLies, key_meant, IsKey, pair_of, pairs_of, PairLies, PairsLie, held_of, HeldLies, ObjectsLie, Lasts, Extends, IsMade, IsNamed}
 use Rattle.si_arena.specs.Texts.{IsText, TextLies}
 use Rattle.si_arena.proofs.Rows.{text-grows, text_lies-grows, grows_none}
 
@@ -177,6 +181,7 @@ cause-lasts old more cause.Outside h = refl
 cause-lasts old more (cause.NotDefined n) h = ap not_defined (cause_name old more n h)
 cause-lasts old more (cause.NotBound n) h = ap not_bound (cause_name old more n h)
 cause-lasts old more (cause.NoAttribute n) h = ap no_attribute (cause_name old more n h)
+cause-lasts old more cause.SizeChanged h = refl
 cause-lasts old more (cause.Refused r) h = refl
 
 cause_lies-more : (old new : List pure.Text) (c : Cause) → length old ≤ length new → CauseLies old c → CauseLies new c
@@ -191,6 +196,7 @@ cause_lies-more old new cause.Outside l h = h
 cause_lies-more old new (cause.NotDefined n) l h = omega (arith, l, h)
 cause_lies-more old new (cause.NotBound n) l h = omega (arith, l, h)
 cause_lies-more old new (cause.NoAttribute n) l h = omega (arith, l, h)
+cause_lies-more old new cause.SizeChanged l h = h
 cause_lies-more old new (cause.Refused r) l h = h
 
 -- an object is what it was
@@ -210,13 +216,47 @@ object_lies-extends (Started r) e h = h
 object_lies-extends {old = old} {new = new} (Caused c) e h =
     cause_lies-more old.names new.names c (omega (arith, ap length e.lasts.names.1, length-append old.names e.lasts.names.0)) h
 
-pub objects-lasts : {old new : Memory} (os : List Object) → Lasts old new → ObjectsLie old os → map (object_of new) os ≡ map (object_of old) os
-objects-lasts [] e h = refl
-objects-lasts (o ∷ os) e h = ap₂ (λ x xs. x ∷ xs) (object-lasts o e h.0) (objects-lasts os e h.1)
+-- a key with its value is what it was
+pub pair-lasts : {old new : Memory} (p : Pair) → Lasts old new → PairLies old p → pair_of new p ≡ pair_of old p
+pair-lasts p e h = ap₂ (λ k v. (key_meant k, v)) (value-lasts p.key e h.key) (value-lasts p.value e h.value)
 
-pub objects_lie-extends : {old new : Memory} (os : List Object) → Extends old new → ObjectsLie old os → ObjectsLie new os
+pub pair_lies-extends : {old new : Memory} (p : Pair) → Extends old new → PairLies old p → PairLies new p
+pair_lies-extends p e h = record { key = lies-extends p.key e h.key; is_key = subst IsKey (sym (value-lasts p.key e.lasts h.key)) h.is_key; value = lies-extends p.value e h.value }
+
+pub pairs-lasts : {old new : Memory} (es : List (Atom × Pair)) → Lasts old new → PairsLie old es → pairs_of new es ≡ pairs_of old es
+pairs-lasts [] e h = refl
+pairs-lasts (x ∷ es) e h = ap₂ (λ p ps. p ∷ ps) (pair-lasts x.1 e h.0) (pairs-lasts es e h.1)
+
+pub pairs_lie-extends : {old new : Memory} (es : List (Atom × Pair)) → Extends old new → PairsLie old es → PairsLie new es
+pairs_lie-extends [] e h = h
+pairs_lie-extends (x ∷ es) e h = (pair_lies-extends x.1 e h.0, pairs_lie-extends es e h.1)
+
+-- what lies at an address is what it was
+pub held-lasts : {old new : Memory} (o : Held) → Lasts old new → HeldLies old o → held_of new o ≡ held_of old o
+held-lasts (held.Bare k) e h = refl
+held-lasts (held.Made k r) e h = object-lasts (Made k r) e h
+held-lasts (held.Caused c) e h = object-lasts (Caused c) e h
+held-lasts (held.Thread i r) e h = object-lasts (Thread i r) e h
+held-lasts (held.Started r) e h = refl
+held-lasts (held.List rs) e h = ap pure.Items (all-lasts rs e h)
+held-lasts (held.Dict es) e h = ap pure.Pairs (pairs-lasts es e h)
+
+pub held_lies-extends : {old new : Memory} (o : Held) → Extends old new → HeldLies old o → HeldLies new o
+held_lies-extends (held.Bare k) e h = h
+held_lies-extends (held.Made k r) e h = object_lies-extends (Made k r) e h
+held_lies-extends (held.Caused c) e h = object_lies-extends (Caused c) e h
+held_lies-extends (held.Thread i r) e h = object_lies-extends (Thread i r) e h
+held_lies-extends (held.Started r) e h = h
+held_lies-extends (held.List rs) e h = all_lie-extends rs e h
+held_lies-extends (held.Dict es) e h = pairs_lie-extends es e h
+
+pub objects-lasts : {old new : Memory} (os : List Held) → Lasts old new → ObjectsLie old os → map (held_of new) os ≡ map (held_of old) os
+objects-lasts [] e h = refl
+objects-lasts (o ∷ os) e h = ap₂ (λ x xs. x ∷ xs) (held-lasts o e h.0) (objects-lasts os e h.1)
+
+pub objects_lie-extends : {old new : Memory} (os : List Held) → Extends old new → ObjectsLie old os → ObjectsLie new os
 objects_lie-extends [] e h = h
-objects_lie-extends (o ∷ os) e h = (object_lies-extends o e h.0, objects_lie-extends os e h.1)
+objects_lie-extends (o ∷ os) e h = (held_lies-extends o e h.0, objects_lie-extends os e h.1)
 
 -- ---- what calls do
 

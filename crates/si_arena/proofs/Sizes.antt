@@ -12,7 +12,7 @@ use Rattle.si_arena.specs.declared.value.Ref.TheVariants as value
 use Rattle.si_arena.specs.declared.object.Steps.{Steps}
 use Rattle.si_arena.specs.Memory.{Memory, value_of, all_of, range_of, Lies, AllLie}
 
-left_step : (m : Memory) (xs : List Ref) (i : ℕ) (r d : Ref) → r ≡ get_or xs i d → i < length xs → drop i (all_of m xs) ≡ value_of m r ∷ drop (i + 1) (all_of m xs)
+pub left_step : (m : Memory) (xs : List Ref) (i : ℕ) (r d : Ref) → r ≡ get_or xs i d → i < length xs → drop i (all_of m xs) ≡ value_of m r ∷ drop (i + 1) (all_of m xs)
 left_step m xs i r d e h =
     let a : length (all_of m xs) ≡ length xs = length-map xs (value_of m) in
     let p : i < length (all_of m xs) = omega (arith, a) in

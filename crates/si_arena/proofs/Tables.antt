@@ -13,7 +13,7 @@ use Rattle.si_arena.proofs.Rows.{grows_none}
 use Rattle.si_arena.proofs.Lying.{all-lasts, all_lie-extends}
 
 -- what values denote does not depend on the objects
-value-bare : (s : List pure.Object) (m : Memory) (r : Ref) → value_of (record m { store = s }) r ≡ value_of m r
+pub value-bare : (s : List pure.Object) (m : Memory) (r : Ref) → value_of (record m { store = s }) r ≡ value_of m r
 value-bare s m value.Unbound = refl
 value-bare s m value.None = refl
 value-bare s m (value.Truth b) = refl

@@ -5,7 +5,7 @@ use Rattle.si_plain.specs.declared.kind.Kind.TheVariants.{OverflowError, TypeErr
 use Rattle.si_semantics.specs.Value.{Text}
 use Rattle.si_semantics.specs.Operations.{arithmetic_message}
 use Rattle.si_arena.specs.declared.cause.Cause.{Cause}
-use Rattle.si_arena.specs.declared.cause.Cause.TheVariants.{Arithmetic, TooLong, WrongType, NotCallable, WrongArguments, TooDeep, NoneActive, Outside, NotDefined, NotBound, NoAttribute, Refused}
+use Rattle.si_arena.specs.declared.cause.Cause.TheVariants.{Arithmetic, TooLong, WrongType, NotCallable, WrongArguments, TooDeep, NoneActive, Outside, NotDefined, NotBound, NoAttribute, SizeChanged, Refused}
 use Rattle.si_arena.specs.declared.refusal.Refusal.{Refusal}
 use Rattle.si_arena.specs.declared.refusal.Refusal.TheVariants.{NotShareable, AlreadyStarted, NotStarted, TooManyInterpreters, TooManyQueues, QueueIsFull, QueueIsEmpty, Current, Main}
 
@@ -46,6 +46,7 @@ kind_of Outside = IndexError
 kind_of (NotDefined name) = NameError
 kind_of (NotBound name) = UnboundLocalError
 kind_of (NoAttribute name) = AttributeError
+kind_of SizeChanged = RuntimeError
 kind_of (Refused refusal) = refusal_kind refusal
 
 -- the message about a name that is bound nowhere
@@ -77,6 +78,7 @@ message_of names Outside = codes "index out of range"
 message_of names (NotDefined name) = not_defined (name_at names name)
 message_of names (NotBound name) = not_bound (name_at names name)
 message_of names (NoAttribute name) = no_attribute (name_at names name)
+message_of names SizeChanged = codes "dictionary changed size"
 message_of names (Refused refusal) = refusal_message refusal
 
 -- the name of which a cause speaks is one of these

@@ -7,3 +7,4 @@ pub mod Tuples
 pub mod Arenas
 pub mod Views
 pub mod Objects
+pub mod inner

@@ -1,8 +1,10 @@
 -- What an arena stands for, and what a value that lies in it denotes.
-use Rattle.std.specs.Prelude.{◌≡◌, ℕ, ◌<◌, ◌≤◌, List, [], ◌∷◌, ◌++◌, map, length, get_or, true, false, Option, Some, None, Result, Ok, Err}
+use Rattle.std.specs.Prelude.{◌≡◌, ℕ, ◌<◌, ◌≤◌, List, [], ◌∷◌, ◌++◌, map, length, get_or, slice_get, slice_set, true, false, Option, Some, None, Result, Ok, Err}
 use Rattle.si_semantics.specs.Value as pure
 use Rattle.si_semantics.specs.Text.{max_length}
 use Rattle.si_semantics.specs.Tuples.{is_too_large}
+use Rattle.si_semantics.specs.Dicts.{key_of, value_at}
+use Rattle.si_semantics.specs.Opened.{Opened, InTuple, InList}
 use Rattle.si_arena.specs.declared.value.BuiltIn.{BuiltIn}
 use Rattle.si_arena.specs.declared.value.BuiltIn.TheVariants as built
 use Rattle.si_arena.specs.declared.value.Ref.{Ref}
@@ -10,6 +12,12 @@ use Rattle.si_arena.specs.declared.value.Ref.TheVariants as value
 use Rattle.si_arena.specs.declared.object.Steps.{Steps}
 use Rattle.si_arena.specs.declared.object.Object.{Object}
 use Rattle.si_arena.specs.declared.object.Object.TheVariants.{Bare, Made, Caused, Thread, Started}
+use Rattle.si_arena.specs.declared.atom.Atom.{Atom}
+use Rattle.si_arena.specs.declared.dict.Pair.{Pair}
+use Rattle.si_arena.specs.declared.held.Held.{Held}
+use Rattle.si_arena.specs.declared.held.Held.TheVariants as held
+use Rattle.si_arena.specs.declared.contents.Contents.{Contents}
+use Rattle.si_arena.specs.declared.contents.Contents.TheVariants as contents
 use Rattle.si_arena.specs.declared.cause.Fault.{Fault}
 use Rattle.si_arena.specs.declared.cause.Fault.TheVariants.{Raises, NoMemory}
 use Rattle.si_arena.specs.declared.cause.Cause.TheVariants.{TooLong}
@@ -39,6 +47,7 @@ built_in_of built.Min = pure.Min
 built_in_of built.Max = pure.Max
 built_in_of built.Bytes = pure.MakeBytes
 built_in_of built.Tuple = pure.MakeTuple
+built_in_of built.List = pure.MakeList
 
 -- what a value denotes; of what denotes none, None
 abbrev pub value_of : Memory → Ref → pure.Value
@@ -97,7 +106,35 @@ AllLie m (r ∷ rs) = Lies m r × AllLie m rs
 abbrev pub range_of : Steps → pure.Value
 range_of s = pure.Range s.start s.stop s.step
 
--- an object
+-- the key that a value is; of what is none the empty word
+abbrev pub key_meant : pure.Value → pure.Key
+key_meant (pure.Int i) = pure.Number i
+key_meant (pure.Str s) = pure.Word s
+key_meant _ = pure.Word []
+
+-- a value is a key
+abbrev pub IsKey : pure.Value → Type 0
+IsKey v = key_of v ≡ Some (key_meant v)
+
+-- a key with its value
+abbrev pub pair_of : Memory → Pair → pure.Key × pure.Value
+pair_of m p = (key_meant (value_of m p.key), value_of m p.value)
+
+-- the pairs of a dict, by its entries
+abbrev pub pairs_of : Memory → List (Atom × Pair) → List (pure.Key × pure.Value)
+pairs_of m es = map (λ e. pair_of m e.1) es
+
+-- a key and its value lie in an arena
+pub record PairLies (m : Memory) (p : Pair) : Type 0 where
+  pub key : Lies m p.key
+  pub is_key : IsKey (value_of m p.key)
+  pub value : Lies m p.value
+
+abbrev pub PairsLie : Memory → List (Atom × Pair) → Type 0
+PairsLie m [] = Unit {0}
+PairsLie m (e ∷ es) = PairLies m e.1 × PairsLie m es
+
+-- an exception or a thread
 abbrev pub object_of : Memory → Object → pure.Object
 object_of m (Bare kind) = pure.Exception kind None
 object_of m (Made kind r) = pure.Exception kind (Some (value_of m r))
@@ -113,9 +150,41 @@ ObjectLies m (Caused cause) = CauseLies m.names cause
 ObjectLies m (Thread interpreter r) = Lies m r × IsText r
 ObjectLies m (Started run) = Unit {0}
 
-abbrev pub ObjectsLie : Memory → List Object → Type 0
+-- the object that lies at an address
+abbrev pub held_of : Memory → Held → pure.Object
+held_of m (held.Bare kind) = object_of m (Bare kind)
+held_of m (held.Made kind r) = object_of m (Made kind r)
+held_of m (held.Caused cause) = object_of m (Caused cause)
+held_of m (held.Thread interpreter r) = object_of m (Thread interpreter r)
+held_of m (held.Started run) = object_of m (Started run)
+held_of m (held.List rs) = pure.Items (all_of m rs)
+held_of m (held.Dict es) = pure.Pairs (pairs_of m es)
+
+-- what it speaks of lies in an arena
+abbrev pub HeldLies : Memory → Held → Type 0
+HeldLies m (held.Bare kind) = ObjectLies m (Bare kind)
+HeldLies m (held.Made kind r) = ObjectLies m (Made kind r)
+HeldLies m (held.Caused cause) = ObjectLies m (Caused cause)
+HeldLies m (held.Thread interpreter r) = ObjectLies m (Thread interpreter r)
+HeldLies m (held.Started run) = ObjectLies m (Started run)
+HeldLies m (held.List rs) = AllLie m rs
+HeldLies m (held.Dict es) = PairsLie m es
+
+abbrev pub ObjectsLie : Memory → List Held → Type 0
 ObjectsLie m [] = Unit {0}
-ObjectsLie m (o ∷ os) = ObjectLies m o × ObjectsLie m os
+ObjectsLie m (h ∷ hs) = HeldLies m h × ObjectsLie m hs
+
+-- what an object holds
+abbrev pub contents_of : Memory → Contents → pure.Object
+contents_of m (contents.Plain o) = object_of m o
+contents_of m (contents.List rs) = pure.Items (all_of m rs.now)
+contents_of m (contents.Dict d) = pure.Pairs (pairs_of m d.now)
+
+-- and it lies in an arena
+abbrev pub ContentsLie : Memory → Contents → Type 0
+ContentsLie m (contents.Plain o) = ObjectLies m o
+ContentsLie m (contents.List rs) = AllLie m rs.now
+ContentsLie m (contents.Dict d) = PairsLie m d.now
 
 -- ---- the words of contracts
 
@@ -166,3 +235,48 @@ pub record IsNamed (x : pure.Text) (old new : Memory) (place : ℕ) : Type 0 whe
 pub record IsMade (o : pure.Object) (old new : Memory) (r : Ref) : Type 0 where
   pub address : r ≡ value.Object (length old.store)
   pub memory : new ≡ record old { store = old.store ++ o ∷ [] }
+
+-- the items of a list; of any other object none
+abbrev pub items_of_object : Option pure.Object → List pure.Value
+items_of_object (Some (pure.Items vs)) = vs
+items_of_object _ = []
+
+-- the pairs of a dict; of any other object none
+abbrev pub pairs_of_object : Option pure.Object → List (pure.Key × pure.Value)
+pairs_of_object (Some (pure.Pairs ps)) = ps
+pairs_of_object _ = []
+
+-- the items of the list, and the pairs of the dict, at an address
+abbrev pub list_at : Memory → ℕ → List pure.Value
+list_at m x = items_of_object (slice_get m.store x)
+
+abbrev pub dict_at : Memory → ℕ → List (pure.Key × pure.Value)
+dict_at m x = pairs_of_object (slice_get m.store x)
+
+-- a list, and a dict, is at an address
+abbrev pub IsListAt : Memory → ℕ → Type 0
+IsListAt m x = slice_get m.store x ≡ Some (pure.Items (list_at m x))
+
+abbrev pub IsDictAt : Memory → ℕ → Type 0
+IsDictAt m x = slice_get m.store x ≡ Some (pure.Pairs (dict_at m x))
+
+-- an object is another from now on, at its address; nothing else is changed
+abbrev pub with_object : ℕ → pure.Object → Memory → Memory
+with_object x o m = record m { store = slice_set m.store x o }
+
+-- the items of a tuple or a list; of any other value none
+abbrev pub items_held : Opened → List pure.Value
+items_held (InTuple vs) = vs
+items_held (InList x vs) = vs
+items_held _ = []
+
+-- the value of a key, where there is one
+abbrev pub value_by : Option pure.Key → List (pure.Key × pure.Value) → Option pure.Value
+value_by (Some k) ps = value_at k ps
+value_by None ps = None
+
+-- a dict of pairs was made, where there are pairs; where a key is none, nothing is changed
+abbrev pub MakesDict : Option (List (pure.Key × pure.Value)) → Memory → Memory → Option Ref → Type 0
+MakesDict (Some ps) old new (Some r) = IsMade (pure.Pairs ps) old new r
+MakesDict None old new None = new ≡ old
+MakesDict _ old new _ = ⊥

@@ -14,25 +14,30 @@ ghost use Rattle.si_arena.specs.Views.{value_in};
 
 use crate::bytes::{bytes_of_text, text_of_bytes};
 use crate::cause::{Cause, Fault};
+use crate::contents::Contents;
+use crate::held::Held;
 use crate::object::{Object, Steps};
 use crate::texts::Texts;
 use crate::tuples::{Size, Tuples};
 use crate::value::Ref;
 use crate::view::View;
+use crate::words::Words;
 use si_plain::limits::{MAX_TUPLE_LEVELS, MAX_TUPLE_VALUES};
 use si_plain::{NoMemory, Text};
 use std::alloc::Global;
 use std::marker::Model;
 
-/// What the scripts of one interpreter hold: texts, names, ranges, tuples and objects.
+/// What the scripts of one interpreter hold: texts, names, ranges, tuples and objects, and the long texts that are keys of
+/// dicts.
 #[derive(Drop)]
 pub struct Arena {
-    alloc: Global,
-    texts: Texts,
+    pub(crate) alloc: Global,
+    pub(crate) texts: Texts,
     names: Vec<Text>,
     ranges: Vec<Steps>,
-    tuples: Tuples,
-    objects: Vec<Object>,
+    pub(crate) tuples: Tuples,
+    pub(crate) words: Words,
+    pub(crate) objects: Vec<Held>,
 }
 
 impl Model for Arena {
@@ -47,7 +52,7 @@ impl Model for Arena {
 
     ghost view = { λ a. memory_of a.texts a.names.items a.ranges.items a.tuples.items a.tuples.tuples a.objects.items };
 
-    ghost invariant = { λ a. IsArena a.texts a.names.items a.ranges.items a.tuples.items a.tuples.tuples a.objects.items };
+    ghost invariant = { λ a. IsArena a.texts a.names.items a.ranges.items a.tuples.items a.tuples.tuples a.objects.items a.words };
 }
 
 impl Arena {
@@ -61,6 +66,7 @@ impl Arena {
             names: Vec::new(alloc),
             ranges: Vec::new(alloc),
             tuples: Tuples::new(alloc),
+            words: Words::new(alloc),
             objects: Vec::new(alloc),
         }
     }
@@ -218,14 +224,14 @@ impl Arena {
         Ok(number)
     }
 
-    /// An object, at the next address; unchanged where memory is refused.
+    /// An exception or a thread, at the next address; unchanged where memory is refused.
     pub fn make(&mut self, object: Object) -> Result<Ref, NoMemory>
         requires { ObjectLies self.old object }
         ensures ok { IfOk result (λ r. IsMade (object_of self.old object) self.old self.new r) }
         ensures err { OnErr result (self.new ≡ self.old) }
     {
         let address = self.objects.len();
-        self.objects.push(object)?;
+        self.objects.push(Held::plain(object))?;
         Ok(Ref::Object(address))
     }
 
@@ -235,14 +241,14 @@ impl Arena {
         requires { address < length self.old.store }
         ensures { self.new ≡ record self.old { store = slice_set self.old.store address (pure.Started run) } }
     {
-        self.objects[address] = Object::Started(run);
+        self.objects[address] = Held::Started(run);
     }
 }
 
 impl Arena {
     ghost use Rattle.std.specs.Prelude.{◌≡◌, ◌<◌, length, get_or, slice_get, Some, IfOk};
     ghost use Rattle.si_arena.specs.Causes.{name_at, message_of, CauseLies};
-    ghost use Rattle.si_arena.specs.Memory.{value_of, all_of, range_of, object_of, ObjectLies, Lies, AllLie};
+    ghost use Rattle.si_arena.specs.Memory.{value_of, all_of, range_of, contents_of, ContentsLie, Lies, AllLie};
     ghost use Rattle.si_arena.specs.Bytes.{bytes_of};
     ghost use Rattle.si_arena.specs.Views.{value_in, ShowsText, PartsLie};
 
@@ -310,13 +316,13 @@ impl Arena {
         self.tuples.items(place)
     }
 
-    /// The object at an address.
-    pub fn object(&self, address: usize) -> Object
+    /// What the object at an address holds.
+    pub fn object(&self, address: usize) -> Contents<'_>
         requires { address < length self.now.store }
-        ensures object { slice_get self.now.store address ≡ Some (object_of self.now result) }
-        ensures lies { ObjectLies self.now result }
+        ensures object { slice_get self.now.store address ≡ Some (contents_of self.now result) }
+        ensures lies { ContentsLie self.now result }
     {
-        self.objects[address]
+        self.objects[address].contents()
     }
 
     /// The name of a number.
@@ -345,6 +351,16 @@ mod tests {
     use crate::value::Ref;
     use si_plain::Kind;
     use std::test::Fail;
+
+    // The kind of the exception at an address.
+    fn kind_at(arena: &Arena, address: usize) -> Option<&'static str>
+        requires { address < length arena.now.store }
+    {
+        match arena.object(address) {
+            Contents::Plain(object) => Some(object.kind().name()),
+            _ => None,
+        }
+    }
 
     #[test]
     fn narrow_texts_are_joined(rt: HostRuntime) -> Result<(), Fail> {
@@ -424,7 +440,7 @@ mod tests {
         let text = arena.message(Cause::NotDefined(number))?;
         assert_eq!(rt; text.as_str(), "name total is not defined");
         let _value = arena.make(Object::Caused(Cause::NotBound(number)))?;
-        assert_eq!(rt; arena.object(0).kind().name(), "UnboundLocalError");
+        assert_eq!(rt; kind_at(&arena, 0), Some("UnboundLocalError"));
         Ok(())
     }
 
@@ -438,11 +454,11 @@ mod tests {
         })?;
         arena.start(1, 7);
         let started = match arena.object(1) {
-            Object::Started(run) => run == 7,
+            Contents::Plain(Object::Started(run)) => run == 7,
             _ => false,
         };
         assert!(rt; started);
-        assert_eq!(rt; arena.object(0).kind().name(), "ValueError");
+        assert_eq!(rt; kind_at(&arena, 0), Some("ValueError"));
         Ok(())
     }
 

@@ -33,6 +33,8 @@ pub enum Cause {
     NotBound(usize),
     /// A value has no attribute of this name (Python Language Reference 3.14, 6.3.1).
     NoAttribute(usize),
+    /// A dict got another key, or lost one, while its keys were gone over (Python Standard Library 3.14, "Mapping Types").
+    SizeChanged,
     /// A call is refused by the rules of a module.
     Refused(Refusal),
 }
@@ -77,6 +79,7 @@ impl Cause {
             Cause::NotDefined(_) => Kind::NameError,
             Cause::NotBound(_) => Kind::UnboundLocalError,
             Cause::NoAttribute(_) => Kind::AttributeError,
+            Cause::SizeChanged => Kind::RuntimeError,
             Cause::Refused(refusal) => refusal.kind(),
         }
     }
@@ -101,6 +104,7 @@ impl Cause {
             Cause::NotDefined(name) => name_is_not_defined(alloc, &names[name]),
             Cause::NotBound(name) => local_is_not_bound(alloc, &names[name]),
             Cause::NoAttribute(name) => has_no_attribute(alloc, &names[name]),
+            Cause::SizeChanged => ascii(alloc, "dictionary changed size"),
             Cause::Refused(refusal) => ascii(alloc, refusal.message()),
         }
     }

@@ -2,6 +2,9 @@
 
 ghost use Rattle.std.specs.Prelude.{◌≤◌};
 
+use crate::characters::Characters;
+use std::hash::{Hash, Hasher};
+
 /// A text of at most 14 characters, each of a code point below 256, so that it takes no memory of its own.
 #[derive(Clone, Copy, Debug)]
 pub struct Short {
@@ -14,6 +17,7 @@ impl Short {
     ghost use Rattle.std.specs.Prelude.{◌≡◌, ◌+◌, ◌<◌, ◌≤◌, ◌++◌, ◌∷◌, [], length, MatchOption};
     ghost use Rattle.si_plain.specs.Characters.{characters_of};
     ghost use Rattle.si_arena.specs.Short.{short_text, FitsShort};
+    ghost use Rattle.si_arena.specs.Texts.{characters_in};
 
     /// The most characters that it has.
     pub const CAPACITY: usize = 14;
@@ -54,6 +58,55 @@ impl Short {
         Some(short)
     }
 
+    /// The text of these characters, where they are few enough and each is below 256.
+    pub fn from_characters(characters: Characters) -> Option<Short>
+        ensures { MatchOption result (¬ FitsShort (characters_in characters.entry)) (λ s. short_text s ≡ characters_in characters.entry) }
+    {
+        match characters {
+            Characters::Narrow(characters) => Short::from_narrow(characters),
+            Characters::Wide(characters) => Short::from_wide(characters),
+        }
+    }
+
+    // The text of these characters, where they are few enough.
+    fn from_narrow(characters: &[u8]) -> Option<Short>
+        ensures { MatchOption result (¬ FitsShort characters.now) (λ s. short_text s ≡ characters.now) }
+    {
+        if characters.len() > Short::CAPACITY {
+            return None;
+        }
+        let mut short = Short::new();
+        short.append(characters);
+        Some(short)
+    }
+
+    // The text of these characters, where they are few enough and each is below 256.
+    fn from_wide(characters: &[char]) -> Option<Short>
+        ensures { MatchOption result (¬ FitsShort characters.now) (λ s. short_text s ≡ characters.now) }
+    {
+        if characters.len() > Short::CAPACITY {
+            return None;
+        }
+        let mut short = Short::new();
+        for c in characters {
+            if *c > '\u{ff}' {
+                return None;
+            }
+            short.push(*c as u8);
+        }
+        Some(short)
+    }
+
+    /// Its characters are few enough, and each is below 256.
+    pub(crate) fn fits(&self)
+        ensures { FitsShort (short_text self.now) }
+    {
+        let characters = self.as_slice();
+        for i in 0..characters.len() {
+            let _byte = characters[i];
+        }
+    }
+
     /// Its characters, by their code points.
     pub fn as_slice(&self) -> &[u8]
         ensures { result.now ≡ short_text self.now }
@@ -78,5 +131,43 @@ impl Short {
         for c in characters {
             self.push(*c);
         }
+    }
+}
+
+impl PartialEq for Short {
+    ghost use Rattle.std.specs.Prelude.{bytes_eq};
+    ghost use Rattle.std.specs.Cmp.{partial_equiv_from_equiv, on_equiv};
+    ghost use Rattle.std.specs.Cmp.Lexicographic.{nat_list_eq_equiv};
+    ghost use Rattle.si_arena.specs.Short.{short_text};
+
+    ghost eq = { λ s t. bytes_eq (short_text s) (short_text t) };
+
+    ghost laws = { partial_equiv_from_equiv (on_equiv short_text nat_list_eq_equiv) };
+
+    fn eq(&self, other: &Short) -> bool {
+        self.as_slice() == other.as_slice()
+    }
+}
+
+impl Eq for Short {
+    ghost use Rattle.std.specs.Cmp.{on_equiv};
+    ghost use Rattle.std.specs.Cmp.Lexicographic.{nat_list_eq_equiv};
+    ghost use Rattle.si_arena.specs.Short.{short_text};
+
+    ghost laws = { on_equiv short_text nat_list_eq_equiv };
+}
+
+impl Hash for Short {
+    ghost use Rattle.std.specs.Prelude.{◌∷◌, []};
+    ghost use Rattle.std.proofs.Common.{ap};
+    ghost use Rattle.std.specs.Cmp.Lexicographic.{bytes_decides};
+    ghost use Rattle.si_arena.specs.Short.{short_text};
+
+    ghost hash_input = { λ s. short_text s ∷ [] };
+
+    ghost respects_eq = { λ s t h. ap (λ cs. cs ∷ []) ((bytes_decides (short_text s) (short_text t)).0 h) };
+
+    fn hash<H: Hasher>(&self, state: &mut H) {
+        state.write(self.as_slice());
     }
 }

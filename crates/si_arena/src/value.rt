@@ -21,6 +21,7 @@ pub enum BuiltIn {
     Max,
     Bytes,
     Tuple,
+    List,
 }
 
 /// Which row of the arena has room for a text: the narrow one for characters below 256 alone.

@@ -12,3 +12,6 @@ pub mod Tried
 pub mod Silent
 pub mod Elifs
 pub mod LoopStmts
+pub mod TargetCode
+pub mod AssignCode
+pub mod UpdateCode

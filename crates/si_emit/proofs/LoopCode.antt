@@ -1,5 +1,5 @@
 -- What the parts of loops give, once their starts are told where they lead.
-use Rattle.std.proofs.Common.{◌≡◌, ℕ, ◌+◌, ◌-◌, ◌≤◌, List, [], ◌∷◌, ◌++◌, length, true, Result, Ok, Err, OnOk, OnErr, Option, Some, None, sym, ap, subst, ◌∙◌, append_assoc, append-nil, length-append, arith}
+use Rattle.std.proofs.Common.{◌≡◌, ℕ, ◌+◌, ◌-◌, ◌≤◌, List, [], ◌∷◌, ◌++◌, length, true, Result, Ok, Err, OnOk, OnErr, sym, ap, subst, ◌∙◌, append_assoc, length-append, arith}
 use Rattle.si_semantics.specs.Value.{Text}
 use Rattle.si_semantics.specs.Tree as tree
 use Rattle.si_slots.specs.declared.operand.Source as operand
@@ -11,7 +11,7 @@ use Rattle.si_slots.specs.Views.{Gains, locals_now, words_now, source_of}
 use Rattle.si_slots.specs.inner.Jumps.{Leads, Bounds}
 use Rattle.si_slots.proofs.Gained.{Extends-trans, Gains-append, length_gained}
 use Rattle.si_emit.specs.inner.Fronts.{front, held}
-use Rattle.si_emit.specs.inner.Turns.{turn_code, bound_code, next_code}
+use Rattle.si_emit.specs.inner.Turns.{turn_code}
 use Rattle.si_emit.proofs.Fronts.{single_is}
 use Rattle.si_emit.proofs.Emitted.{Lies, operand_gains}
 use Rattle.si_emit.proofs.Conditions.{ending_repeat}
@@ -99,30 +99,17 @@ module _ (ls : List Text) (a : tree.Expr) where
       let at : start ≡ length t0.lines + length before = omega (arith, here, size) in
       subst (Gains t0 t5) (sym (split (next - start - 1) (length rest))) (bounds t0 before rest (machine.StartFor 0 0 (held place 0)) (subst (Gains t0 t4) (split 0 0) all) at)
 
-  pub for_gains : {t0 t1 t2 t3 t4 t5 : Contents} (x : Text) (k : Option ℕ) (body last : List machine.Instr) (start next : ℕ) → start + 1 ≡ length t0.lines + length (entry ls a) → next ≡ length t2.lines
-      → Gains t0 t1 (entry ls a ++ bound_code x k) → Gains t1 t2 body → Gains t2 t3 (next_code k (length t2.lines - start) ∷ []) → Gains t3 t4 last → Bounds t4 start next t5
-      → Gains t0 t5 (for_code (λ i. with_code ls a i) x k body last)
-  for_gains {t0} {t1} {t2} {t3} {t4} {t5} x None body last start next here there h0 h1 h2 h3 bounds =
-      let bound = machine.StoreGlobal x (Temporary 0) in
-      let item = next_code None (length body + 2) in
-      let rest = bound ∷ (body ++ (item ∷ last)) in
-      let long : length t2.lines ≡ start + 2 + length body = omega (arith, here, length_gained h0, length-append (entry ls a) (bound ∷ []), length_gained h1) in
-      let back : length t2.lines - start ≡ length body + 2 = omega (arith, long) in
-      let tail : Gains t1 t4 (body ++ (item ∷ last)) = Gains-append t1 t2 t4 body (item ∷ last) h1 (Gains-append t2 t3 t4 (item ∷ []) last (subst (λ n. Gains t2 t3 (next_code None n ∷ [])) back h2) h3) in
-      let all : Gains t0 t4 (entry ls a ++ rest) = subst (Gains t0 t4) (append_assoc (entry ls a) (bound ∷ []) (body ++ (item ∷ last))) (Gains-append t0 t1 t4 (entry ls a ++ bound ∷ []) (body ++ (item ∷ last)) h0 tail) in
-      let to_next : next - start - 1 ≡ length body + 1 = omega (arith, there, long) in
-      let to_end : length rest ≡ length body + 2 + length last = omega (arith, length-append body (item ∷ last)) in
-      subst (λ m. Gains t0 t5 (with_code ls a (λ s. machine.StartFor (length body + 1) m s) ++ rest)) to_end
-      (subst (λ m. Gains t0 t5 (with_code ls a (λ s. machine.StartFor m (length rest) s) ++ rest)) to_next (for_start rest start next here all bounds))
-  for_gains {t0} {t1} {t2} {t3} {t4} {t5} x (Some k) body last start next here there h0 h1 h2 h3 bounds =
-      let item = next_code (Some k) (length body + 1) in
-      let rest = body ++ (item ∷ last) in
-      let first : Gains t0 t1 (entry ls a) = subst (Gains t0 t1) (append-nil (entry ls a)) h0 in
-      let long : length t2.lines ≡ start + 1 + length body = omega (arith, here, length_gained first, length_gained h1) in
-      let back : length t2.lines - start ≡ length body + 1 = omega (arith, long) in
-      let tail : Gains t1 t4 rest = Gains-append t1 t2 t4 body (item ∷ last) h1 (Gains-append t2 t3 t4 (item ∷ []) last (subst (λ n. Gains t2 t3 (next_code (Some k) n ∷ [])) back h2) h3) in
-      let all : Gains t0 t4 (entry ls a ++ rest) = Gains-append t0 t1 t4 (entry ls a) rest first tail in
-      let to_next : next - start - 1 ≡ length body = omega (arith, there, long) in
-      let to_end : length rest ≡ length body + 1 + length last = omega (arith, length-append body (item ∷ last)) in
-      subst (λ m. Gains t0 t5 (with_code ls a (λ s. machine.StartFor (length body) m s) ++ rest)) to_end
+  pub for_gains : {t0 t1 t2 t3 t4 t5 : Contents} (g : Target) (bind body last : List machine.Instr) (start next : ℕ) → start + 1 ≡ length t0.lines + length (entry ls a) → next ≡ length t2.lines
+      → Gains t0 t1 (entry ls a ++ bind) → Gains t1 t2 body → Gains t2 t3 (machine.NextItem g (length t2.lines - start) ∷ []) → Gains t3 t4 last → Bounds t4 start next t5
+      → Gains t0 t5 (for_code (λ i. with_code ls a i) g bind body last)
+  for_gains {t0} {t1} {t2} {t3} {t4} {t5} g bind body last start next here there h0 h1 h2 h3 bounds =
+      let item = machine.NextItem g (length bind + length body + 1) in
+      let rest = bind ++ (body ++ (item ∷ last)) in
+      let long : length t2.lines ≡ start + 1 + length bind + length body = omega (arith, here, length_gained h0, length-append (entry ls a) bind, length_gained h1) in
+      let back : length t2.lines - start ≡ length bind + length body + 1 = omega (arith, long) in
+      let tail : Gains t1 t4 (body ++ (item ∷ last)) = Gains-append t1 t2 t4 body (item ∷ last) h1 (Gains-append t2 t3 t4 (item ∷ []) last (subst (λ n. Gains t2 t3 (machine.NextItem g n ∷ [])) back h2) h3) in
+      let all : Gains t0 t4 (entry ls a ++ rest) = subst (Gains t0 t4) (append_assoc (entry ls a) bind (body ++ (item ∷ last))) (Gains-append t0 t1 t4 (entry ls a ++ bind) (body ++ (item ∷ last)) h0 tail) in
+      let to_next : next - start - 1 ≡ length bind + length body = omega (arith, there, long) in
+      let to_end : length rest ≡ length bind + length body + 1 + length last = omega (arith, length-append bind (body ++ (item ∷ last)), length-append body (item ∷ last)) in
+      subst (λ m. Gains t0 t5 (with_code ls a (λ s. machine.StartFor (length bind + length body) m s) ++ rest)) to_end
       (subst (λ m. Gains t0 t5 (with_code ls a (λ s. machine.StartFor m (length rest) s) ++ rest)) to_next (for_start rest start next here all bounds))

@@ -9,13 +9,13 @@ use Rattle.si_syntax.specs.Trees.{body_of, clause_of, stmt_of}
 use Rattle.si_syntax.proofs.Rows.{rest_is}
 use Rattle.si_semantics.specs.Value.{Text}
 use Rattle.si_semantics.specs.Tree as tree
-use Rattle.si_semantics.specs.Tree.{functions_in, functions_in_clauses, functions_of}
+use Rattle.si_semantics.specs.Tree.{count_of_targets, functions_in, functions_in_clauses, functions_of}
 use Rattle.si_semantics.specs.Scope.{place_of}
 use Rattle.si_slots.specs.Machine as machine
 use Rattle.si_slots.specs.Machine.{Source, Temporary, Target, ToTemporary, ToLocal, ToNowhere, Instr}
-use Rattle.si_slots.specs.Code.{in_place, jumps, expr_code, with_code, simple_code, row_code, boolean_code, early_of, condition_code, assign_code, augment_code, for_code, return_code, raise_code, stmt_code, stmts_code}
+use Rattle.si_slots.specs.Code.{in_place, jumps, expr_code, with_code, simple_code, row_code, boolean_code, early_of, condition_code, target_code, targets_code, assign_code, store_code, assign_target_code, assign_all_code, augment_instr, augmented_code, augment_code, delete_code, item_target, item_code, for_code, return_code, raise_code, stmt_code, stmts_code}
 use Rattle.si_emit.specs.inner.Silence.{silent, silent_suite}
-use Rattle.si_emit.proofs.Fronts.{Starts, starts, starts_here, starts_append, starts_after, starts_last, starts_single, starts_test, starts_branch}
+use Rattle.si_emit.proofs.Fronts.{Starts, starts, starts_here, starts_append, starts_after, starts_last, starts_single, starts_pair, starts_test, starts_branch}
 
 -- both of two truths
 both : (a b : Bool) → (a && b) ≡ true → (a ≡ true) × (b ≡ true)
@@ -28,8 +28,10 @@ both false b h = absurd cc
 mutual
   pub silent_stmt : (s : tree.Stmt) → silent s ≡ true → (ls : List Text) (first : ℕ) → stmt_code ls first s ≡ []
   silent_stmt (tree.Evaluate a) h ls first = absurd cc
-  silent_stmt (tree.Assign g a) h ls first = absurd cc
-  silent_stmt (tree.Augment g o a) h ls first = absurd cc
+  silent_stmt (tree.Assign ts a) h ls first = absurd cc
+  silent_stmt (tree.Augment x o a) h ls first = absurd cc
+  silent_stmt (tree.AugmentItem a b o c) h ls first = absurd cc
+  silent_stmt (tree.Delete a b) h ls first = absurd cc
   silent_stmt tree.Pass h ls first = refl
   silent_stmt (tree.If a b c) h ls first = absurd cc
   silent_stmt (tree.While a b c) h ls first = absurd cc
@@ -58,8 +60,10 @@ mutual
 mutual
   pub silent_stmt_functions : (s : tree.Stmt) → silent s ≡ true → functions_of s ≡ []
   silent_stmt_functions (tree.Evaluate a) h = absurd cc
-  silent_stmt_functions (tree.Assign g a) h = absurd cc
-  silent_stmt_functions (tree.Augment g o a) h = absurd cc
+  silent_stmt_functions (tree.Assign ts a) h = absurd cc
+  silent_stmt_functions (tree.Augment x o a) h = absurd cc
+  silent_stmt_functions (tree.AugmentItem a b o c) h = absurd cc
+  silent_stmt_functions (tree.Delete a b) h = absurd cc
   silent_stmt_functions tree.Pass h = refl
   silent_stmt_functions (tree.If a b c) h = absurd cc
   silent_stmt_functions (tree.While a b c) h = absurd cc
@@ -105,6 +109,8 @@ starts_condition ls (tree.Subscript a b) g = starts_simple ls (tree.Subscript a 
 starts_condition ls (tree.Attribute a x) g = starts_simple ls (tree.Attribute a x) g
 starts_condition ls (tree.Call f x args names) g = starts_simple ls (tree.Call f x args names) g
 starts_condition ls (tree.Tuple items) g = starts_simple ls (tree.Tuple items) g
+starts_condition ls (tree.ListDisplay items) g = starts_simple ls (tree.ListDisplay items) g
+starts_condition ls (tree.DictDisplay items) g = starts_simple ls (tree.DictDisplay items) g
 starts_condition ls (tree.Boolean o a more) g = starts_boolean ls (early_of o g) o a more g
 starts_condition ls (tree.Compare a cs) g = starts_simple ls (tree.Compare a cs) g
 starts_condition ls (tree.Conditional a b c) g = starts_simple ls (tree.Conditional a b c) g
@@ -116,13 +122,39 @@ starts_assign : (ls : List Text) (x : Text) (k : Option ℕ) (a : tree.Expr) →
 starts_assign ls x None a = starts_with ls a (λ s. machine.StoreGlobal x s)
 starts_assign ls x (Some k) a = starts ls 0 (ToLocal k) a
 
-starts_augment : (ls : List Text) (x : Text) (k : Option ℕ) (o : tree.BinaryOperator) (a : tree.Expr) → Starts (augment_code ls x k o a)
-starts_augment ls x None o a = starts_last (expr_code ls 0 (ToTemporary 0) (tree.Binary o (tree.Name x) a)) (machine.StoreGlobal x (Temporary 0))
-starts_augment ls x (Some k) o a = starts ls 0 (ToLocal k) (tree.Binary o (tree.Name x) a)
+starts_target : (ls : List Text) (d : ℕ) (t : tree.Target) → Starts (target_code ls d t)
+starts_target ls d (tree.Named x) = starts_here _ []
+starts_target ls d (tree.Item a b) = starts_pair (in_place ls a) (in_place ls b) _ _ (d + 1) (λ s t. machine.StoreItem (Temporary d) s t)
+starts_target ls d (tree.Unpack ts) = starts_here _ (targets_code ls d ts)
 
-starts_for : (ls : List Text) (a : tree.Expr) (x : Text) (k : Option ℕ) (body last : List Instr) → Starts (for_code (λ i. with_code ls a i) x k body last)
-starts_for ls a x None body last = starts_append _ _ (starts_with ls a (λ s. machine.StartFor (length body + 1) (length body + 2 + length last) s))
-starts_for ls a x (Some k) body last = starts_append _ _ (starts_with ls a (λ s. machine.StartFor (length body) (length body + 1 + length last) s))
+starts_store : (a b c : Option Source) (code : List Instr) → Starts code → Starts (store_code a b c code)
+starts_store (Some a) (Some b) (Some c) code h = starts_here (machine.StoreItem a b c) []
+starts_store (Some a) (Some b) None code h = h
+starts_store (Some a) None c code h = h
+starts_store None b c code h = h
+
+starts_assign_target : (ls : List Text) (t : tree.Target) (a : tree.Expr) → Starts (assign_target_code ls t a)
+starts_assign_target ls (tree.Named x) a = starts_assign ls x (place_of x ls) a
+starts_assign_target ls (tree.Item b c) a = starts_store (in_place ls a) (in_place ls b) (in_place ls c) _ (starts_append _ _ (starts ls 0 (ToTemporary 0) a))
+starts_assign_target ls (tree.Unpack ts) a = starts_append _ (targets_code ls 0 ts) (starts_with ls a (λ s. machine.Unpack s 0 (count_of_targets ts)))
+
+starts_assign_all : (ls : List Text) (ts : tree.Targets) (a : tree.Expr) → Starts (assign_all_code ls ts a)
+starts_assign_all ls tree.NoTargets a = starts ls 0 ToNowhere a
+starts_assign_all ls (tree.MoreTargets t tree.NoTargets) a = starts_assign_target ls t a
+starts_assign_all ls (tree.MoreTargets t (tree.MoreTargets u ts)) a = starts_append _ _ (starts ls 0 (ToTemporary 0) a)
+
+starts_augmented : (ls : List Text) (g : Target) (x : Text) (o : tree.BinaryOperator) (a : tree.Expr) → Starts (augmented_code ls g x o a)
+starts_augmented ls g x o a = starts_pair (in_place ls (tree.Name x)) (in_place ls a) _ _ 0 (λ s t. augment_instr o g s t)
+
+starts_augment : (ls : List Text) (x : Text) (k : Option ℕ) (o : tree.BinaryOperator) (a : tree.Expr) → Starts (augment_code ls x k o a)
+starts_augment ls x None o a = starts_last (augmented_code ls (ToTemporary 0) x o a) (machine.StoreGlobal x (Temporary 0))
+starts_augment ls x (Some k) o a = starts_augmented ls (ToLocal k) x o a
+
+starts_delete : (ls : List Text) (a b : tree.Expr) → Starts (delete_code ls a b)
+starts_delete ls a b = starts_pair (in_place ls a) (in_place ls b) _ _ 0 (λ s t. machine.DeleteItem s t)
+
+starts_for : (ls : List Text) (a : tree.Expr) (g : Target) (bind body last : List Instr) → Starts (for_code (λ i. with_code ls a i) g bind body last)
+starts_for ls a g bind body last = starts_append _ _ (starts_with ls a (λ s. machine.StartFor (length bind + length body) (length bind + length body + 1 + length last) s))
 
 starts_return : (ls : List Text) (a : Option tree.Expr) → Starts (return_code ls a)
 starts_return ls None = starts_here _ []
@@ -143,12 +175,14 @@ starts_if ls first a b c = starts_branch (condition_code ls a) (stmts_code ls fi
 mutual
   pub loud_stmt : (s : tree.Stmt) → silent s ≡ false → (ls : List Text) (first : ℕ) → Starts (stmt_code ls first s)
   loud_stmt (tree.Evaluate a) h ls first = starts ls 0 ToNowhere a
-  loud_stmt (tree.Assign (tree.Named x) a) h ls first = starts_assign ls x (place_of x ls) a
-  loud_stmt (tree.Augment (tree.Named x) o a) h ls first = starts_augment ls x (place_of x ls) o a
+  loud_stmt (tree.Assign ts a) h ls first = starts_assign_all ls ts a
+  loud_stmt (tree.Augment x o a) h ls first = starts_augment ls x (place_of x ls) o a
+  loud_stmt (tree.AugmentItem a b o c) h ls first = starts_append _ _ (starts ls 0 (ToTemporary 0) a)
+  loud_stmt (tree.Delete a b) h ls first = starts_delete ls a b
   loud_stmt tree.Pass h ls first = absurd cc
   loud_stmt (tree.If a b c) h ls first = starts_if ls first a b c
   loud_stmt (tree.While a b c) h ls first = starts_here _ _
-  loud_stmt (tree.For (tree.Named x) a b c) h ls first = starts_for ls a x (place_of x ls) (stmts_code ls first b) (stmts_code ls (first + length (functions_in b)) c)
+  loud_stmt (tree.For t a b c) h ls first = starts_for ls a (item_target ls t) (item_code ls t) (stmts_code ls first b) (stmts_code ls (first + length (functions_in b)) c)
   loud_stmt tree.Break h ls first = starts_here _ []
   loud_stmt tree.Continue h ls first = starts_here _ []
   loud_stmt (tree.Define f ps b) h ls first = starts_here _ []

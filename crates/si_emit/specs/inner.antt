@@ -5,3 +5,4 @@ pub mod Turns
 pub mod Functions
 pub mod Clauses
 pub mod Silence
+pub mod Stores

@@ -87,6 +87,8 @@ fn row_of(expr: &Expr) -> Option<(BooleanOperator, &Expr, &[Expr])>
         Expr::Call(_, _, _, _) => None,
         Expr::Subscript(_, _) => None,
         Expr::Tuple(_) => None,
+        Expr::ListDisplay(_) => None,
+        Expr::DictDisplay(_) => None,
         Expr::Compare(_, _) => None,
         Expr::Conditional(_, _, _) => None,
     }

@@ -2,15 +2,16 @@
 // it leads, once all of it is there.
 ghost use Rattle.std.specs.Prelude.{◌≡◌, ◌+◌, ◌-◌, ◌≤◌, ℕ, [], ◌∷◌, ◌++◌, length, IfOk, OnOk};
 ghost use Rattle.si_semantics.specs.Scope.{place_of};
-ghost use Rattle.si_syntax.specs.Trees.{expr_of};
-ghost use Rattle.si_slots.specs.Code.{condition_code, with_code};
+ghost use Rattle.si_syntax.specs.Trees.{expr_of, target_of as tree_target};
+ghost use Rattle.si_slots.specs.Code.{condition_code, item_code, item_of_name, item_target, name_bound_code, with_code};
 ghost use Rattle.si_slots.specs.Contents.{Extends};
 ghost use Rattle.si_slots.specs.Machine as machine;
 ghost use Rattle.si_slots.specs.Views.{Gains, locals_now, target_of};
-ghost use Rattle.si_emit.specs.inner.Turns.{bound_code, next_code, turn_code};
+ghost use Rattle.si_emit.specs.inner.Turns.{turn_code};
 
 use crate::condition::emit_repeat;
 use crate::expression::emit_operand;
+use crate::targets::{emit_store, emit_unpack};
 use si_plain::{Names, NoMemory};
 use si_slots::{CodeTable, FullInstr, Source, Target};
 use si_syntax::Expr;
@@ -35,28 +36,47 @@ pub(crate) fn emit_turn(
 }
 
 /// What stands in front of the suite of a `for`: what it goes over, its entry, which isn't told yet where it leads, and the
-/// binding of its target, where that is global. Says where the entry is.
+/// binding of its target, where that is no local name. Says where the entry is.
 pub(crate) fn emit_entry(
     table: &mut CodeTable,
     locals: &Names,
-    name: &str,
+    target: &si_syntax::Target,
     items: &Expr,
 ) -> Result<usize, NoMemory>
     requires { locals_now table.old ≡ locals.now }
-    ensures ok { OnOk result (Gains table.old table.new (with_code locals.now (expr_of items.now) (λ s. machine.StartFor 0 0 s) ++ bound_code name.now (place_of name.now locals.now))) }
+    ensures ok { OnOk result (Gains table.old table.new (with_code locals.now (expr_of items.now) (λ s. machine.StartFor 0 0 s) ++ item_code locals.now (tree_target target.now))) }
     ensures at { IfOk result (λ at. at + 1 ≡ length table.old.lines + length (with_code locals.now (expr_of items.now) (λ s. machine.StartFor 0 0 s))) }
     ensures extends { Extends table.old table.new }
 {
     let source = emit_operand(table, locals, 0, true, items)?;
     let at = table.len();
     table.put(FullInstr::StartFor(0, 0, source))?;
-    emit_bound(table, locals, name)?;
+    emit_bound(table, locals, target)?;
     Ok(at)
 }
 
-// The target of a `for` is bound to its item, which lies in the first temporary. A local one has it already.
-fn emit_bound(table: &mut CodeTable, locals: &Names, name: &str) -> Result<(), NoMemory>
-    ensures ok { OnOk result (Gains table.old table.new (bound_code name.now (place_of name.now locals.now))) }
+// The target of a `for` is bound to its item, which lies in the first temporary.
+fn emit_bound(
+    table: &mut CodeTable,
+    locals: &Names,
+    target: &si_syntax::Target,
+) -> Result<(), NoMemory>
+    requires { locals_now table.old ≡ locals.now }
+    ensures ok { OnOk result (Gains table.old table.new (item_code locals.now (tree_target target.now))) }
+    ensures extends { Extends table.old table.new }
+{
+    match target {
+        si_syntax::Target::Named(name) => bind_item(table, locals, name.as_str()),
+        si_syntax::Target::Item(item) => emit_store(table, locals, 0, item),
+        si_syntax::Target::Unpack(targets) => {
+            emit_unpack(table, locals, Source::Temporary(0), 0, targets)
+        }
+    }
+}
+
+// The same of a name. A local one has the item already.
+fn bind_item(table: &mut CodeTable, locals: &Names, name: &str) -> Result<(), NoMemory>
+    ensures ok { OnOk result (Gains table.old table.new (name_bound_code name.now (place_of name.now locals.now))) }
     ensures extends { Extends table.old table.new }
 {
     match locals.position(name) {
@@ -70,20 +90,31 @@ fn emit_bound(table: &mut CodeTable, locals: &Names, name: &str) -> Result<(), N
 pub(crate) fn emit_next(
     table: &mut CodeTable,
     locals: &Names,
-    name: &str,
+    target: &si_syntax::Target,
     entry: usize,
 ) -> Result<(), NoMemory>
-    ensures ok { OnOk result (Gains table.old table.new (next_code (place_of name.now locals.now) (length table.old.lines - entry) ∷ [])) }
+    ensures ok { OnOk result (Gains table.old table.new (machine.NextItem (item_target locals.now (tree_target target.now)) (length table.old.lines - entry) ∷ [])) }
     ensures extends { Extends table.old table.new }
 {
     let lines = table.len().saturating_sub(entry);
     let back = u32::try_from(lines).map_err(|_| AllocError)?;
-    table.put(FullInstr::NextItem(item_target(locals, name), back))
+    table.put(FullInstr::NextItem(place_of_item(locals, target), back))
 }
 
 // Where the item of a `for` goes.
-fn item_target(locals: &Names, name: &str) -> Target
-    ensures { (back : ℕ) → machine.NextItem (target_of result) back ≡ next_code (place_of name.now locals.now) back }
+fn place_of_item(locals: &Names, target: &si_syntax::Target) -> Target
+    ensures { target_of result ≡ item_target locals.now (tree_target target.now) }
+{
+    match target {
+        si_syntax::Target::Named(name) => place_of_name(locals, name.as_str()),
+        si_syntax::Target::Item(_) => Target::Temporary(0),
+        si_syntax::Target::Unpack(_) => Target::Temporary(0),
+    }
+}
+
+// The same of a name.
+fn place_of_name(locals: &Names, name: &str) -> Target
+    ensures { target_of result ≡ item_of_name (place_of name.now locals.now) }
 {
     match locals.position(name) {
         Some(place) => Target::Local(place),

@@ -1,8 +1,7 @@
 // The code of loops.
 ghost use Rattle.std.specs.Prelude.{◌≡◌, ◌+◌, length, OnOk};
-ghost use Rattle.si_semantics.specs.Tree as tree;
 ghost use Rattle.si_semantics.specs.Tree.{functions_of};
-ghost use Rattle.si_syntax.specs.Trees.{for_of, target_of, while_of};
+ghost use Rattle.si_syntax.specs.Trees.{for_of, while_of};
 ghost use Rattle.si_slots.specs.Code.{stmt_code};
 ghost use Rattle.si_slots.specs.Contents.{Extends};
 ghost use Rattle.si_slots.specs.Views.{Gains, locals_now};
@@ -11,7 +10,7 @@ use crate::loops::{emit_entry, emit_next, emit_turn};
 use crate::suite::emit_suite;
 use si_plain::{Names, NoMemory};
 use si_slots::{CodeTable, FullInstr};
-use si_syntax::{For, Target, While};
+use si_syntax::{For, While};
 
 /// A `while`.
 #[cycle(stmts)]
@@ -49,20 +48,10 @@ pub(crate) fn emit_for(
     ensures next { OnOk result (next.new ≡ next.old + length (functions_of (for_of statement.now))) }
     ensures extends { Extends table.old table.new }
 {
-    let name = bound_by(&statement.target);
-    let entry = emit_entry(table, locals, name, &statement.items)?;
+    let entry = emit_entry(table, locals, &statement.target, &statement.items)?;
     emit_suite(table, locals, next, &statement.body)?;
     let item = table.len();
-    emit_next(table, locals, name, entry)?;
+    emit_next(table, locals, &statement.target, entry)?;
     emit_suite(table, locals, next, &statement.last)?;
     table.aim_loop(entry, item)
-}
-
-// The name that a target binds.
-fn bound_by(target: &Target) -> &str
-    ensures { target_of target.now ≡ tree.Named result.now }
-{
-    match target {
-        Target::Named(name) => name.as_str(),
-    }
 }

@@ -117,6 +117,8 @@ fn emit_functions_of(
         Stmt::Evaluate(_)
         | Stmt::Assign(_)
         | Stmt::Augment(_)
+        | Stmt::AugmentItem(_)
+        | Stmt::Delete(_)
         | Stmt::Pass
         | Stmt::Break(_)
         | Stmt::Continue(_)

@@ -30,6 +30,8 @@ fn is_silent_stmt(stmt: &Stmt) -> bool
         Stmt::Evaluate(_)
         | Stmt::Assign(_)
         | Stmt::Augment(_)
+        | Stmt::AugmentItem(_)
+        | Stmt::Delete(_)
         | Stmt::If(_)
         | Stmt::While(_)
         | Stmt::For(_)

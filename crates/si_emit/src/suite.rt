@@ -6,12 +6,14 @@ ghost use Rattle.si_slots.specs.Code.{stmt_code, stmts_code};
 ghost use Rattle.si_slots.specs.Contents.{Extends};
 ghost use Rattle.si_slots.specs.Views.{Gains, locals_now};
 
+use crate::assigning::{emit_assign, emit_delete};
 use crate::choosing::emit_if;
 use crate::expression::emit_expr;
 use crate::handlers::{emit_finally, emit_try};
 use crate::naming::emit_import;
 use crate::repeats::{emit_for, emit_while};
-use crate::simple::{emit_assign, emit_augment, emit_define, emit_raise, emit_return};
+use crate::simple::{emit_define, emit_raise, emit_return};
+use crate::updating::{emit_augment, emit_augment_item};
 use si_plain::{Names, NoMemory};
 use si_slots::{CodeTable, FullInstr, Target};
 use si_syntax::Stmt;
@@ -53,6 +55,8 @@ fn emit_stmt(
         Stmt::Evaluate(expr) => emit_expr(table, locals, 0, Target::Nowhere, expr),
         Stmt::Assign(statement) => emit_assign(table, locals, statement),
         Stmt::Augment(statement) => emit_augment(table, locals, statement),
+        Stmt::AugmentItem(statement) => emit_augment_item(table, locals, statement),
+        Stmt::Delete(item) => emit_delete(table, locals, item),
         Stmt::Pass => Ok(()),
         Stmt::If(statement) => emit_if(table, locals, next, statement),
         Stmt::While(statement) => emit_while(table, locals, next, statement),

@@ -44,6 +44,7 @@ request_take (world.Exec i text) e = cc
 request_take (world.AwaitExec r) e = cc
 request_take (world.StartThread x i text) e = cc
 request_take (world.JoinThread r) e = cc
+request_take world.ListAll e = cc
 request_take (world.IsRunning i) e = cc
 request_take (world.Close i) e = cc
 
@@ -63,6 +64,7 @@ request_end (world.Exec i text) o e = cc
 request_end (world.AwaitExec r) o e = cc
 request_end (world.StartThread x i text) o e = cc
 request_end (world.JoinThread r) o e = cc
+request_end world.ListAll o e = cc
 request_end (world.IsRunning i) o e = cc
 request_end (world.Close i) o e = cc
 
@@ -179,6 +181,7 @@ calls_by c (world.Exec i text) m h = h
 calls_by c (world.AwaitExec r) m h = h
 calls_by c (world.StartThread x i text) m h = h
 calls_by c (world.JoinThread r) m h = h
+calls_by c world.ListAll m h = h
 calls_by c (world.IsRunning i) m h = h
 calls_by c (world.Close i) m h = h
 

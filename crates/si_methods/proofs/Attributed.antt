@@ -1,17 +1,17 @@
 -- What attributes give.
-use Rattle.std.proofs.Common.{◌≡◌, ℕ, suc, ◌<◌, ◌^◌, inl, inr, subst, arith, ℤ, pos, negsuc, Bool, true, false, cond, Option, Some, None, Result, Ok, Err, refl, sym, ap, ◌∙◌}
-use Rattle.std.specs.Prelude.{codes, ◌&&◌, int_le, FitsSigned}
+use Rattle.std.proofs.Common.{◌≡◌, ℕ, suc, ◌<◌, ◌^◌, inl, inr, subst, arith, ℤ, pos, negsuc, Bool, true, false, cond, Some, None, Result, Ok, Err, sym, ap, ◌∙◌}
+use Rattle.std.specs.Prelude.{◌&&◌, int_le, FitsSigned}
 use Rattle.std.specs.Int.{w64}
 use Rattle.std.proofs.lemmas.Bool.Decides.{leb_tells}
 use Rattle.si_plain.specs.declared.kind.Kind.{Kind}
 use Rattle.si_plain.specs.declared.kind.Kind.TheVariants.{OverflowError}
 use Rattle.si_plain.specs.Integers.{in_range}
 use Rattle.si_plain.proofs.IntegerFacts.{in_range-fits, in_range-exceeds}
-use Rattle.si_semantics.specs.Value.{Text, Value, Int, Queue, Interpreter, Exec}
+use Rattle.si_semantics.specs.Value.{Text, Value, Int}
 use Rattle.si_semantics.specs.Text.{same_text}
 use Rattle.si_semantics.specs.World.{World}
-use Rattle.si_semantics.specs.Operations.{gave, integer, refused, arithmetic_message}
-use Rattle.si_semantics.specs.Attributes.{attribute, attribute_of, one_of_two}
+use Rattle.si_semantics.specs.Operations.{gave, integer}
+use Rattle.si_semantics.specs.Attributes.{one_of_two}
 
 pub picks_first : (x a b : Text) (u v : Value) → same_text x a ≡ true → one_of_two x a b u v ≡ Some u
 picks_first x a b u v e = ap (λ t. cond t (Some u) (cond (same_text x b) (Some v) None)) e

@@ -1,5 +1,5 @@
 -- What is kept of a request says what an answer makes of it.
-use Rattle.std.proofs.Common.{◌≡◌, ℕ, Bool, true, false, [], refl, sym, ap, ◌∙◌, arith}
+use Rattle.std.proofs.Common.{◌≡◌, Bool, true, false, [], refl, sym, ap, ◌∙◌}
 use Rattle.std.specs.Prelude.{◌&&◌, nat_le}
 use Rattle.std.proofs.lemmas.Bool.{leb-true, le-leb}
 use Rattle.si_semantics.specs.World as world
@@ -30,6 +30,7 @@ request_of (awaited.Exec i) = world.Exec i []
 request_of awaited.AwaitExec = world.AwaitExec 0
 request_of (awaited.StartThread x i) = world.StartThread x i []
 request_of awaited.JoinThread = world.JoinThread 0
+request_of awaited.ListAll = world.ListAll
 request_of (awaited.IsRunning i) = world.IsRunning i
 request_of (awaited.Close i) = world.Close i
 
@@ -49,6 +50,7 @@ kept_reply (world.Exec i text) a w = refl
 kept_reply (world.AwaitExec r) a w = refl
 kept_reply (world.StartThread x i text) a w = refl
 kept_reply (world.JoinThread r) a w = refl
+kept_reply world.ListAll a w = refl
 kept_reply (world.IsRunning i) a w = refl
 kept_reply (world.Close i) a w = refl
 
@@ -260,6 +262,7 @@ kept_fit (world.JoinThread r) (shared.Ended o) = refl
 kept_fit (world.JoinThread r) (shared.Truth b) = refl
 kept_fit (world.JoinThread r) (shared.Ids is) = refl
 kept_fit (world.JoinThread r) (shared.Given j) = refl
+kept_fit world.ListAll a = refl
 kept_fit (world.IsRunning i) a = refl
 kept_fit (world.Close i) a = refl
 

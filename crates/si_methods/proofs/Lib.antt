@@ -9,3 +9,4 @@ pub mod Calling
 pub mod Otherwise
 pub mod Made
 pub mod Sending
+pub mod Joined

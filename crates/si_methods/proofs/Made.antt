@@ -1,6 +1,6 @@
 -- What answers make of requests of which something is kept.
-use Rattle.std.proofs.Common.{◌≡◌, ◌≢◌, ◌<◌, ℕ, Bool, true, false, cond, List, [], length, Option, Some, None, Result, Ok, Err, refl, sym, ap, subst, ◌∙◌, arith, nat_lt, append-nil}
-use Rattle.std.specs.Prelude.{codes, slice_set}
+use Rattle.std.proofs.Common.{◌≡◌, ◌≢◌, ◌<◌, ◌+◌, ℕ, zero, suc, Bool, true, false, cond, List, [], ◌∷◌, ◌++◌, length, map, take, get_or, add-one, Option, Some, None, Result, Ok, Err, refl, sym, ap, subst, ◌∙◌, arith, nat_lt, append-nil}
+use Rattle.std.specs.Prelude.{codes, slice_set, IfOk, OnErr}
 use Rattle.std.proofs.lemmas.List.{length-set}
 use Rattle.std.specs.declared.alloc.AllocError.{AllocError}
 use Rattle.si_semantics.specs.Value as pure
@@ -23,15 +23,16 @@ use Rattle.si_arena.specs.declared.value.Ref.TheVariants as value
 use Rattle.si_arena.specs.declared.object.Object.{Object}
 use Rattle.si_arena.specs.declared.object.Object.TheVariants.{Caused}
 use Rattle.si_arena.specs.Causes.{kind_of, message_of, CauseLies}
-use Rattle.si_arena.specs.Memory.{Memory, value_of, Lies, Extends}
-use Rattle.si_arena.proofs.Lying.{extends_same}
+use Rattle.si_arena.specs.Memory.{Memory, value_of, all_of, Lies, AllLie, Extends, IsMade}
+use Rattle.si_arena.proofs.Lying.{extends_same, extends_made}
 use Rattle.si_methods.specs.declared.request.Awaited.{Awaited}
 use Rattle.si_methods.specs.declared.request.Awaited.TheVariants as awaited
 use Rattle.si_methods.specs.declared.replying.Replied.{Replied}
 use Rattle.si_methods.specs.declared.replying.Replied.TheVariants.{Got, Failed}
 use Rattle.si_methods.specs.Given.{answer_in, item_in}
-use Rattle.si_methods.specs.Replying.{Makes, Replies, MakesException, MakesFailed, IsThere, exception_of, failed_of, received_of}
-use Rattle.si_share.specs.Copies.{CopiesIn, Leaves}
+use Rattle.si_methods.specs.Replying.{Makes, Replies, MakesException, MakesFailed, IsThere, failed_of, received_of}
+use Rattle.si_share.specs.Copies.{CopiesIn, Leaves, NeedsRoom}
+use Rattle.si_methods.specs.Needing.{TakesRoom}
 use Rattle.si_methods.proofs.Kept.{request_of, kept_reply}
 
 -- what an answer makes of one request of which this is kept, it makes of each
@@ -56,9 +57,9 @@ refuses kept a m cause lies h = record {
 }
 
 -- an exception with a message, or memory is refused for it
-pub fails : (kept : Awaited) (a : shared.Answer) (k : Kind) (t : pure.Text) (old new : Memory) (r : Result Object AllocError) → ((w : World) → reply (request_of kept) (answer_in a) w ≡ failed k t w) → MakesException k t old new r → Replies kept a old new (failed_of r)
-fails kept a k t old new (Err e) g h = (subst (Extends old) (sym h) (extends_same old), ap (λ (m : Memory). m.store) h)
-fails kept a k t old new (Ok o) g h = by (nat_lt max_length (length t)) refl
+pub fails : (kept : Awaited) (a : shared.Answer) (k : Kind) (t : pure.Text) (old new : Memory) (r : Result Object AllocError) → TakesRoom kept a → ((w : World) → reply (request_of kept) (answer_in a) w ≡ failed k t w) → MakesException k t old new r → Replies kept a old new (failed_of r)
+fails kept a k t old new (Err e) room g h = (subst (Extends old) (sym h) (extends_same old), ap (λ (m : Memory). m.store) h, room)
+fails kept a k t old new (Ok o) room g h = by (nat_lt max_length (length t)) refl
   where
     by : (b : Bool) → nat_lt max_length (length t) ≡ b → MakesFailed kept a old new o
     by true e = record {
@@ -79,8 +80,8 @@ left (Leaf a) old new e = (subst (Extends old) (sym e) (extends_same old), ap (�
 left (Group s ts) old new h = h
 
 -- an item that is copied in
-pub receives : (kept : Awaited) (p : Tree) (old new : Memory) (r : Result Ref AllocError) → ((v : pure.Value) (w : World) → reply (request_of kept) (world.Item v) w ≡ world.Got v w) → CopiesIn p old new r → Replies kept (shared.Item p) old new (received_of r)
-receives kept p old new (Ok r) g h = (
+pub receives : (kept : Awaited) (p : Tree) (old new : Memory) (r : Result Ref AllocError) → (NeedsRoom p → TakesRoom kept (shared.Item p)) → ((v : pure.Value) (w : World) → reply (request_of kept) (world.Item v) w ≡ world.Got v w) → CopiesIn p old new r → Replies kept (shared.Item p) old new (received_of r)
+receives kept p old new (Ok r) room g h = (
   makes kept (shared.Item p) old (λ w. world.Got (value_of new r) (record w { store = new.store }))
       (λ w s.
       ap (λ o. reply (request_of kept) (item_in o) w) h.1
@@ -90,7 +91,7 @@ receives kept p old new (Ok r) g h = (
   h.2.lies,
   h.2.extends,
 )
-receives kept p old new (Err e) g h = left p old new h.1
+receives kept p old new (Err e) room g h = let l = left p old new h.1 in (l.0, l.1, room h.0)
 
 -- a thread is started
 pub starts : (x i run : ℕ) (old new : Memory) → new ≡ record old { store = slice_set old.store x (pure.Started run) } → Replies (awaited.StartThread x i) (shared.Started run) old new (Ok (Got value.None))
@@ -113,6 +114,41 @@ starts x i run old new e = (
     objects = omega (arith, ap (λ (m : Memory). length m.store) e, length-set old.store x (pure.Started run));
   },
 )
+
+-- interpreters in a new list
+longer : (os : List pure.Object) (o : pure.Object) → length os < length (os ++ o ∷ [])
+longer [] o = omega arith
+longer (x ∷ os) o = omega (arith, longer os o)
+
+pub lists : (ids : List ℕ) (old new : Memory) (r : Result Ref AllocError) → IfOk r (λ x. IsMade (pure.Items (map pure.Interpreter ids)) old new x) → OnErr r (new ≡ old) → Replies awaited.ListAll (shared.Ids ids) old new (received_of r)
+lists ids old new (Ok r) h g = (
+  makes awaited.ListAll (shared.Ids ids) old (λ w. world.Got (value_of new r) (record w { store = new.store }))
+      (λ w s.
+      ap (λ (os : List pure.Object). world.Got (pure.Address (length os)) (record w { store = os ++ pure.Items (map pure.Interpreter ids) ∷ [] })) s
+      ∙ ap (λ v. world.Got v (record w { store = old.store ++ pure.Items (map pure.Interpreter ids) ∷ [] })) (sym (ap (value_of new) h.address))
+      ∙ ap (λ (m : Memory). world.Got (value_of new r) (record w { store = m.store })) (sym h.memory)),
+  subst (Lies new) (sym h.address) (omega (arith, ap (λ (m : Memory). length m.store) h.memory, longer old.store (pure.Items (map pure.Interpreter ids)))),
+  extends_made h,
+)
+lists ids old new (Err e) h g = (subst (Extends old) (sym g) (extends_same old), ap (λ (m : Memory). m.store) g, tt)
+
+-- the interpreters of numbers lie in every arena
+pub interpreters_lie : (m : Memory) (ids : List ℕ) → AllLie m (map value.Interpreter ids)
+interpreters_lie m [] = tt
+interpreters_lie m (i ∷ ids) = (tt, interpreters_lie m ids)
+
+pub interpreters_are : (m : Memory) (ids : List ℕ) → all_of m (map value.Interpreter ids) ≡ map pure.Interpreter ids
+interpreters_are m [] = refl
+interpreters_are m (i ∷ ids) = ap (λ vs. pure.Interpreter i ∷ vs) (interpreters_are m ids)
+
+-- one interpreter more
+pub one_listed : (ids : List ℕ) (k i d : ℕ) → i ≡ get_or ids k d → k < length ids → map value.Interpreter (take k ids) ++ value.Interpreter i ∷ [] ≡ map value.Interpreter (take (k + 1) ids)
+one_listed ids k i d e l = go ids k i d e l ∙ ap (λ j. map value.Interpreter (take j ids)) (sym (add-one k))
+  where
+    go : (ids : List ℕ) (k i d : ℕ) → i ≡ get_or ids k d → k < length ids → map value.Interpreter (take k ids) ++ value.Interpreter i ∷ [] ≡ map value.Interpreter (take (suc k) ids)
+    go [] k i d e l = absurd (omega arith)
+    go (j ∷ ids) zero i d e l = ap (λ x. value.Interpreter x ∷ []) e
+    go (j ∷ ids) (suc k) i d e l = ap (λ xs. value.Interpreter j ∷ xs) (go ids k i d e (omega arith))
 
 -- ---- answers that do not fit make None
 
@@ -429,6 +465,29 @@ else_join_thread (answer.Ended y) mem = got awaited.JoinThread (answer_of (answe
 else_join_thread (answer.Truth y) mem = got awaited.JoinThread (answer_of (answer.Truth y)) mem value.None tt (λ w. refl)
 else_join_thread (answer.Ids y) mem = got awaited.JoinThread (answer_of (answer.Ids y)) mem value.None tt (λ w. refl)
 else_join_thread (answer.Given y) mem = got awaited.JoinThread (answer_of (answer.Given y)) mem value.None tt (λ w. refl)
+
+item_list_all : (o : Option pure.Value) (w : World) → reply (request_of awaited.ListAll) (item_in o) w ≡ world.Got pure.Nothing w
+item_list_all (Some v) w = refl
+item_list_all None w = refl
+
+pub else_list_all : (a : Answer) (mem : Memory) → ((y : List ℕ) → a ≢ answer.Ids y) → Replies awaited.ListAll (answer_of a) mem mem (Ok (Got value.None))
+else_list_all answer.Limit mem not_ids = got awaited.ListAll (answer_of answer.Limit) mem value.None tt (λ w. refl)
+else_list_all (answer.Created y) mem not_ids = got awaited.ListAll (answer_of (answer.Created y)) mem value.None tt (λ w. refl)
+else_list_all (answer.QueueMade y) mem not_ids = got awaited.ListAll (answer_of (answer.QueueMade y)) mem value.None tt (λ w. refl)
+else_list_all (answer.Started y) mem not_ids = got awaited.ListAll (answer_of (answer.Started y)) mem value.None tt (λ w. refl)
+else_list_all answer.Done mem not_ids = got awaited.ListAll (answer_of answer.Done) mem value.None tt (λ w. refl)
+else_list_all answer.Full mem not_ids = got awaited.ListAll (answer_of answer.Full) mem value.None tt (λ w. refl)
+else_list_all answer.Empty mem not_ids = got awaited.ListAll (answer_of answer.Empty) mem value.None tt (λ w. refl)
+else_list_all (answer.Item y) mem not_ids = got awaited.ListAll (shared.Item y) mem value.None tt (λ w. item_list_all (value_of_parcel y) w)
+else_list_all (answer.Count y) mem not_ids = got awaited.ListAll (answer_of (answer.Count y)) mem value.None tt (λ w. refl)
+else_list_all answer.NotFound mem not_ids = got awaited.ListAll (answer_of answer.NotFound) mem value.None tt (λ w. refl)
+else_list_all answer.Running mem not_ids = got awaited.ListAll (answer_of answer.Running) mem value.None tt (λ w. refl)
+else_list_all answer.Current mem not_ids = got awaited.ListAll (answer_of answer.Current) mem value.None tt (λ w. refl)
+else_list_all answer.Main mem not_ids = got awaited.ListAll (answer_of answer.Main) mem value.None tt (λ w. refl)
+else_list_all (answer.Ended y) mem not_ids = got awaited.ListAll (answer_of (answer.Ended y)) mem value.None tt (λ w. refl)
+else_list_all (answer.Truth y) mem not_ids = got awaited.ListAll (answer_of (answer.Truth y)) mem value.None tt (λ w. refl)
+else_list_all (answer.Ids y) mem not_ids = absurd (not_ids y refl)
+else_list_all (answer.Given y) mem not_ids = got awaited.ListAll (answer_of (answer.Given y)) mem value.None tt (λ w. refl)
 
 item_is_running : (i : ℕ) (o : Option pure.Value) (w : World) → reply (request_of (awaited.IsRunning i)) (item_in o) w ≡ world.Got pure.Nothing w
 item_is_running i (Some v) w = refl

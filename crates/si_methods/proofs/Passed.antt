@@ -1,7 +1,7 @@
 -- Arguments that calls take.
-use Rattle.std.proofs.Common.{◌≡◌, ℕ, zero, suc, ◌+◌, ◌<◌, ◌≤◌, Bool, true, false, cond, List, [], ◌∷◌, length, get_or, refl, sym, ap, ap₂, subst, ◌∙◌, arith}
+use Rattle.std.proofs.Common.{◌≡◌, ℕ, zero, suc, ◌<◌, ◌≤◌, Bool, true, false, cond, List, [], ◌∷◌, length, get_or, refl, sym, ap, ap₂, ◌∙◌, arith}
 use Rattle.std.specs.Prelude.{codes, nat_eq, ◌&&◌}
-use Rattle.std.proofs.Common.{take, drop, ◌-◌, map}
+use Rattle.std.proofs.Common.{take, drop, ◌-◌}
 use Rattle.std.proofs.lemmas.List.{length-map}
 use Rattle.std.proofs.lemmas.Bool.Decides.{nat_tests}
 use Rattle.si_semantics.specs.Value as pure
@@ -10,9 +10,9 @@ use Rattle.si_semantics.specs.Text.{same_text}
 use Rattle.si_semantics.specs.World.{World, Ran}
 use Rattle.si_semantics.specs.Operations.{wrong_arguments}
 use Rattle.si_semantics.proofs.Names.{same_is, same_self, other_is}
-use Rattle.si_semantics.specs.Attributes.{alone, one_argument, only_argument, optional_argument, makes_thread, thread_of, positional, by_name, paired}
+use Rattle.si_semantics.specs.Attributes.{alone, one_argument, optional_argument, makes_thread, thread_of, positional, by_name, paired}
 use Rattle.si_arena.specs.declared.value.Ref.{Ref}
-use Rattle.si_arena.specs.Memory.{Memory, value_of, all_of, Lies, AllLie}
+use Rattle.si_arena.specs.Memory.{Memory, value_of, all_of, AllLie}
 
 not_zero : (n : ℕ) → false ≡ nat_eq (suc n) 0
 not_zero n = grind (arith, nat_tests)

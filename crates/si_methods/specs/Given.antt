@@ -11,8 +11,8 @@ abbrev pub item_in : Option Value → language.Answer
 item_in (Some v) = language.Item v
 item_in None = language.Item Nothing
 
--- an answer to a request, as the language takes it: with the value of a parcel. No request is answered a list of
--- interpreters or a job; they would be as Done
+-- an answer to a request, as the language takes it: with the value of a parcel. No request is answered a job; it would be as
+-- Done
 abbrev pub answer_in : Answer → language.Answer
 answer_in (shared.Given job) = language.Done
 answer_in shared.Done = language.Done
@@ -30,4 +30,4 @@ answer_in shared.Current = language.Current
 answer_in shared.Main = language.Main
 answer_in (shared.Ended o) = language.Ended o
 answer_in (shared.Truth b) = language.Truth b
-answer_in (shared.Ids is) = language.Done
+answer_in (shared.Ids is) = language.Ids is

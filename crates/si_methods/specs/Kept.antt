@@ -22,6 +22,7 @@ awaited_of (world.Exec i text) = awaited.Exec i
 awaited_of (world.AwaitExec r) = awaited.AwaitExec
 awaited_of (world.StartThread x i text) = awaited.StartThread x i
 awaited_of (world.JoinThread r) = awaited.JoinThread
+awaited_of world.ListAll = awaited.ListAll
 awaited_of (world.IsRunning i) = awaited.IsRunning i
 awaited_of (world.Close i) = awaited.Close i
 

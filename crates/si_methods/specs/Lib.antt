@@ -3,6 +3,8 @@ pub mod Requests
 pub mod Kept
 pub mod Given
 pub mod Passing
+pub mod Needing
+pub mod Joining
 pub mod Shown
 pub mod Answering
 pub mod Replying

@@ -20,6 +20,7 @@ use Rattle.si_methods.specs.declared.replying.Replied.TheVariants.{Got, Failed, 
 use Rattle.si_methods.specs.Requests.{action_of}
 use Rattle.si_methods.specs.Kept.{awaited_of, AwaitedLies}
 use Rattle.si_methods.specs.Given.{answer_in}
+use Rattle.si_methods.specs.Needing.{TakesRoom}
 
 -- what an answer makes of each request of which this is kept, in each world with the arena's objects
 abbrev pub Makes : Awaited → Answer → Memory → (World → world.Replied) → Type 0
@@ -57,14 +58,14 @@ pub record MakesRequest (kept : Awaited) (answer : Answer) (m : Memory) (more : 
   pub lies : AwaitedLies m more
 
 -- an answer makes a value, which lies in the arena, with the objects that the arena has then; an exception; or a further
--- request, and the arena is as it was. Where memory is refused, what lay in the arena lies there and denotes what it did, and
--- no object was changed or made
+-- request, and the arena is as it was. Memory is refused only where it takes any: then what lay in the arena lies there and
+-- denotes what it did, and no object was changed or made
 abbrev pub Replies : Awaited → Answer → Memory → Memory → Result Replied AllocError → Type 0
 Replies kept answer old new (Ok (Got r)) =
     Makes kept answer old (λ w. world.Got (value_of new r) (record w { store = new.store })) × Lies new r × Extends old new
 Replies kept answer old new (Ok (Failed object)) = MakesFailed kept answer old new object
 Replies kept answer old new (Ok (Wants more action)) = MakesRequest kept answer old more (parcel.action_of action) × (new ≡ old)
-Replies kept answer old new (Err refused) = Extends old new × (new.store ≡ old.store)
+Replies kept answer old new (Err refused) = Extends old new × (new.store ≡ old.store) × TakesRoom kept answer
 
 -- an exception, and a value, unless memory was refused for it
 abbrev pub failed_of : Result Object AllocError → Result Replied AllocError

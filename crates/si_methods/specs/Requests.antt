@@ -20,5 +20,6 @@ action_of (language.Exec i text) = shared.Start i text
 action_of (language.AwaitExec r) = shared.Await r
 action_of (language.StartThread x i text) = shared.Start i text
 action_of (language.JoinThread r) = shared.Await r
+action_of language.ListAll = shared.ListAll
 action_of (language.IsRunning i) = shared.IsRunning i
 action_of (language.Close i) = shared.Close i

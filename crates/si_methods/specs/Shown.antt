@@ -1,9 +1,12 @@
 -- What a value is to a method.
-use Rattle.std.specs.Prelude.{◌≡◌, ℕ, Bool, true, false, List, [], ◌∷◌, Option, Some, None}
+use Rattle.std.specs.Prelude.{◌≡◌, ℕ, Bool, true, false, List, [], ◌∷◌, Option, Some, None, Result, Ok, Err}
 use Rattle.si_semantics.specs.Value as pure
 use Rattle.si_semantics.specs.World.{World}
 use Rattle.si_semantics.specs.Operations.{wrong_type}
 use Rattle.si_semantics.specs.Attributes.{tested_texts}
+use Rattle.si_arena.specs.declared.cause.Cause.TheVariants.{WrongType}
+use Rattle.si_arena.specs.declared.cause.Fault.{Fault}
+use Rattle.si_arena.specs.declared.cause.Fault.TheVariants.{Raises, NoMemory}
 use Rattle.si_arena.specs.declared.characters.Characters.{Characters}
 use Rattle.si_arena.specs.declared.value.Ref.{Ref}
 use Rattle.si_arena.specs.Texts.{characters_in}
@@ -38,6 +41,12 @@ IsNoSingle _ = Unit {0}
 abbrev pub IsStr : pure.Value → Option Characters → Type 0
 IsStr v (Some characters) = v ≡ pure.Str (characters_in characters)
 IsStr v None = IsNoStr v
+
+-- the characters of a value as a text, where it is a str; or memory is refused
+abbrev pub IsTextOf : pure.Value → Result pure.Text Fault → Type 0
+IsTextOf v (Ok t) = v ≡ pure.Str t
+IsTextOf v (Err (Raises cause)) = IsNoStr v × (cause ≡ WrongType)
+IsTextOf v (Err NoMemory) = Unit {0}
 
 -- the number of a value and its bound, where it is a queue
 abbrev pub IsQueue : pure.Value → Option (ℕ × ℕ) → Type 0

@@ -17,6 +17,13 @@ pub fn is_spelled(name: &Text, word: &str) -> bool
     name.as_str() == word
 }
 
+/// Whether two words have the same characters.
+pub fn same_word(word: &str, other: &str) -> bool
+    ensures { result ≡ same_text (characters_of word.now) (characters_of other.now) }
+{
+    word == other
+}
+
 /// Whether a text begins, from an index on, with another.
 #[tactic(auto, using(si_ops::proofs::Parts::begins_next, si_ops::proofs::Parts::begins_apart, si_ops::proofs::Parts::begins_short, si_ops::proofs::Parts::begins_end))]
 pub fn begins_at(whole: Characters, start: usize, part: Characters) -> bool
@@ -46,8 +53,8 @@ pub fn ends_at(whole: Characters, part: Characters) -> bool
     begins_at(whole, length - count, part)
 }
 
-// How many characters a text has.
-fn length_of(text: Characters) -> usize
+/// How many characters a text has.
+pub fn length_of(text: Characters) -> usize
     ensures { result ≡ length (characters_in text.entry) }
 {
     match text {

@@ -1,26 +1,41 @@
 // Which methods a value has.
 
 ghost use Rattle.std.specs.Prelude.{◌≡◌, ℕ, map, option_map, Some};
+ghost use Rattle.si_plain.specs.Characters.{characters_of};
 ghost use Rattle.si_semantics.specs.Value as pure;
 ghost use Rattle.si_semantics.specs.World.{World};
 ghost use Rattle.si_semantics.specs.Attributes as attributes;
-ghost use Rattle.si_arena.specs.Memory.{Memory, value_of, object_of, Lies};
-ghost use Rattle.si_methods.specs.Methods.{method_in};
+ghost use Rattle.si_arena.specs.Memory.{Memory, value_of, object_of, contents_of, Lies};
+ghost use Rattle.si_methods.specs.Methods.{method_in, spelled, same_name, IsAmong, IsMethodName};
 
-use crate::characters::is_spelled;
-use si_arena::{Arena, Object, Ref, View};
+use crate::characters::same_word;
+use si_arena::{Arena, Contents, Object, Ref, View};
 use si_plain::{ModuleName, Text};
 
-/// A method, or a function of a module (Python Standard Library 3.14, "Built-in Types": string methods, and "threading";
-/// PEP 734).
+/// A method, or a function of a module (Python Standard Library 3.14, "Built-in Types": string methods, mutable sequence
+/// types and "dict", and "threading"; PEP 734).
 #[derive(Clone, Copy, Debug)]
 pub enum Method {
     /// `str.startswith`.
     StartsWith,
     /// `str.endswith`.
     EndsWith,
+    /// `str.join`.
+    JoinTexts,
+    /// `str.encode`.
+    Encode,
+    /// `append` of a list.
+    Append,
+    /// `pop` of a list.
+    PopItem,
+    /// `get` of a dict.
+    GetValue,
+    /// `pop` of a dict.
+    PopValue,
     /// `create` of the module of interpreters.
     Create,
+    /// `list_all`.
+    ListAll,
     /// `get_current`.
     GetCurrent,
     /// `get_main`.
@@ -59,33 +74,146 @@ pub enum Method {
     GetNow,
 }
 
-impl Method {
-    /// Its name, as scripts spell it: ASCII.
-    fn name(self) -> &'static str
-        ensures { result.now ≡ attributes.method_name (method_in self) }
+/// The name of a method: `join`, `pop` and `get` are those of two.
+#[derive(Clone, Copy, Debug, PartialEq, Eq)]
+pub enum MethodName {
+    StartsWith,
+    EndsWith,
+    Join,
+    Encode,
+    Append,
+    Pop,
+    Get,
+    Create,
+    ListAll,
+    GetCurrent,
+    GetMain,
+    CreateQueue,
+    IsShareable,
+    Thread,
+    Start,
+    Exec,
+    IsRunning,
+    Close,
+    PrepareMain,
+    Empty,
+    Full,
+    Size,
+    Put,
+    PutNow,
+    GetNow,
+}
+
+impl MethodName {
+    /// The name of a method that a word is, if it is one. Takes no memory.
+    pub fn of(word: &str) -> Option<MethodName>
+        ensures { IsMethodName (characters_of word.now) result }
+    {
+        let names = [
+            MethodName::StartsWith,
+            MethodName::EndsWith,
+            MethodName::Join,
+            MethodName::Encode,
+            MethodName::Append,
+            MethodName::Pop,
+            MethodName::Get,
+            MethodName::Create,
+            MethodName::ListAll,
+            MethodName::GetCurrent,
+            MethodName::GetMain,
+            MethodName::CreateQueue,
+            MethodName::IsShareable,
+            MethodName::Thread,
+            MethodName::Start,
+            MethodName::Exec,
+            MethodName::IsRunning,
+            MethodName::Close,
+            MethodName::PrepareMain,
+            MethodName::Empty,
+            MethodName::Full,
+            MethodName::Size,
+            MethodName::Put,
+            MethodName::PutNow,
+            MethodName::GetNow,
+        ];
+        spelled_so(word, &names)
+    }
+
+    // Whether it is another.
+    fn is_same(self, other: MethodName) -> bool
+        ensures { result ≡ same_name self other }
+    {
+        self == other
+    }
+
+    // How scripts spell it: ASCII.
+    fn spelling(self) -> &'static str
+        ensures { result.now ≡ spelled self }
     {
         match self {
-            Method::StartsWith => "startswith",
-            Method::EndsWith => "endswith",
-            Method::Create => "create",
-            Method::GetCurrent => "get_current",
-            Method::GetMain => "get_main",
-            Method::CreateQueue => "create_queue",
-            Method::IsShareable => "is_shareable",
-            Method::MakeThread => "Thread",
-            Method::Start => "start",
-            Method::Join => "join",
-            Method::Execute => "exec",
-            Method::IsRunning => "is_running",
-            Method::Close => "close",
-            Method::PrepareMain => "prepare_main",
-            Method::IsEmpty => "empty",
-            Method::IsFull => "full",
-            Method::Size => "qsize",
-            Method::Put => "put",
-            Method::PutNow => "put_nowait",
-            Method::Get => "get",
-            Method::GetNow => "get_nowait",
+            MethodName::StartsWith => "startswith",
+            MethodName::EndsWith => "endswith",
+            MethodName::Join => "join",
+            MethodName::Encode => "encode",
+            MethodName::Append => "append",
+            MethodName::Pop => "pop",
+            MethodName::Get => "get",
+            MethodName::Create => "create",
+            MethodName::ListAll => "list_all",
+            MethodName::GetCurrent => "get_current",
+            MethodName::GetMain => "get_main",
+            MethodName::CreateQueue => "create_queue",
+            MethodName::IsShareable => "is_shareable",
+            MethodName::Thread => "Thread",
+            MethodName::Start => "start",
+            MethodName::Exec => "exec",
+            MethodName::IsRunning => "is_running",
+            MethodName::Close => "close",
+            MethodName::PrepareMain => "prepare_main",
+            MethodName::Empty => "empty",
+            MethodName::Full => "full",
+            MethodName::Size => "qsize",
+            MethodName::Put => "put",
+            MethodName::PutNow => "put_nowait",
+            MethodName::GetNow => "get_nowait",
+        }
+    }
+}
+
+impl Method {
+    // Its name.
+    fn name(self) -> MethodName
+        ensures { spelled result ≡ attributes.method_name (method_in self) }
+    {
+        match self {
+            Method::StartsWith => MethodName::StartsWith,
+            Method::EndsWith => MethodName::EndsWith,
+            Method::JoinTexts => MethodName::Join,
+            Method::Encode => MethodName::Encode,
+            Method::Append => MethodName::Append,
+            Method::PopItem => MethodName::Pop,
+            Method::GetValue => MethodName::Get,
+            Method::PopValue => MethodName::Pop,
+            Method::Create => MethodName::Create,
+            Method::ListAll => MethodName::ListAll,
+            Method::GetCurrent => MethodName::GetCurrent,
+            Method::GetMain => MethodName::GetMain,
+            Method::CreateQueue => MethodName::CreateQueue,
+            Method::IsShareable => MethodName::IsShareable,
+            Method::MakeThread => MethodName::Thread,
+            Method::Start => MethodName::Start,
+            Method::Join => MethodName::Join,
+            Method::Execute => MethodName::Exec,
+            Method::IsRunning => MethodName::IsRunning,
+            Method::Close => MethodName::Close,
+            Method::PrepareMain => MethodName::PrepareMain,
+            Method::IsEmpty => MethodName::Empty,
+            Method::IsFull => MethodName::Full,
+            Method::Size => MethodName::Size,
+            Method::Put => MethodName::Put,
+            Method::PutNow => MethodName::PutNow,
+            Method::Get => MethodName::Get,
+            Method::GetNow => MethodName::GetNow,
         }
     }
 }
@@ -94,6 +222,17 @@ impl Method {
 pub fn method_of(arena: &Arena, value: Ref, name: &Text) -> Option<Method>
     requires { Lies arena.now value }
     ensures { (w : World) → w.store ≡ arena.now.store → option_map method_in result ≡ attributes.method_of (value_of arena.now value) name.now w }
+{
+    match MethodName::of(name.as_str()) {
+        Some(name) => method_named(arena, value, name),
+        None => None,
+    }
+}
+
+/// The method of a name of methods that a value has, if it has one. Takes no memory.
+pub fn method_named(arena: &Arena, value: Ref, name: MethodName) -> Option<Method>
+    requires { Lies arena.now value }
+    ensures { (w : World) → w.store ≡ arena.now.store → option_map method_in result ≡ attributes.method_of (value_of arena.now value) (spelled name) w }
 {
     match arena.view(&value) {
         View::None => None,
@@ -115,37 +254,45 @@ pub fn method_of(arena: &Arena, value: Ref, name: &Text) -> Option<Method>
 }
 
 // The method of a str.
-fn method_of_text(name: &Text) -> Option<Method>
-    ensures { (t : pure.Text) (w : World) → option_map method_in result ≡ attributes.method_of (pure.Str t) name.now w }
+fn method_of_text(name: MethodName) -> Option<Method>
+    ensures { (t : pure.Text) (w : World) → option_map method_in result ≡ attributes.method_of (pure.Str t) (spelled name) w }
 {
-    named(name, &[Method::StartsWith, Method::EndsWith])
+    among(
+        &[
+            Method::StartsWith,
+            Method::EndsWith,
+            Method::JoinTexts,
+            Method::Encode,
+        ],
+        name,
+    )
 }
 
 // The function of a module.
-fn function_of(owner: ModuleName, name: &Text) -> Option<Method>
-    ensures { (w : World) → option_map method_in result ≡ attributes.method_of (pure.Module owner) name.now w }
+fn function_of(owner: ModuleName, name: MethodName) -> Option<Method>
+    ensures { (w : World) → option_map method_in result ≡ attributes.method_of (pure.Module owner) (spelled name) w }
 {
     match owner {
-        ModuleName::Threading => named(name, &[Method::MakeThread]),
-        ModuleName::Interpreters => named(
-            name,
+        ModuleName::Threading => among(&[Method::MakeThread], name),
+        ModuleName::Interpreters => among(
             &[
                 Method::Create,
+                Method::ListAll,
                 Method::GetCurrent,
                 Method::GetMain,
                 Method::CreateQueue,
                 Method::IsShareable,
             ],
+            name,
         ),
     }
 }
 
 // The method of a queue.
-fn method_of_queue(name: &Text) -> Option<Method>
-    ensures { (q m : ℕ) (w : World) → option_map method_in result ≡ attributes.method_of (pure.Queue q m) name.now w }
+fn method_of_queue(name: MethodName) -> Option<Method>
+    ensures { (q m : ℕ) (w : World) → option_map method_in result ≡ attributes.method_of (pure.Queue q m) (spelled name) w }
 {
-    named(
-        name,
+    among(
         &[
             Method::IsEmpty,
             Method::IsFull,
@@ -155,27 +302,39 @@ fn method_of_queue(name: &Text) -> Option<Method>
             Method::Get,
             Method::GetNow,
         ],
+        name,
     )
 }
 
 // The method of an interpreter.
-fn method_of_interpreter(name: &Text) -> Option<Method>
-    ensures { (i : ℕ) (w : World) → option_map method_in result ≡ attributes.method_of (pure.Interpreter i) name.now w }
+fn method_of_interpreter(name: MethodName) -> Option<Method>
+    ensures { (i : ℕ) (w : World) → option_map method_in result ≡ attributes.method_of (pure.Interpreter i) (spelled name) w }
 {
-    named(
-        name,
+    among(
         &[
             Method::Execute,
             Method::IsRunning,
             Method::Close,
             Method::PrepareMain,
         ],
+        name,
     )
 }
 
 // The method of an object.
-fn method_of_object(object: Object, name: &Text) -> Option<Method>
-    ensures { (m : Memory) → option_map method_in result ≡ attributes.method_named name.now (attributes.methods_of_object (Some (object_of m object))) }
+fn method_of_object(object: Contents<'_>, name: MethodName) -> Option<Method>
+    ensures { (m : Memory) → option_map method_in result ≡ attributes.method_named (spelled name) (attributes.methods_of_object (Some (contents_of m object.entry))) }
+{
+    match object {
+        Contents::Plain(object) => method_of_plain(object, name),
+        Contents::List(_) => among(&[Method::Append, Method::PopItem], name),
+        Contents::Dict(_) => among(&[Method::GetValue, Method::PopValue], name),
+    }
+}
+
+// The method of an exception or a thread.
+fn method_of_plain(object: Object, name: MethodName) -> Option<Method>
+    ensures { (m : Memory) → option_map method_in result ≡ attributes.method_named (spelled name) (attributes.methods_of_object (Some (object_of m object))) }
 {
     match object {
         Object::Bare(_) => None,
@@ -187,18 +346,30 @@ fn method_of_object(object: Object, name: &Text) -> Option<Method>
 }
 
 // The method of a thread.
-fn method_of_thread(name: &Text) -> Option<Method>
-    ensures { (r : ℕ) → option_map method_in result ≡ attributes.method_named name.now (attributes.methods_of_object (Some (pure.Started r))) }
+fn method_of_thread(name: MethodName) -> Option<Method>
+    ensures { (r : ℕ) → option_map method_in result ≡ attributes.method_named (spelled name) (attributes.methods_of_object (Some (pure.Started r))) }
 {
-    named(name, &[Method::Start, Method::Join])
+    among(&[Method::Start, Method::Join], name)
+}
+
+// The name among these that a word is.
+fn spelled_so(word: &str, names: &[MethodName]) -> Option<MethodName>
+    ensures { IsAmong (characters_of word.now) names.now result }
+{
+    for name in names {
+        if same_word(word, name.spelling()) {
+            return Some(*name);
+        }
+    }
+    None
 }
 
 // The method of a name among these.
-fn named(name: &Text, methods: &[Method]) -> Option<Method>
-    ensures { option_map method_in result ≡ attributes.method_named name.now (map method_in methods.now) }
+fn among(methods: &[Method], name: MethodName) -> Option<Method>
+    ensures { option_map method_in result ≡ attributes.method_named (spelled name) (map method_in methods.now) }
 {
     for method in methods {
-        if is_spelled(name, method.name()) {
+        if method.name().is_same(name) {
             return Some(*method);
         }
     }

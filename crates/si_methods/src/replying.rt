@@ -1,10 +1,11 @@
 // What an answer makes of a request.
 
-ghost use Rattle.std.specs.Prelude.{◌≡◌, ◌<◌, length, Ok};
+ghost use Rattle.std.specs.Prelude.{◌≡◌, ◌<◌, length, map, Ok, IfOk, OnErr};
+ghost use Rattle.si_semantics.specs.Value as pure;
 ghost use Rattle.si_semantics.specs.Actions as shared;
 ghost use Rattle.si_semantics.specs.Replies.{is_full};
 ghost use Rattle.si_parcel.specs.Shared.{answer_of, outcome_of};
-ghost use Rattle.si_arena.specs.Memory.{Memory};
+ghost use Rattle.si_arena.specs.Memory.{Memory, IsMade};
 ghost use Rattle.si_methods.specs.declared.request.Awaited.TheVariants as awaited;
 ghost use Rattle.si_methods.specs.Kept.{AwaitedLies};
 ghost use Rattle.si_methods.specs.Replying.{Replies, failed_of, received_of};
@@ -30,9 +31,9 @@ pub enum Replied {
 }
 
 /// What an answer makes of the request of which this is kept (PEP 734, "Interpreter Objects" and "Queue Objects"). An answer
-/// that does not fit is never given, and would make None. `AllocError` where memory is refused, for the item of a queue and
-/// for the message of an exception; then what lay in the arena lies there and denotes what it did, and no object was changed
-/// or made.
+/// that does not fit is never given, and would make None. `AllocError` where memory is refused, for the item of a queue, for
+/// the message of an exception and for a list of interpreters; then what lay in the arena lies there and denotes what it did,
+/// and no object was changed or made.
 pub fn reply(
     alloc: Global,
     arena: &mut Arena,
@@ -60,6 +61,7 @@ pub fn reply(
             interpreter,
         } => thread_started(alloc, arena, thread, interpreter, answer),
         Awaited::JoinThread => Ok(nothing()),
+        Awaited::ListAll => listed(alloc, arena, answer),
         Awaited::IsRunning(id) => runs(alloc, arena, id, answer),
         Awaited::Close(id) => closed(alloc, arena, id, answer),
     }
@@ -262,6 +264,36 @@ fn thread_started(
         Answer::Running => failed(is_running(alloc, arena, id)),
         _ => Ok(nothing()),
     }
+}
+
+// Of `list_all`: a new list of interpreters.
+fn listed(alloc: Global, arena: &mut Arena, answer: &Answer) -> Result<Replied, NoMemory>
+    ensures { Replies awaited.ListAll (answer_of answer.now) arena.old arena.new result }
+{
+    match answer {
+        Answer::Ids(ids) => received(list_of(alloc, arena, ids.as_slice())),
+        _ => Ok(nothing()),
+    }
+}
+
+// A new list of the interpreters of these numbers.
+fn list_of(alloc: Global, arena: &mut Arena, ids: &[u32]) -> Result<Ref, NoMemory>
+    ensures ok { IfOk result (λ r. IsMade (pure.Items (map pure.Interpreter ids.now)) arena.old arena.new r) }
+    ensures err { OnErr result (arena.new ≡ arena.old) }
+{
+    let interpreters = interpreters_of(alloc, ids)?;
+    arena.make_list(interpreters)
+}
+
+// The interpreters of these numbers.
+fn interpreters_of(alloc: Global, ids: &[u32]) -> Result<Vec<Ref>, NoMemory>
+    ensures { IfOk result (λ interpreters. interpreters.items ≡ map Ref.Interpreter ids.now) }
+{
+    let mut interpreters = Vec::with_capacity(alloc, ids.len())?;
+    for id in ids {
+        interpreters.push(Ref::Interpreter(*id))?;
+    }
+    Ok(interpreters)
 }
 
 // Of `is_running`.

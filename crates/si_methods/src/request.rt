@@ -1,6 +1,9 @@
 // What is kept of a request, and what a call gives.
 
-use si_arena::Ref;
+ghost use Rattle.std.specs.Prelude.{◌≡◌};
+ghost use Rattle.si_methods.specs.Answering.{placed_of};
+
+use si_arena::{Fault, Ref};
 use si_parcel::Action;
 
 /// What is kept of a request to understand its answer: neither a parcel, nor a text, nor the number of a queue or a run
@@ -35,6 +38,8 @@ pub enum Awaited {
     StartThread { thread: usize, interpreter: u32 },
     /// The end of the run of a thread.
     JoinThread,
+    /// The interpreters that are not closed.
+    ListAll,
     /// Whether this interpreter runs.
     IsRunning(u32),
     /// This interpreter was to be closed.
@@ -48,4 +53,16 @@ pub enum Answered {
     Value(Ref),
     /// It asks an action of what all share, of which this is kept.
     Asks(Awaited, Action),
+    /// KeyError of this key, which is not there: it is the argument of an exception that is not among the objects yet.
+    NoKey(Ref),
+}
+
+/// This value, unless there is none.
+pub fn placed(value: Result<Ref, Fault>) -> Result<Answered, Fault>
+    ensures { result ≡ placed_of value }
+{
+    match value {
+        Ok(value) => Ok(Answered::Value(value)),
+        Err(fault) => Err(fault),
+    }
 }

@@ -1,8 +1,11 @@
 // Each public call once.
 
-use crate::{Answered, Awaited, Method, Replied, attribute, call_method, method_of, reply};
-use si_arena::{Arena, Object, Ref};
-use si_parcel::{Action, Answer};
+use crate::{
+    Answered, Awaited, Method, MethodName, Replied, attribute, call_method, method_named,
+    method_of, reply,
+};
+use si_arena::{Arena, Characters, Object, Ref, View};
+use si_parcel::{Action, Answer, Ids};
 use si_plain::{Kind, ModuleName, Text};
 use std::test::Fail;
 
@@ -49,6 +52,133 @@ fn a_run_in_no_interpreter_fails(rt: HostRuntime) -> Result<(), Fail> {
         replied,
         Replied::Failed(Object::Made(Kind::InterpreterNotFoundError, _))
     );
+    assert!(rt; right);
+    Ok(())
+}
+
+#[test]
+fn a_name_is_looked_up_once(rt: HostRuntime) -> Result<(), Fail> {
+    let mut arena = Arena::new(rt.alloc());
+    let list = arena.make_list_of(&[])?;
+    let found = match MethodName::of("pop") {
+        Some(name) => method_named(&arena, list, name),
+        None => None,
+    };
+    assert!(rt; matches!(found, Some(Method::PopItem)));
+    assert!(rt; MethodName::of("popitem").is_none());
+    Ok(())
+}
+
+#[test]
+fn a_list_grows_and_shrinks_at_its_end(rt: HostRuntime) -> Result<(), Fail> {
+    let mut arena = Arena::new(rt.alloc());
+    let list = arena.make_list_of(&[Ref::Int(1)])?;
+    let value = [Ref::Int(2)];
+    let Ok(_) = call_method(rt.alloc(), &mut arena, 0, Method::Append, list, &value, &[]) else {
+        return Ok(());
+    };
+    let last = call_method(rt.alloc(), &mut arena, 0, Method::PopItem, list, &[], &[]);
+    assert!(rt; matches!(last, Ok(Answered::Value(Ref::Int(2)))));
+    Ok(())
+}
+
+#[test]
+fn a_dict_tells_of_its_keys(rt: HostRuntime) -> Result<(), Fail> {
+    let mut arena = Arena::new(rt.alloc());
+    let Ok(Some(dict)) = arena.make_dict(&[Ref::Int(7), Ref::Truth(true)]) else {
+        return Ok(());
+    };
+    let key = [Ref::Int(7)];
+    let taken = call_method(rt.alloc(), &mut arena, 0, Method::PopValue, dict, &key, &[]);
+    assert!(rt; matches!(taken, Ok(Answered::Value(Ref::Truth(true)))));
+    let again = call_method(rt.alloc(), &mut arena, 0, Method::PopValue, dict, &key, &[]);
+    assert!(rt; matches!(again, Ok(Answered::NoKey(Ref::Int(7)))));
+    let other = call_method(rt.alloc(), &mut arena, 0, Method::GetValue, dict, &key, &[]);
+    assert!(rt; matches!(other, Ok(Answered::Value(Ref::None))));
+    Ok(())
+}
+
+#[test]
+fn texts_are_joined(rt: HostRuntime) -> Result<(), Fail> {
+    let mut arena = Arena::new(rt.alloc());
+    let Ok(comma) = arena.place_text(", ") else {
+        return Ok(());
+    };
+    let Ok(word) = arena.place_text("na\u{ef}ve") else {
+        return Ok(());
+    };
+    let list = [arena.make_list_of(&[word, comma, word])?];
+    let joined = call_method(
+        rt.alloc(),
+        &mut arena,
+        0,
+        Method::JoinTexts,
+        comma,
+        &list,
+        &[],
+    );
+    let Ok(Answered::Value(text)) = joined else {
+        return Ok(());
+    };
+    let right = match arena.view(&text) {
+        View::Str(Characters::Narrow(shown)) => shown == b"na\xefve, , , na\xefve".as_slice(),
+        _ => false,
+    };
+    assert!(rt; right);
+    let encoded = call_method(rt.alloc(), &mut arena, 0, Method::Encode, word, &[], &[]);
+    let Ok(Answered::Value(bytes)) = encoded else {
+        return Ok(());
+    };
+    assert!(rt; arena.bytes(&bytes) == b"na\xc3\xafve".as_slice());
+    Ok(())
+}
+
+#[test]
+fn names_come_from_a_dict(rt: HostRuntime) -> Result<(), Fail> {
+    let mut arena = Arena::new(rt.alloc());
+    let Ok(key) = arena.place_text("n") else {
+        return Ok(());
+    };
+    let Ok(Some(dict)) = arena.make_dict(&[key, Ref::Int(3)]) else {
+        return Ok(());
+    };
+    let arguments = [dict, Ref::Int(4)];
+    let names = [Text::from_str(rt.alloc(), "m")?];
+    let other = Ref::Interpreter(2);
+    let asked = call_method(
+        rt.alloc(),
+        &mut arena,
+        0,
+        Method::PrepareMain,
+        other,
+        &arguments,
+        &names,
+    );
+    let Ok(Answered::Asks(_, Action::Prepare(2, binds))) = asked else {
+        return Ok(());
+    };
+    let pairs = binds.as_slice();
+    assert!(rt; pairs.len() == 2);
+    assert_eq!(rt; pairs[0].0.as_str(), "n");
+    assert_eq!(rt; pairs[1].0.as_str(), "m");
+    Ok(())
+}
+
+#[test]
+fn interpreters_are_listed(rt: HostRuntime) -> Result<(), Fail> {
+    let mut arena = Arena::new(rt.alloc());
+    let mut ids = Vec::new(rt.alloc());
+    ids.push(0)?;
+    ids.push(2)?;
+    let answer = Answer::Ids(Ids::new(ids));
+    let Ok(replied) = reply(rt.alloc(), &mut arena, Awaited::ListAll, &answer) else {
+        return Ok(());
+    };
+    assert!(rt; matches!(replied, Replied::Got(Ref::Object(0))));
+    let right = match arena.list(0) {
+        Some(items) => items.len() == 2 && matches!(items[1], Ref::Interpreter(2)),
+        None => false,
+    };
     assert!(rt; right);
     Ok(())
 }

@@ -1,18 +1,19 @@
 // Threads.
 
-ghost use Rattle.std.specs.Prelude.{◌≡◌, ◌<◌, ℕ, List, IfOk, length, slice_get};
+ghost use Rattle.std.specs.Prelude.{◌≡◌, ◌<◌, ℕ, List, IfOk, Some, length, slice_get};
 ghost use Rattle.si_semantics.specs.Value as pure;
+ghost use Rattle.si_semantics.specs.Operations as operations;
 ghost use Rattle.si_semantics.specs.Attributes as attributes;
-ghost use Rattle.si_arena.specs.Memory.{value_of, all_of, Lies, AllLie};
+ghost use Rattle.si_arena.specs.Memory.{Memory, value_of, all_of, object_of, ObjectLies, Lies, AllLie};
 ghost use Rattle.si_arena.specs.Texts.{IsText, text_of};
 ghost use Rattle.si_methods.specs.Passing.{IsOnlyText};
-ghost use Rattle.si_methods.specs.Answering.{Answers};
+ghost use Rattle.si_methods.specs.Answering.{Answers, told_of};
 
 use crate::arguments::thread_arguments;
 use crate::request::{Answered, Awaited};
 use crate::sent::boxed;
 use crate::shown::{address_of, characters_of, exec_of, only_item};
-use si_arena::{Arena, Cause, Fault, Object, Ref, Refusal};
+use si_arena::{Arena, Cause, Contents, Fault, Object, Ref, Refusal};
 use si_parcel::{Action, BoxedText};
 use si_plain::{NoMemory, Text};
 use std::alloc::Global;
@@ -57,7 +58,7 @@ fn thread_in(arena: &mut Arena, interpreter: u32, args: Ref) -> Result<Answered,
 fn made(arena: &mut Arena, interpreter: u32, text: Ref) -> Result<Answered, Fault>
     requires lies { Lies arena.old text }
     requires text { IsText text }
-    ensures { (own : ℕ) → Answers (λ w. attributes.placed (pure.Thread interpreter (text_of arena.old.texts text)) w) own arena.old arena.new result }
+    ensures { (own : ℕ) → Answers (λ w. operations.placed (pure.Thread interpreter (text_of arena.old.texts text)) w) own arena.old arena.new result }
 {
     match arena.make(Object::Thread { interpreter, text }) {
         Ok(thread) => Ok(Answered::Value(thread)),
@@ -99,12 +100,30 @@ pub fn start(
     }
 }
 
-// To ask for a run of the text of a thread.
+// To ask for a run of the text of the thread at an address.
 fn run_of(alloc: Global, arena: &Arena, thread: usize) -> Result<Answered, Fault>
     requires { thread < length arena.now.store }
     ensures { (own : ℕ) → Answers (λ w. attributes.starts thread (slice_get w.store thread) w) own arena.now arena.now result }
 {
     match arena.object(thread) {
+        Contents::Plain(object) => run_of_object(alloc, arena, thread, object),
+        Contents::List(_) => Err(Fault::Raises(Cause::WrongType)),
+        Contents::Dict(_) => Err(Fault::Raises(Cause::WrongType)),
+    }
+}
+
+// To ask for a run of the text of a thread.
+fn run_of_object(
+    alloc: Global,
+    arena: &Arena,
+    thread: usize,
+    object: Object,
+) -> Result<Answered, Fault>
+    requires address { thread < length arena.now.store }
+    requires lies { ObjectLies arena.now object }
+    ensures { (own : ℕ) → Answers (λ w. attributes.starts thread (Some (object_of arena.now object)) w) own arena.now arena.now result }
+{
+    match object {
         Object::Bare(_) => Err(Fault::Raises(Cause::WrongType)),
         Object::Made(_, _) => Err(Fault::Raises(Cause::WrongType)),
         Object::Caused(_) => Err(Fault::Raises(Cause::WrongType)),
@@ -136,29 +155,40 @@ fn copied(alloc: Global, arena: &Arena, text: Ref) -> Result<BoxedText, NoMemory
 
 /// `join` of a thread (Python Standard Library 3.14, "threading"): asks for the end of its run. `WrongArguments`, `WrongType`;
 /// `Refused(NotStarted)` where it was not started. Takes no memory.
-pub fn join(arena: &Arena, object: Ref, arguments: &[Ref]) -> Result<Answered, Fault>
+pub fn join(arena: &Arena, object: Ref, arguments: &[Ref]) -> Result<Answered, Cause>
     requires { Lies arena.now object }
-    ensures { (own : ℕ) (names : List pure.Text) → Answers (λ w. attributes.call_method attributes.Join (value_of arena.now object) (all_of arena.now arguments.now) names w) own arena.now arena.now result }
+    ensures { (own : ℕ) (names : List pure.Text) → Answers (λ w. attributes.call_method attributes.Join (value_of arena.now object) (all_of arena.now arguments.now) names w) own arena.now arena.now (told_of result) }
 {
     if !arguments.is_empty() {
-        return Err(Fault::Raises(Cause::WrongArguments));
+        return Err(Cause::WrongArguments);
     }
     match address_of(arena, object) {
         Some(thread) => end_of(arena, thread),
-        None => Err(Fault::Raises(Cause::WrongType)),
+        None => Err(Cause::WrongType),
+    }
+}
+
+// To ask for the end of the run of the thread at an address.
+fn end_of(arena: &Arena, thread: usize) -> Result<Answered, Cause>
+    requires { thread < length arena.now.store }
+    ensures { (own : ℕ) → Answers (λ w. attributes.joins (slice_get w.store thread) w) own arena.now arena.now (told_of result) }
+{
+    match arena.object(thread) {
+        Contents::Plain(object) => end_of_object(object),
+        Contents::List(_) => Err(Cause::WrongType),
+        Contents::Dict(_) => Err(Cause::WrongType),
     }
 }
 
 // To ask for the end of the run of a thread.
-fn end_of(arena: &Arena, thread: usize) -> Result<Answered, Fault>
-    requires { thread < length arena.now.store }
-    ensures { (own : ℕ) → Answers (λ w. attributes.joins (slice_get w.store thread) w) own arena.now arena.now result }
+fn end_of_object(object: Object) -> Result<Answered, Cause>
+    ensures { (m : Memory) (own : ℕ) → Answers (λ w. attributes.joins (Some (object_of m object)) w) own m m (told_of result) }
 {
-    match arena.object(thread) {
-        Object::Bare(_) => Err(Fault::Raises(Cause::WrongType)),
-        Object::Made(_, _) => Err(Fault::Raises(Cause::WrongType)),
-        Object::Caused(_) => Err(Fault::Raises(Cause::WrongType)),
-        Object::Thread { .. } => Err(Fault::Raises(Cause::Refused(Refusal::NotStarted))),
+    match object {
+        Object::Bare(_) => Err(Cause::WrongType),
+        Object::Made(_, _) => Err(Cause::WrongType),
+        Object::Caused(_) => Err(Cause::WrongType),
+        Object::Thread { .. } => Err(Cause::Refused(Refusal::NotStarted)),
         Object::Started(run) => Ok(Answered::Asks(Awaited::JoinThread, Action::Await(run))),
     }
 }

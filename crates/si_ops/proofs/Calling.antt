@@ -10,7 +10,7 @@ use Rattle.si_semantics.specs.Text.{Written, Whole, Broken, written, max_length}
 use Rattle.si_semantics.specs.Operations.{gave, text}
 use Rattle.si_arena.specs.declared.value.Ref.{Ref}
 use Rattle.si_arena.specs.declared.cause.Cause.{Cause}
-use Rattle.si_arena.specs.declared.cause.Cause.TheVariants.{Arithmetic, TooLong, WrongType, NotCallable, WrongArguments, TooDeep, NoneActive, Outside, NotDefined, NotBound, NoAttribute, Refused}
+use Rattle.si_arena.specs.declared.cause.Cause.TheVariants.{Arithmetic, TooLong, WrongType, NotCallable, WrongArguments, TooDeep, NoneActive, Outside, SizeChanged, NotDefined, NotBound, NoAttribute, Refused}
 use Rattle.si_arena.specs.declared.cause.Fault.{Fault}
 use Rattle.si_arena.specs.declared.cause.Fault.TheVariants.{Raises, NoMemory}
 use Rattle.si_arena.specs.Memory.{Memory, value_of, all_of, PlacesText}
@@ -46,6 +46,10 @@ calls_ok f old new s t r h e = (makes_runs f old new (Ok r) h, e)
 
 pub calls_err : {Z : Type 0} (f : World → Ran) (old new : Memory) (s t : String Z) (fault : Fault) → Runs f old new (Err fault) → string_bytes t ≡ string_bytes s → Calls f old new s t (Err fault)
 calls_err f old new s t fault h e = (makes_runs f old new (Err fault) h, e)
+
+-- a call that makes an object, or not
+pub calls_failed : {Z : Type 0} (f : World → Ran) (old new : Memory) (s t : String Z) (fault : Fault) → Makes f old new (Err fault) → string_bytes t ≡ string_bytes s → Calls f old new s t (Err fault)
+calls_failed f old new s t fault h e = (h, e)
 
 -- what takes no memory makes no object
 pub calls_told : {Z : Type 0} (f : World → Ran) (m : Memory) (s : String Z) (answer : Result Ref Cause) (r : Result Called Fault) → r ≡ call_of answer → Tells f m answer → Calls f m m s s r
@@ -98,6 +102,7 @@ text_throws o m NotCallable h = absurd h
 text_throws o m WrongArguments h = absurd h
 text_throws o m NoneActive h = absurd h
 text_throws o m Outside h = absurd h
+text_throws o m SizeChanged h = absurd h
 text_throws o m (NotDefined s) h = absurd h
 text_throws o m (NotBound s) h = absurd h
 text_throws o m (NoAttribute s) h = absurd h

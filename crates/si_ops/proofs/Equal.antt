@@ -1,77 +1,125 @@
 -- Values that are compared one by one.
-use Rattle.std.proofs.Common.{◌≡◌, ◌≢◌, ℕ, zero, suc, ◌+◌, ◌-◌, ◌<◌, ◌≤◌, List, [], ◌∷◌, length, drop, get_or, Bool, true, false, cond, Result, Ok, refl, sym, ap, ◌∙◌, arith, ne_eqb}
+use Rattle.std.proofs.Common.{◌≡◌, ◌≢◌, ℕ, zero, suc, ◌+◌, ◌-◌, ◌<◌, ◌≤◌, List, [], ◌∷◌, length, drop, get_or, Bool, true, false, cond, Option, Some, None, Result, Ok, refl, sym, ap, subst, ◌∙◌, arith, ne_eqb}
+use Rattle.std.specs.Prelude.{slice_get, nat_eq}
 use Rattle.std.proofs.lemmas.Bool.{eq-eqb}
 use Rattle.std.proofs.Math.ListN.{drop_of_length-le}
 use Rattle.si_plain.specs.declared.kind.Kind.{Kind}
-use Rattle.si_semantics.specs.Value.{Value, Tuple, tuple_of, values_of, items_of}
+use Rattle.si_semantics.specs.Value.{Value, Tuple, Address, Key, Object, Items, Pairs, tuple_of, values_of, items_of}
 use Rattle.si_semantics.specs.World.{World}
-use Rattle.si_semantics.specs.Operations.{equal_within, each_equal, items_equal, are_equal, is_any_of}
+use Rattle.si_semantics.specs.Dicts.{value_at}
+use Rattle.si_semantics.specs.Operations.{Compared, equal_by, equal_objects, equal_within, each_equal, each_found, equal_found, and_then, items_equal, are_equal, is_any_of}
 use Rattle.si_arena.specs.declared.value.Ref.{Ref}
 use Rattle.si_arena.specs.declared.view.View.{View}
 use Rattle.si_arena.specs.declared.view.View.TheVariants as view
 use Rattle.si_arena.specs.Views.{value_in}
-use Rattle.si_arena.specs.Memory.{Memory, value_of, all_of}
+use Rattle.si_arena.specs.declared.object.Object as code
+use Rattle.si_arena.specs.declared.object.Object.TheVariants as objects
+use Rattle.si_arena.specs.Memory.{Memory, value_of, all_of, object_of}
 use Rattle.si_ops.specs.declared.refusal.Refusal.{Refusal}
 use Rattle.si_ops.specs.declared.refusal.Refusal.TheVariants.{WrongType, TooDeep, WrongValue}
 use Rattle.si_ops.specs.Runs.{kind_refused}
+use Rattle.si_ops.specs.inner.Equal.{compared_at, AreBare}
+use Rattle.si_ops.specs.inner.Held.{IsPlainObject}
 use Rattle.si_ops.proofs.Providing.{values_behind}
 use Rattle.si_ops.proofs.Tupled.{items_back}
 
--- ---- what is no tuple
+-- ---- by how parts are compared
 
-abbrev pub AreNotTuples : Value → Value → Type 0
-AreNotTuples (Tuple us) (Tuple vs) = ⊥
-AreNotTuples _ _ = Unit {0}
+-- one equation for both cases of the levels
+equal_split : (n : ℕ) (u v : Value) (w : World) → equal_within n u v w ≡ equal_by (compared_at n w) u v w
+equal_split zero u v w = refl
+equal_split (suc n) u v w = refl
 
--- how deep tuples may be makes no difference where one of two values is none
-bare : (n : ℕ) (u v : Value) (w : World) → AreNotTuples u v → equal_within n u v w ≡ equal_within 0 u v w
-bare zero u v w h = refl
-bare (suc n) (Tuple us) (Tuple vs) w h = absurd h
-bare (suc n) _ _ w h = refl
+module _ (n : ℕ) (u v : Value) (w : World) (r : Result Bool Kind) where
+  -- two tuples
+  pub shown_tuples : (us vs : List Value) → tuple_of us ≡ u → tuple_of vs ≡ v → (compared_at n w).items us vs ≡ r → equal_within n u v w ≡ r
+  shown_tuples us vs e f h =
+      equal_split n u v w
+      ∙ ap (λ x. equal_by (compared_at n w) x v w) (sym e)
+      ∙ ap (λ x. equal_by (compared_at n w) (tuple_of us) x w) (sym f)
+      ∙ ap (λ xs. (compared_at n w).items xs (items_of (values_of vs))) (items_back us)
+      ∙ ap (λ xs. (compared_at n w).items us xs) (items_back vs)
+      ∙ h
 
-first_none : (m : Memory) (a : View) (v : Value) → ((items : _) → a ≢ view.Tuple items) → AreNotTuples (value_in m a) v
-first_none m (view.Tuple items) v h = absurd (h items refl)
-first_none m _ v h = tt
+  -- two objects
+  pub shown_objects : (a b : ℕ) → Address a ≡ u → Address b ≡ v → equal_by (compared_at n w) (Address a) (Address b) w ≡ r → equal_within n u v w ≡ r
+  shown_objects a b e f h =
+      equal_split n u v w ∙ ap (λ x. equal_by (compared_at n w) x v w) (sym e) ∙ ap (λ x. equal_by (compared_at n w) (Address a) x w) (sym f) ∙ h
 
-second_none : (m : Memory) (u : Value) (b : View) → ((items : _) → b ≢ view.Tuple items) → AreNotTuples u (value_in m b)
-second_none m u (view.Tuple items) h = absurd (h items refl)
-second_none m (Tuple us) _ h = tt
-second_none m _ _ h = tt
+  -- neither
+  pub shown_bare : (m : Memory) (a b : View) → value_in m a ≡ u → value_in m b ≡ v → equal_by (compared_at n w) (value_in m a) (value_in m b) w ≡ r → equal_within n u v w ≡ r
+  shown_bare m a b e f h =
+      equal_split n u v w ∙ ap (λ x. equal_by (compared_at n w) x v w) (sym e) ∙ ap (λ x. equal_by (compared_at n w) (value_in m a) x w) (sym f) ∙ h
 
-shown : (m : Memory) (n : ℕ) (a b : View) (u v : Value) (w : World) (r : Result Bool Kind) → value_in m a ≡ u → value_in m b ≡ v → AreNotTuples (value_in m a) (value_in m b) → equal_within 0 (value_in m a) (value_in m b) w ≡ r → equal_within n u v w ≡ r
-shown m n a b u v w r e f h k =
-    ap (λ x. equal_within n x v w) (sym e) ∙ ap (λ x. equal_within n (value_in m a) x w) (sym f) ∙ bare n (value_in m a) (value_in m b) w h ∙ k
+pub tuple_bare : (a b : View) (xs : _) → a ≡ view.Tuple xs → ((items : _) → b ≢ view.Tuple items) → AreBare a b
+tuple_bare a b xs e h = subst (λ v. AreBare v b) (sym e) (by b h)
+  where
+    by : (b : View) → ((items : _) → b ≢ view.Tuple items) → AreBare (view.Tuple xs) b
+    by (view.Tuple ys) h = absurd (h ys refl)
+    by _ h = tt
 
-pub shown_first : (m : Memory) (n : ℕ) (a b : View) (u v : Value) (w : World) (r : Result Bool Kind) → value_in m a ≡ u → value_in m b ≡ v → ((items : _) → a ≢ view.Tuple items) → equal_within 0 (value_in m a) (value_in m b) w ≡ r → equal_within n u v w ≡ r
-shown_first m n a b u v w r e f h k = shown m n a b u v w r e f (first_none m a (value_in m b) h) k
+pub object_bare : (a b : View) (x : ℕ) → a ≡ view.Object x → ((y : ℕ) → b ≢ view.Object y) → AreBare a b
+object_bare a b x e h = subst (λ v. AreBare v b) (sym e) (by b h)
+  where
+    by : (b : View) → ((y : ℕ) → b ≢ view.Object y) → AreBare (view.Object x) b
+    by (view.Object y) h = absurd (h y refl)
+    by _ h = tt
 
-pub shown_second : (m : Memory) (n : ℕ) (a b : View) (u v : Value) (w : World) (r : Result Bool Kind) → value_in m a ≡ u → value_in m b ≡ v → ((items : _) → b ≢ view.Tuple items) → equal_within 0 (value_in m a) (value_in m b) w ≡ r → equal_within n u v w ≡ r
-shown_second m n a b u v w r e f h k = shown m n a b u v w r e f (second_none m (value_in m a) b h) k
+pub other_bare : (a b : View) → ((items : _) → a ≢ view.Tuple items) → ((x : ℕ) → a ≢ view.Object x) → AreBare a b
+other_bare (view.Tuple xs) b g h = absurd (g xs refl)
+other_bare (view.Object x) b g h = absurd (h x refl)
+other_bare _ b g h = tt
 
--- two tuples
-pub shown_both : (n : ℕ) (us vs : List Value) (u v : Value) (w : World) (r : Result Bool Kind) → tuple_of us ≡ u → tuple_of vs ≡ v → equal_within n (tuple_of us) (tuple_of vs) w ≡ r → equal_within n u v w ≡ r
-shown_both n us vs u v w r e f k = ap (λ x. equal_within n x v w) (sym e) ∙ ap (λ x. equal_within n (tuple_of us) x w) (sym f) ∙ k
+-- ---- objects
+
+-- at one address
+pub one_object : (parts : Compared) (a b : ℕ) (w : World) → a ≡ b → equal_by parts (Address a) (Address b) w ≡ Ok true
+one_object parts a b w e = ap (λ t. cond t (Ok true) (equal_objects parts (slice_get w.store a) (slice_get w.store b))) (eq-eqb a b e)
+
+-- at two addresses
+pub two_objects : (parts : Compared) (a b : ℕ) (w : World) (store : List Object) (o p : Option Object) → a ≢ b → w.store ≡ store → slice_get store a ≡ o → slice_get store b ≡ p → equal_by parts (Address a) (Address b) w ≡ equal_objects parts o p
+two_objects parts a b w store o p h s e f =
+    ap (λ t. cond t (Ok true) (equal_objects parts (slice_get w.store a) (slice_get w.store b))) (ne_eqb a b h)
+    ∙ ap (λ x. equal_objects parts (slice_get x a) (slice_get x b)) s
+    ∙ ap (λ x. equal_objects parts x (slice_get store b)) e
+    ∙ ap (λ x. equal_objects parts o x) f
+
+-- a list and what is none, a dict and what is none, and what is neither
+pub list_and_other : (parts : Compared) (us : List Value) (o : Option Object) → ((vs : List Value) → o ≢ Some (Items vs)) → equal_objects parts (Some (Items us)) o ≡ Ok false
+list_and_other parts us (Some (Items vs)) h = absurd (h vs refl)
+list_and_other parts us _ h = refl
+
+pub dict_and_plain : (parts : Compared) (ps : List (Key × Value)) (o : Option Object) → IsPlainObject o → equal_objects parts (Some (Pairs ps)) o ≡ Ok false
+dict_and_plain parts ps (Some (Items vs)) h = absurd h
+dict_and_plain parts ps (Some (Pairs qs)) h = absurd h
+dict_and_plain parts ps _ h = refl
+
+pub plain_and_other : (parts : Compared) (o p : Option Object) → IsPlainObject o → equal_objects parts o p ≡ Ok false
+plain_and_other parts (Some (Items vs)) p h = absurd h
+plain_and_other parts (Some (Pairs qs)) p h = absurd h
+plain_and_other parts _ p h = refl
+
+-- an exception or a thread is neither
+pub plain_object : (m : Memory) (o : code.Object) → IsPlainObject (Some (object_of m o))
+plain_object m (objects.Bare k) = tt
+plain_object m (objects.Made k r) = tt
+plain_object m (objects.Caused c) = tt
+plain_object m (objects.Thread i r) = tt
+plain_object m (objects.Started r) = tt
 
 -- ---- items
 
-items_by : (n : ℕ) (us vs : List Value) (w : World) → equal_within (suc n) (tuple_of us) (tuple_of vs) w ≡ items_equal (λ a b. equal_within n a b w) us vs
-items_by n us vs w =
-    ap (λ xs. items_equal (λ a b. equal_within n a b w) xs (items_of (values_of vs))) (items_back us)
-    ∙ ap (λ xs. items_equal (λ a b. equal_within n a b w) us xs) (items_back vs)
-
 -- items of so many values each: of different lengths
-pub lengths_apart : (n : ℕ) (us vs : List Value) (w : World) → 0 < n → length us ≢ length vs → equal_within n (tuple_of us) (tuple_of vs) w ≡ Ok false
+pub lengths_apart : (n : ℕ) (us vs : List Value) (w : World) → 0 < n → length us ≢ length vs → (compared_at n w).items us vs ≡ Ok false
 lengths_apart zero us vs w l h = absurd (omega (arith, l))
-lengths_apart (suc n) us vs w l h =
-    items_by n us vs w ∙ ap (λ b. cond b (each_equal (λ a b. equal_within n a b w) us vs) (Ok false)) (ne_eqb (length us) (length vs) h)
+lengths_apart (suc n) us vs w l h = ap (λ b. cond b (each_equal (λ a b. equal_within n a b w) us vs) (Ok false)) (ne_eqb (length us) (length vs) h)
 
 -- of one length
-pub lengths_same : (n : ℕ) (us vs : List Value) (w : World) → 0 < n → length us ≡ length vs → equal_within n (tuple_of us) (tuple_of vs) w ≡ each_equal (λ a b. equal_within (n - 1) a b w) us vs
+pub lengths_same : (n : ℕ) (us vs : List Value) (w : World) → 0 < n → length us ≡ length vs → (compared_at n w).items us vs ≡ each_equal (λ a b. equal_within (n - 1) a b w) us vs
 lengths_same zero us vs w l h = absurd (omega (arith, l))
 lengths_same (suc n) us vs w l h =
     let e : n ≡ suc n - 1 = omega arith in
-    items_by n us vs w
-    ∙ ap (λ b. cond b (each_equal (λ a b. equal_within n a b w) us vs) (Ok false)) (eq-eqb (length us) (length vs) h)
+    ap (λ b. cond b (each_equal (λ a b. equal_within n a b w) us vs) (Ok false)) (eq-eqb (length us) (length vs) h)
     ∙ ap (λ k. each_equal (λ a b. equal_within k a b w) us vs) e
 
 module _ (E : Value → Value → Result Bool Kind) (m : Memory) (xs ys : List Ref) (i : ℕ) (x y : Ref) (h : i < length xs) (k : i < length ys) (e : x ≡ get_or xs i x) (f : y ≡ get_or ys i y) where
@@ -97,19 +145,63 @@ pub each_end : (E : Value → Value → Result Bool Kind) (m : Memory) (xs ys : 
 each_end E m xs ys i h k =
     ap (λ rs. each_equal E (all_of m rs) (all_of m (drop i ys))) (drop_of_length-le xs h) ∙ ap (λ rs. each_equal E [] (all_of m rs)) (drop_of_length-le ys k)
 
+-- ---- pairs
+
+pub keys_apart : (n : ℕ) (ps qs : List (Key × Value)) (w : World) → 0 < n → length ps ≢ length qs → (compared_at n w).pairs ps qs ≡ Ok false
+keys_apart zero ps qs w l h = absurd (omega (arith, l))
+keys_apart (suc n) ps qs w l h = ap (λ b. cond b (each_found (λ a b. equal_within n a b w) ps qs) (Ok false)) (ne_eqb (length ps) (length qs) h)
+
+pub keys_same : (n : ℕ) (ps qs : List (Key × Value)) (w : World) → 0 < n → length ps ≡ length qs → (compared_at n w).pairs ps qs ≡ each_found (λ a b. equal_within (n - 1) a b w) ps qs
+keys_same zero ps qs w l h = absurd (omega (arith, l))
+keys_same (suc n) ps qs w l h =
+    let e : n ≡ suc n - 1 = omega arith in
+    ap (λ b. cond b (each_found (λ a b. equal_within n a b w) ps qs) (Ok false)) (eq-eqb (length ps) (length qs) h)
+    ∙ ap (λ k. each_found (λ a b. equal_within k a b w) ps qs) e
+
+found_from : (E : Value → Value → Result Bool Kind) (ps qs : List (Key × Value)) (i : ℕ) (p : Key × Value) → slice_get ps i ≡ Some p → each_found E (drop i ps) qs ≡ and_then (equal_found E p.1 (value_at p.0 qs)) (each_found E (drop (i + 1) ps) qs)
+found_from E [] qs i p e = absurd (cc)
+found_from E (q ∷ ps) qs zero p e = let same : q ≡ p = cc in ap (λ z. and_then (equal_found E z.1 (value_at z.0 qs)) (each_found E ps qs)) same
+found_from E (q ∷ ps) qs (suc i) p e =
+    let next : suc (i + 1) ≡ suc i + 1 = omega arith in
+    found_from E ps qs i p e ∙ ap (λ k. and_then (equal_found E p.1 (value_at p.0 qs)) (each_found E (drop k (q ∷ ps)) qs)) next
+
+module _ (E : Value → Value → Result Bool Kind) (ps qs : List (Key × Value)) (i : ℕ) (p : Key × Value) (e : slice_get ps i ≡ Some p) where
+  -- the key is not there
+  pub found_none : value_at p.0 qs ≡ None → each_found E (drop i ps) qs ≡ Ok false
+  found_none f = found_from E ps qs i p e ∙ ap (λ o. and_then (equal_found E p.1 o) (each_found E (drop (i + 1) ps) qs)) f
+
+  module _ (v : Value) (f : value_at p.0 qs ≡ Some v) where
+    found_at : each_found E (drop i ps) qs ≡ and_then (E p.1 v) (each_found E (drop (i + 1) ps) qs)
+    found_at = found_from E ps qs i p e ∙ ap (λ o. and_then (equal_found E p.1 o) (each_found E (drop (i + 1) ps) qs)) f
+
+    -- one more that is equal
+    pub found_next : E p.1 v ≡ Ok true → each_found E (drop (i + 1) ps) qs ≡ each_found E (drop i ps) qs
+    found_next g = sym (found_at ∙ (rw g refl))
+
+    pub found_other : E p.1 v ≡ Ok false → each_found E (drop i ps) qs ≡ Ok false
+    found_other g = found_at ∙ (rw g refl)
+
+    pub found_refused : (r : Refusal) → E p.1 v ≡ kind_refused r → each_found E (drop i ps) qs ≡ kind_refused r
+    found_refused WrongType g = found_at ∙ (rw g refl)
+    found_refused TooDeep g = found_at ∙ (rw g refl)
+    found_refused WrongValue g = found_at ∙ (rw g refl)
+
+pub found_end : (E : Value → Value → Result Bool Kind) (ps qs : List (Key × Value)) (i : ℕ) → length ps ≤ i → each_found E (drop i ps) qs ≡ Ok true
+found_end E ps qs i h = ap (λ rs. each_found E rs qs) (drop_of_length-le ps h)
+
 -- ---- one of many
 
 module _ (m : Memory) (xs : List Ref) (v : Value) (i : ℕ) (x : Ref) (w : World) (h : i < length xs) (e : x ≡ get_or xs i x) where
   any_from : is_any_of (all_of m (drop i xs)) v w ≡ is_any_of (value_of m x ∷ all_of m (drop (i + 1) xs)) v w
   any_from = ap (λ us. is_any_of us v w) (values_behind m xs i x h e)
 
-  pub any_next : are_equal (value_of m x) v w ≡ Ok false → is_any_of (all_of m (drop (i + 1) xs)) v w ≡ is_any_of (all_of m (drop i xs)) v w
+  pub any_next : are_equal v (value_of m x) w ≡ Ok false → is_any_of (all_of m (drop (i + 1) xs)) v w ≡ is_any_of (all_of m (drop i xs)) v w
   any_next g = sym (any_from ∙ (rw g refl))
 
-  pub any_found : are_equal (value_of m x) v w ≡ Ok true → is_any_of (all_of m (drop i xs)) v w ≡ Ok true
+  pub any_found : are_equal v (value_of m x) w ≡ Ok true → is_any_of (all_of m (drop i xs)) v w ≡ Ok true
   any_found g = any_from ∙ (rw g refl)
 
-  pub any_refused : (r : Refusal) → are_equal (value_of m x) v w ≡ kind_refused r → is_any_of (all_of m (drop i xs)) v w ≡ kind_refused r
+  pub any_refused : (r : Refusal) → are_equal v (value_of m x) w ≡ kind_refused r → is_any_of (all_of m (drop i xs)) v w ≡ kind_refused r
   any_refused WrongType g = any_from ∙ (rw g refl)
   any_refused TooDeep g = any_from ∙ (rw g refl)
   any_refused WrongValue g = any_from ∙ (rw g refl)

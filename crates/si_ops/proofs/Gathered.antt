@@ -14,7 +14,6 @@ use Rattle.si_arena.specs.declared.value.Ref.{Ref}
 use Rattle.si_arena.specs.declared.view.View.{View}
 use Rattle.si_arena.specs.declared.view.View.TheVariants as view
 use Rattle.si_arena.specs.Views.{value_in}
-use Rattle.si_arena.specs.declared.object.Object.{Object}
 use Rattle.si_arena.specs.Memory.{Memory, value_of, all_of, object_of, AllLie}
 use Rattle.si_ops.proofs.Compared.{behind}
 use Rattle.si_ops.proofs.Providing.{values_behind}
@@ -143,20 +142,20 @@ one_of_more : (a t : Bool) (o : Option Bool) → option_map (λ b. a || b) (opti
 one_of_more a t None = refl
 one_of_more a t (Some b) = ap Some (or_assoc a t b)
 
-module _ (m : Memory) (rs : List Ref) (i : ℕ) (r : Ref) (a : Bool) (o : Object) (whole : Option Bool) (h : i < length rs) (e : r ≡ get_or rs i r) (k : option_map (λ b. a || b) (is_of_one (all_of m (drop i rs)) (Some (object_of m o))) ≡ whole) where
-  kind_from : option_map (λ b. a || b) (is_of_one (value_of m r ∷ all_of m (drop (i + 1) rs)) (Some (object_of m o))) ≡ whole
-  kind_from = ap (λ vs. option_map (λ b. a || b) (is_of_one vs (Some (object_of m o)))) (sym (values_behind m rs i r h e)) ∙ k
+module _ (m : Memory) (rs : List Ref) (i : ℕ) (r : Ref) (a : Bool) (o : pure.Object) (whole : Option Bool) (h : i < length rs) (e : r ≡ get_or rs i r) (k : option_map (λ b. a || b) (is_of_one (all_of m (drop i rs)) (Some o)) ≡ whole) where
+  kind_from : option_map (λ b. a || b) (is_of_one (value_of m r ∷ all_of m (drop (i + 1) rs)) (Some o)) ≡ whole
+  kind_from = ap (λ vs. option_map (λ b. a || b) (is_of_one vs (Some o))) (sym (values_behind m rs i r h e)) ∙ k
 
-  pub kind_next : (top : Kind) → pure.Class top ≡ value_of m r → option_map (λ b. (a || is_of top (Some (object_of m o))) || b) (is_of_one (all_of m (drop (i + 1) rs)) (Some (object_of m o))) ≡ whole
+  pub kind_next : (top : Kind) → pure.Class top ≡ value_of m r → option_map (λ b. (a || is_of top (Some o)) || b) (is_of_one (all_of m (drop (i + 1) rs)) (Some o)) ≡ whole
   kind_next top f =
-      sym (one_of_more a (is_of top (Some (object_of m o))) (is_of_one (all_of m (drop (i + 1) rs)) (Some (object_of m o))))
-      ∙ ap (λ v. option_map (λ b. a || b) (is_of_one (v ∷ all_of m (drop (i + 1) rs)) (Some (object_of m o)))) f
+      sym (one_of_more a (is_of top (Some o)) (is_of_one (all_of m (drop (i + 1) rs)) (Some o)))
+      ∙ ap (λ v. option_map (λ b. a || b) (is_of_one (v ∷ all_of m (drop (i + 1) rs)) (Some o))) f
       ∙ kind_from
 
   pub kind_none : ((top : Kind) → value_of m r ≢ pure.Class top) → whole ≡ None
   kind_none f = sym kind_from ∙ ap (option_map (λ b. a || b)) (none_by (value_of m r) f)
     where
-      none_by : (v : Value) → ((top : Kind) → v ≢ pure.Class top) → is_of_one (v ∷ all_of m (drop (i + 1) rs)) (Some (object_of m o)) ≡ None
+      none_by : (v : Value) → ((top : Kind) → v ≢ pure.Class top) → is_of_one (v ∷ all_of m (drop (i + 1) rs)) (Some o) ≡ None
       none_by (pure.Class top) g = absurd (g top refl)
       none_by _ g = refl
 
@@ -169,16 +168,16 @@ pub kinds_first : (o : Option Bool) → option_map (λ b. false || b) o ≡ o
 kinds_first None = refl
 kinds_first (Some b) = refl
 
-pub kinds_end : (m : Memory) (rs : List Ref) (i : ℕ) (a : Bool) (o : Object) (whole : Option Bool) → length rs ≤ i → option_map (λ b. a || b) (is_of_one (all_of m (drop i rs)) (Some (object_of m o))) ≡ whole → Some a ≡ whole
+pub kinds_end : (m : Memory) (rs : List Ref) (i : ℕ) (a : Bool) (o : pure.Object) (whole : Option Bool) → length rs ≤ i → option_map (λ b. a || b) (is_of_one (all_of m (drop i rs)) (Some o)) ≡ whole → Some a ≡ whole
 kinds_end m rs i a o whole h k =
-    ap Some (sym (or_false a)) ∙ ap (λ xs. option_map (λ b. a || b) (is_of_one (all_of m xs) (Some (object_of m o)))) (sym (drop_of_length-le rs h)) ∙ k
+    ap Some (sym (or_false a)) ∙ ap (λ xs. option_map (λ b. a || b) (is_of_one (all_of m xs) (Some o))) (sym (drop_of_length-le rs h)) ∙ k
   where
     or_false : (b : Bool) → (b || false) ≡ b
     or_false true = refl
     or_false false = refl
 
 -- what a tuple of kinds catches
-pub caught : (m : Memory) (u : Value) (rs : List Ref) (address : ℕ) (o : Object) (r : Option Bool) (w : World) → tuple_of (all_of m rs) ≡ u → slice_get m.store address ≡ Some (object_of m o) → r ≡ is_of_one (all_of m rs) (Some (object_of m o)) → w.store ≡ m.store → catches u address w ≡ tested r w
+pub caught : (m : Memory) (u : Value) (rs : List Ref) (address : ℕ) (o : pure.Object) (r : Option Bool) (w : World) → tuple_of (all_of m rs) ≡ u → slice_get m.store address ≡ Some o → r ≡ is_of_one (all_of m rs) (Some o) → w.store ≡ m.store → catches u address w ≡ tested r w
 caught m u rs address o r w e f h k =
     ap (λ v. catches v address w) (sym e)
     ∙ ap (λ vs. tested (is_of_one vs (slice_get w.store address)) w) (items_back (all_of m rs))
@@ -187,7 +186,7 @@ caught m u rs address o r w e f h k =
     ∙ ap (λ p. tested p w) (sym h)
 
 -- what one kind catches
-pub caught_by : (m : Memory) (u : Value) (top : Kind) (address : ℕ) (o : Object) (b : Bool) (w : World) → pure.Class top ≡ u → slice_get m.store address ≡ Some (object_of m o) → b ≡ is_of top (Some (object_of m o)) → w.store ≡ m.store → catches u address w ≡ gave (Truth b) w
+pub caught_by : (m : Memory) (u : Value) (top : Kind) (address : ℕ) (o : pure.Object) (b : Bool) (w : World) → pure.Class top ≡ u → slice_get m.store address ≡ Some o → b ≡ is_of top (Some o) → w.store ≡ m.store → catches u address w ≡ gave (Truth b) w
 caught_by m u top address o b w e f h k =
     ap (λ v. catches v address w) (sym e)
     ∙ ap (λ s. gave (Truth (is_of top (slice_get s address))) w) k

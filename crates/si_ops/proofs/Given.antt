@@ -1,6 +1,6 @@
 -- The items that are given one by one, and what is left of them after the arena has gone on: laws that the crates above
 -- cite.
-use Rattle.std.proofs.Common.{◌≡◌, ℤ, length, drop, Option, refl, sym, ap, subst, ◌∙◌}
+use Rattle.std.proofs.Common.{◌≡◌, ◌<◌, ◌≤◌, arith, ℤ, length, drop, Option, refl, sym, ap, subst, ◌∙◌}
 use Rattle.si_semantics.specs.Operations as operations
 use Rattle.si_semantics.specs.Operations.{Iterator, Item, Exhausted, next_item}
 use Rattle.si_arena.specs.declared.value.Ref.{Ref}
@@ -13,13 +13,13 @@ use Rattle.si_arena.proofs.Growing.{bytes_text_lies}
 use Rattle.si_arena.specs.Bytes.{bytes_of, text_of_bytes}
 use Rattle.si_ops.specs.Operands.{members_of}
 use Rattle.si_ops.specs.declared.items.Items.{Items}
-use Rattle.si_ops.specs.declared.items.Items.TheVariants.{Numbers, Characters, Octets, Members, NoMore}
-use Rattle.si_ops.specs.Items.{items_of, ItemsLie, GivesNext}
+use Rattle.si_ops.specs.declared.items.Items.TheVariants.{Numbers, Characters, Octets, Members, Listed, Keys, NoMore}
+use Rattle.si_ops.specs.Items.{items_of, ItemsLie, GivesItem}
 
 -- three integers, each by another that is equal
-pub numbers_given : (m : Memory) (self : Items) (a b c x y z : ℤ) (r : Option (Ref × Items)) → self ≡ Numbers a b c → x ≡ a → y ≡ b → z ≡ c → GivesNext m (Numbers x y z) r → GivesNext m self r
+pub numbers_given : (m : Memory) (self : Items) (a b c x y z : ℤ) (r : Option (Ref × Items)) → self ≡ Numbers a b c → x ≡ a → y ≡ b → z ≡ c → GivesItem m (Numbers x y z) r → GivesItem m self r
 numbers_given m self a b c x y z r is e f g h =
-    let P : Items → Type 0 = λ i. GivesNext m i r in
+    let P : Items → Type 0 = λ i. GivesItem m i r in
     let same : Numbers x y z ≡ Numbers a b c = ap (λ i. Numbers i y z) e ∙ ap (λ i. Numbers a i z) f ∙ ap (λ i. Numbers a b i) g in
     subst P (same ∙ sym is) h
 
@@ -58,6 +58,8 @@ items-lasts (Numbers at stop step) e h = refl
 items-lasts (Characters text given count) e h = ap (λ s. operations.Characters (drop given s)) (text_kept text e h.0)
 items-lasts (Octets bytes given) e h = ap (λ s. operations.Octets (drop given s)) (bytes_kept bytes e h)
 items-lasts (Members tuple given) e h = ap (λ v. operations.Items (drop given (members_of v))) (value-lasts tuple e.lasts h)
+items-lasts (Listed address at) e h = refl
+items-lasts (Keys address at count) e h = refl
 items-lasts NoMore e h = refl
 
 -- and they lie in it
@@ -66,4 +68,6 @@ items_lie-extends (Numbers at stop step) e h = tt
 items_lie-extends (Characters text given count) e h = (lies-extends text e h.0, h.1 ∙ ap length (sym (text_kept text e h.0)))
 items_lie-extends (Octets bytes given) e h = lies-extends bytes e h
 items_lie-extends (Members tuple given) e h = lies-extends tuple e h
+items_lie-extends (Listed address at) e h = let more = e.objects in omega (arith, h, more)
+items_lie-extends (Keys address at count) e h = let more = e.objects in omega (arith, h, more)
 items_lie-extends NoMore e h = tt

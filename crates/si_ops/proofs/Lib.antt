@@ -23,3 +23,11 @@ pub mod Equal
 pub mod Gathered
 pub mod Raising
 pub mod RunningTuples
+pub mod KeysOf
+pub mod Holding
+pub mod Changing
+pub mod Subscribing
+pub mod RunningLists
+pub mod GoneOver
+pub mod Setting
+pub mod Popping

@@ -11,7 +11,7 @@ use Rattle.si_semantics.specs.Value.{Text, Value, Object}
 use Rattle.si_semantics.specs.Text.{Written, Whole, Broken, str_in, str_of, written, max_nested, max_length, line_of, line_behind}
 use Rattle.si_arena.specs.declared.value.Ref.{Ref}
 use Rattle.si_arena.specs.declared.cause.Cause.{Cause}
-use Rattle.si_arena.specs.declared.cause.Cause.TheVariants.{Arithmetic, TooLong, WrongType, NotCallable, WrongArguments, TooDeep, NoneActive, Outside, NotDefined, NotBound, NoAttribute, Refused}
+use Rattle.si_arena.specs.declared.cause.Cause.TheVariants.{Arithmetic, TooLong, WrongType, NotCallable, WrongArguments, TooDeep, NoneActive, Outside, SizeChanged, NotDefined, NotBound, NoAttribute, Refused}
 use Rattle.si_arena.specs.declared.cause.Fault.{Fault}
 use Rattle.si_arena.specs.declared.cause.Fault.TheVariants.{Raises, NoMemory}
 use Rattle.si_arena.specs.Memory.{Memory, value_of, all_of, Lies, AllLie}
@@ -63,6 +63,7 @@ carried r q NotCallable f h = h
 carried r q WrongArguments f h = h
 carried r q NoneActive f h = h
 carried r q Outside f h = h
+carried r q SizeChanged f h = h
 carried r q (NotDefined s) f h = h
 carried r q (NotBound s) f h = h
 carried r q (NoAttribute s) f h = h

@@ -65,6 +65,7 @@ unfolding chars
 built_in_characters pure.Print = refl
 built_in_characters pure.MakeRange = refl
 built_in_characters pure.MakeStr = refl
+built_in_characters pure.MakeList = refl
 built_in_characters pure.Repr = refl
 built_in_characters pure.Len = refl
 built_in_characters pure.MakeBool = refl

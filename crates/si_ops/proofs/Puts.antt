@@ -7,7 +7,7 @@ use Rattle.si_plain.specs.Characters.{characters_of}
 use Rattle.si_plain.specs.declared.kind.Kind.TheVariants.{OverflowError, RecursionError}
 use Rattle.si_semantics.specs.Value.{Text}
 use Rattle.si_semantics.specs.Text.{Written, Whole, Broken, behind, followed, between, written, max_length}
-use Rattle.si_arena.specs.declared.cause.Cause.TheVariants.{Arithmetic, TooLong, WrongType, NotCallable, WrongArguments, TooDeep, NoneActive, Outside, NotDefined, NotBound, NoAttribute, Refused}
+use Rattle.si_arena.specs.declared.cause.Cause.TheVariants.{Arithmetic, TooLong, WrongType, NotCallable, WrongArguments, TooDeep, NoneActive, Outside, SizeChanged, NotDefined, NotBound, NoAttribute, Refused}
 use Rattle.si_arena.specs.declared.cause.Fault.{Fault}
 use Rattle.si_arena.specs.declared.cause.Fault.TheVariants.{Raises, NoMemory}
 use Rattle.si_ops.specs.Writing.{Adds, Lacks, Begins, Overruns, Puts, Writes, text_written, spelled, judged_by, max_bytes}
@@ -69,6 +69,7 @@ puts_behind V t b start x y z (Err (Raises NotCallable)) p q = q
 puts_behind V t b start x y z (Err (Raises WrongArguments)) p q = q
 puts_behind V t b start x y z (Err (Raises NoneActive)) p q = q
 puts_behind V t b start x y z (Err (Raises Outside)) p q = q
+puts_behind V t b start x y z (Err (Raises SizeChanged)) p q = q
 puts_behind V t b start x y z (Err (Raises (NotDefined n))) p q = q
 puts_behind V t b start x y z (Err (Raises (NotBound n))) p q = q
 puts_behind V t b start x y z (Err (Raises (NoAttribute n))) p q = q
@@ -89,6 +90,7 @@ puts_ends U V a b start x y (Raises NotCallable) p = p
 puts_ends U V a b start x y (Raises WrongArguments) p = p
 puts_ends U V a b start x y (Raises NoneActive) p = p
 puts_ends U V a b start x y (Raises Outside) p = p
+puts_ends U V a b start x y (Raises SizeChanged) p = p
 puts_ends U V a b start x y (Raises (NotDefined n)) p = p
 puts_ends U V a b start x y (Raises (NotBound n)) p = p
 puts_ends U V a b start x y (Raises (NoAttribute n)) p = p
@@ -135,6 +137,7 @@ judged {Z = Z} w start s t long r q e p h is = subst (λ x. Writes {U = Unit {0}
     by (Err (Raises WrongArguments)) long p h = absurd p
     by (Err (Raises NoneActive)) long p h = absurd p
     by (Err (Raises Outside)) long p h = absurd p
+    by (Err (Raises SizeChanged)) long p h = absurd p
     by (Err (Raises (NotDefined n))) long p h = absurd p
     by (Err (Raises (NotBound n))) long p h = absurd p
     by (Err (Raises (NoAttribute n))) long p h = absurd p
@@ -152,6 +155,7 @@ begins_puts U w start s t (Err (Raises NotCallable)) p = absurd p
 begins_puts U w start s t (Err (Raises WrongArguments)) p = absurd p
 begins_puts U w start s t (Err (Raises NoneActive)) p = absurd p
 begins_puts U w start s t (Err (Raises Outside)) p = absurd p
+begins_puts U w start s t (Err (Raises SizeChanged)) p = absurd p
 begins_puts U w start s t (Err (Raises (NotDefined n))) p = absurd p
 begins_puts U w start s t (Err (Raises (NotBound n))) p = absurd p
 begins_puts U w start s t (Err (Raises (NoAttribute n))) p = absurd p

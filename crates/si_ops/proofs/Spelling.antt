@@ -10,7 +10,7 @@ use Rattle.si_plain.specs.Repr.{quote_of, escaped, repr_of}
 use Rattle.std.specs.Str.{IsUtf8}
 use Rattle.std.proofs.lemmas.Str.{encodes_same}
 use Rattle.si_plain.specs.Characters.{characters_of}
-use Rattle.si_semantics.specs.Value.{BuiltIn, Print, MakeRange, MakeStr, Repr, Len, MakeBool, Abs, MakeInt, Ord, Chr, Min, Max, MakeBytes, MakeTuple}
+use Rattle.si_semantics.specs.Value.{BuiltIn, Print, MakeRange, MakeStr, Repr, Len, MakeBool, Abs, MakeInt, Ord, Chr, Min, Max, MakeBytes, MakeTuple, MakeList}
 use Rattle.si_plain.specs.declared.modules.ModuleName.{ModuleName}
 use Rattle.si_plain.specs.declared.modules.ModuleName.TheVariants.{Threading, Interpreters}
 use Rattle.si_semantics.specs.Text.{decimal, repr_range, same_int, built_in_name, full_name}
@@ -129,6 +129,7 @@ built_in_is Min = refl
 built_in_is Max = refl
 built_in_is MakeBytes = refl
 built_in_is MakeTuple = refl
+built_in_is MakeList = refl
 
 pub provided_is : (b : BuiltIn) (s : List ℕ) → s ≡ built_in_name b → codes "<built-in " ++ (s ++ codes ">") ≡ encode_utf8_all (codes "<built-in " ++ built_in_name b ++ codes ">")
 unfolding lib.Utf8.encode

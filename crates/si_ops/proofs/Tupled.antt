@@ -180,3 +180,16 @@ tuple_runs f vs old new (Err NoMemory) is h = h
 -- what is too large is told, where that is tested before memory is taken
 pub large_told : (vs : List Value) (r : Result Ref Fault) → is_too_large (tuple_of vs) ≡ false → is_too_large (tuple_of vs) ≡ true → IsTold r
 large_told vs r h e = absurd (no_truth (sym e ∙ h))
+
+-- ---- values of any kinds
+
+some_count : (v : Value) → 1 ≤ count_of v
+some_count (Tuple vs) = omega arith
+some_count _ = omega arith
+
+pub counts_many : (vs : List Value) → length vs ≤ counts_of (values_of vs)
+counts_many [] = omega arith
+counts_many (v ∷ vs) = omega (arith, counts_many vs, some_count v)
+
+pub many_items : (vs : List Value) → 65536 ≤ length vs → is_too_large (tuple_of vs) ≡ true
+many_items vs h = many_values (tuple_of vs) (omega (arith, h, counts_many vs))

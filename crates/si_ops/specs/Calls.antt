@@ -1,11 +1,11 @@
 -- How a call goes over an arena, by its definition, which says what it does in a world. The world's objects are those of
 -- the arena, before it and after it.
-use Rattle.std.specs.Prelude.{◌≡◌, true, ℕ, ℤ, pos, negsuc, nat_lt, if◌then◌else◌, ◌<◌, ◌≤◌, ◌+◌, List, [], ◌∷◌, ◌++◌, length, Option, Some, None, Result, Ok, Err, encode_utf8_all}
+use Rattle.std.specs.Prelude.{◌≡◌, true, ℕ, ℤ, pos, negsuc, nat_lt, if◌then◌else◌, ◌<◌, ◌≤◌, ◌+◌, List, [], ◌∷◌, ◌++◌, length, Option, Some, None, Result, Ok, Err, encode_utf8_all, slice_get}
 use Rattle.std.specs.String.{string_bytes, string_len, string_capacity}
 use Rattle.std.specs.declared.string.String.{String}
 use Rattle.si_semantics.specs.Value as pure
 use Rattle.si_semantics.specs.World.{World, Ran, Gave}
-use Rattle.si_semantics.specs.Operations.{gave, integer_in, range_items}
+use Rattle.si_semantics.specs.Operations.{gave, integer_in, range_items, items_of_object}
 use Rattle.si_semantics.specs.Tuples.{is_too_large, characters_in, numbers_in, integers_in}
 use Rattle.si_arena.specs.declared.value.Ref.{Ref}
 use Rattle.si_arena.specs.declared.object.Steps.{Steps}
@@ -83,16 +83,18 @@ abbrev pub AreBytes : List pure.Value → Type 0
 AreBytes (v ∷ []) = IsByte (integer_in v)
 AreBytes _ = Unit {0}
 
--- what `tuple` is called with needs no memory: it has too many items for a tuple, or it is one, or it can't be made one
-abbrev pub NeedsNoTuple : List pure.Value → Type 0
-NeedsNoTuple (pure.Str s ∷ []) = is_too_large (pure.tuple_of (characters_in s)) ≡ true
-NeedsNoTuple (pure.Bytes bs ∷ []) = is_too_large (pure.tuple_of (numbers_in bs)) ≡ true
-NeedsNoTuple (pure.Range a b c ∷ []) = is_too_large (pure.tuple_of (integers_in (range_items a b c))) ≡ true
-NeedsNoTuple _ = Unit {0}
+-- what `tuple` is called with needs no memory: it is no list and no dict and has too many items for a tuple, or it is one, or
+-- it can't be made one
+abbrev pub NeedsNoTuple : List pure.Object → List pure.Value → Type 0
+NeedsNoTuple store (pure.Str s ∷ []) = is_too_large (pure.tuple_of (characters_in s)) ≡ true
+NeedsNoTuple store (pure.Bytes bs ∷ []) = is_too_large (pure.tuple_of (numbers_in bs)) ≡ true
+NeedsNoTuple store (pure.Range a b c ∷ []) = is_too_large (pure.tuple_of (integers_in (range_items a b c))) ≡ true
+NeedsNoTuple store (pure.Address x ∷ []) = items_of_object (slice_get store x) ≡ None
+NeedsNoTuple store _ = Unit {0}
 
 -- no memory is needed for a call: of what can't be called, of `print` where the line has room for what it prints, of
--- `chr` for a character below 256, of `tuple` where that makes none, and of what else makes no str, no bytes, no range and
--- no exception
+-- `chr` for a character below 256, of `tuple` where that makes none, and of what else makes no str, no bytes, no range, no
+-- list and no exception
 abbrev pub NeedsNone : {Z : Type 0} → Memory → String Z → pure.Value → List pure.Value → Type 0
 NeedsNone m line (pure.Provided pure.Print) vs = string_len line + length (line_bytes m.store vs) ≤ string_capacity line
 NeedsNone m line (pure.Provided pure.MakeRange) vs = ⊥
@@ -100,7 +102,8 @@ NeedsNone m line (pure.Provided pure.MakeStr) vs = ⊥
 NeedsNone m line (pure.Provided pure.Repr) vs = ⊥
 NeedsNone m line (pure.Provided pure.Chr) vs = AreBytes vs
 NeedsNone m line (pure.Provided pure.MakeBytes) vs = ⊥
-NeedsNone m line (pure.Provided pure.MakeTuple) vs = NeedsNoTuple vs
+NeedsNone m line (pure.Provided pure.MakeTuple) vs = NeedsNoTuple m.store vs
+NeedsNone m line (pure.Provided pure.MakeList) vs = ⊥
 NeedsNone m line (pure.Provided b) vs = Unit {0}
 NeedsNone m line (pure.Class k) vs = ⊥
 NeedsNone m line v vs = Unit {0}

@@ -1,5 +1,5 @@
 -- What values are to operators.
-use Rattle.std.specs.Prelude.{◌≡◌, ◌≤◌, List, [], ◌++◌, length, true, Result, Err}
+use Rattle.std.specs.Prelude.{◌≡◌, ◌≤◌, List, [], ◌++◌, length, true, Option, Some, Result, Err, slice_get}
 use Rattle.si_semantics.specs.Value as pure
 use Rattle.si_semantics.specs.Tree as tree
 use Rattle.si_semantics.specs.Operations.{int_of_truth}
@@ -22,6 +22,20 @@ IsOther (pure.Bytes bs) = ⊥
 IsOther (pure.Tuple vs) = ⊥
 IsOther _ = Unit {0}
 
+-- no list
+abbrev pub IsNoListObject : Option pure.Object → Type 0
+IsNoListObject (Some (pure.Items vs)) = ⊥
+IsNoListObject _ = Unit {0}
+
+-- a value that is no list
+abbrev pub IsNoList : List pure.Object → pure.Value → Type 0
+IsNoList store (pure.Address x) = IsNoListObject (slice_get store x)
+IsNoList store _ = Unit {0}
+
+-- two values that are no lists
+abbrev pub AreNoLists : List pure.Object → pure.Value → pure.Value → Type 0
+AreNoLists store u v = IsNoList store u × IsNoList store v
+
 -- a value that counts as no integer
 abbrev pub IsNoInteger : pure.Value → Type 0
 IsNoInteger (pure.Int i) = ⊥
@@ -42,7 +56,7 @@ Stands m r Bytes = value_of m r ≡ pure.Bytes (bytes_of m.texts r)
 Stands m r Tuple = value_of m r ≡ pure.tuple_of (members_of (value_of m r))
 Stands m r Other = IsOther (value_of m r)
 
--- what a binary operator makes of values: a text or bytes of these characters, or a tuple of these items, however many; of
+-- what a binary operator makes of values that are no lists: a text or bytes of these characters, or a tuple of these items, however many; of
 -- no others does it make any
 pub data Made : Type 0 where
   NoneMade : Made

@@ -2,14 +2,16 @@
 -- those of the arena.
 use Rattle.std.specs.Prelude.{◌≡◌, Bool, Option, Some, None, Result, Ok, Err}
 use Rattle.si_plain.specs.declared.kind.Kind.{Kind}
-use Rattle.si_plain.specs.declared.kind.Kind.TheVariants.{TypeError, RecursionError, ValueError}
+use Rattle.si_plain.specs.declared.kind.Kind.TheVariants.{KeyError, TypeError, RecursionError, ValueError}
 use Rattle.si_semantics.specs.Value as pure
-use Rattle.si_semantics.specs.World.{World, Ran}
+use Rattle.si_semantics.specs.World.{World, Ran, Threw}
 use Rattle.si_semantics.specs.Operations.{gave, refused}
 use Rattle.si_arena.specs.declared.value.Ref.{Ref}
 use Rattle.si_arena.specs.declared.cause.Cause.{Cause}
 use Rattle.si_arena.specs.declared.cause.Fault.{Fault}
 use Rattle.si_arena.specs.declared.cause.Fault.TheVariants.{Raises, NoMemory}
+use Rattle.si_ops.specs.declared.lack.Lack.{Lack}
+use Rattle.si_ops.specs.declared.lack.Lack.TheVariants as lack
 use Rattle.si_ops.specs.declared.refusal.Refusal.{Refusal}
 use Rattle.si_ops.specs.declared.refusal.Refusal.TheVariants.{WrongType, TooDeep, WrongValue}
 use Rattle.si_arena.specs.Causes.{kind_of, message_of, CauseLies}
@@ -22,6 +24,10 @@ Gives f m v = (w : World) → w.store ≡ m.store → f w ≡ gave v w
 -- the operation raises an exception of the cause's kind with its message, and changes nothing else
 abbrev pub Throws : (World → Ran) → Memory → Cause → Type 0
 Throws f m cause = ((w : World) → w.store ≡ m.store → f w ≡ refused (kind_of cause) (message_of m.names cause) w) × CauseLies m.names cause
+
+-- a key is not there: it is the argument of a KeyError, and nothing else is changed
+abbrev pub MissesKey : (World → Ran) → Memory → pure.Value → Type 0
+MissesKey f m v = (w : World) → w.store ≡ m.store → f w ≡ Threw KeyError (Some v) w
 
 -- what a comparison gives; where it gives nothing its operands are of a wrong kind
 abbrev pub answer_of : Option Bool → Result Bool Kind
@@ -48,6 +54,12 @@ Decides f m (Err cause) = Throws f m cause
 abbrev pub Tells : (World → Ran) → Memory → Result Ref Cause → Type 0
 Tells f m (Ok r) = Gives f m (value_of m r) × Lies m r
 Tells f m (Err cause) = Throws f m cause
+
+-- the same with an index, which may be a key that is not there
+abbrev pub Finds : (World → Ran) → (index : pure.Value) → Memory → Result Ref Lack → Type 0
+Finds f v m (Ok r) = Gives f m (value_of m r) × Lies m r
+Finds f v m (Err (lack.Raises cause)) = Throws f m cause
+Finds f v m (Err lack.NoKey) = MissesKey f m v
 
 -- an operation that may place its value: that, which lies in the arena, with the objects as they were; or why it
 -- raises, or memory is refused, and then the arena is as it was

@@ -8,9 +8,13 @@ ghost use Rattle.si_semantics.specs.Operations.{operate_integers, operate_truths
 ghost use Rattle.si_arena.specs.Memory.{Memory, value_of, Lies};
 ghost use Rattle.si_arena.specs.Texts.{text_of};
 ghost use Rattle.si_ops.specs.Runs.{Runs, Tells};
-ghost use Rattle.si_ops.specs.Operands.{IsNoInteger, made_of, NeedsNone, IsTold};
+ghost use Rattle.si_ops.specs.Calls.{Makes};
+ghost use Rattle.si_ops.specs.Operands.{IsNoInteger, AreNoLists, made_of, NeedsNone, IsTold};
+ghost use Rattle.si_ops.specs.inner.Held.{IsListIn};
 
 use crate::bytes::{byte_copies, joined_bytes};
+use crate::held::{Held, held_by};
+use crate::lists::{joined_lists, list_copies};
 use crate::operand::Operand;
 use crate::truth::{int_of_truth, is_true};
 use crate::tuples::{joined_tuples, tuple_copies};
@@ -82,7 +86,7 @@ fn of_other(arena: &Arena, operator: UnaryOperator, value: Ref) -> Result<Ref, C
 }
 
 /// An operator between two values (Python Language Reference 3.14, 6.5 and 6.7 to 6.9). It takes no memory where it
-/// makes neither a str, nor bytes, nor a tuple, nor where it makes at most 14 characters of operands that have no wide one, or
+/// makes neither a str, nor bytes, nor a tuple, nor a list, nor where it makes at most 14 characters of operands that have no wide one, or
 /// at most 14 bytes, nor where a tuple would be too large.
 #[inline(always)]
 pub fn binary(
@@ -93,8 +97,8 @@ pub fn binary(
 ) -> Result<Ref, Fault>
     requires left { Lies arena.old left }
     requires right { Lies arena.old right }
-    ensures runs { Runs (λ w. operate operator (value_of arena.old left) (value_of arena.old right) w) arena.old arena.new result }
-    ensures memory { NeedsNone left right (made_of operator (value_of arena.old left) (value_of arena.old right)) → (arena.new ≡ arena.old) × IsTold result }
+    ensures makes { Makes (λ w. operate operator (value_of arena.old left) (value_of arena.old right) w) arena.old arena.new result }
+    ensures memory { AreNoLists arena.old.store (value_of arena.old left) (value_of arena.old right) → NeedsNone left right (made_of operator (value_of arena.old left) (value_of arena.old right)) → (arena.new ≡ arena.old) × IsTold result }
 {
     match (left, right) {
         (Ref::Int(x), Ref::Int(y)) => integers(operator, x, y),
@@ -147,7 +151,7 @@ fn truths(operator: BinaryOperator, x: bool, y: bool) -> Result<Ref, Fault>
     }
 }
 
-// The same as `binary`, for operands of any kinds.
+// The same as `binary`, for operands of any kinds: `+` and `*` of lists make new lists.
 #[inline(never)]
 fn operands(
     arena: &mut Arena,
@@ -157,6 +161,35 @@ fn operands(
 ) -> Result<Ref, Fault>
     requires left { Lies arena.old left }
     requires right { Lies arena.old right }
+    ensures makes { Makes (λ w. operate operator (value_of arena.old left) (value_of arena.old right) w) arena.old arena.new result }
+    ensures memory { AreNoLists arena.old.store (value_of arena.old left) (value_of arena.old right) → NeedsNone left right (made_of operator (value_of arena.old left) (value_of arena.old right)) → (arena.new ≡ arena.old) × IsTold result }
+{
+    match (list_in(arena, left), list_in(arena, right)) {
+        (None, None) => placed(arena, operator, left, right),
+        (Some(x), Some(y)) => joined_lists(arena, operator, x, y),
+        (Some(x), None) => list_copies(arena, operator, x, right),
+        (None, Some(y)) => list_copies(arena, operator, y, left),
+    }
+}
+
+// The address of a list.
+#[inline(always)]
+fn list_in(arena: &Arena, value: Ref) -> Option<usize>
+    requires { Lies arena.now value }
+    ensures { IsListIn arena.now (value_of arena.now value) result }
+{
+    match held_by(arena, value) {
+        Held::List(address) => Some(address),
+        Held::Dict(_) => None,
+        Held::Other => None,
+    }
+}
+
+// An operator between two values that are no lists, whose value may be placed.
+fn placed(arena: &mut Arena, operator: BinaryOperator, left: Ref, right: Ref) -> Result<Ref, Fault>
+    requires left { Lies arena.old left }
+    requires right { Lies arena.old right }
+    requires no_lists { AreNoLists arena.old.store (value_of arena.old left) (value_of arena.old right) }
     ensures runs { Runs (λ w. operate operator (value_of arena.old left) (value_of arena.old right) w) arena.old arena.new result }
     ensures memory { NeedsNone left right (made_of operator (value_of arena.old left) (value_of arena.old right)) → (arena.new ≡ arena.old) × IsTold result }
 {

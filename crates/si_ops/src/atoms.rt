@@ -64,6 +64,7 @@ pub fn built_in_name(function: BuiltIn) -> &'static str
         BuiltIn::Max => "max",
         BuiltIn::Bytes => "bytes",
         BuiltIn::Tuple => "tuple",
+        BuiltIn::List => "list",
     }
 }
 

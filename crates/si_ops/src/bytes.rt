@@ -72,6 +72,10 @@ fn place_items(arena: &mut Arena, value: Ref) -> Result<Ref, Fault>
     let bytes = match arena.view(&value) {
         View::Range(steps) => bytes_in(arena.allocator(), steps)?,
         View::Tuple(items) => bytes_meant(arena, items)?,
+        View::Object(address) => match arena.list(address) {
+            Some(items) => bytes_meant(arena, items)?,
+            None => return Err(Fault::Raises(Cause::WrongType)),
+        },
         _ => return Err(Fault::Raises(Cause::WrongType)),
     };
     arena.place_bytes(bytes.as_slice())

@@ -11,6 +11,7 @@ ghost use Rattle.si_ops.specs.Calls.{Makes, Calls, Spans, call_of, NeedsNone, Is
 
 use crate::bytes::call_bytes;
 use crate::line::push_line;
+use crate::lists::call_list;
 use crate::operand::integer_in;
 use crate::provided::{
     call_abs, call_bool, call_chr, call_int, call_len, call_max, call_min, call_ord,
@@ -35,7 +36,7 @@ pub enum Called {
 /// `NotCallable` for any other value, `WrongArguments`, `WrongType`, `Arithmetic`, `TooDeep` and `TooLong` as the
 /// definition raises them. Where nothing is given, the arena and the text of `line` are as before. Memory is asked for
 /// neither by `print`, where the line has room, nor by `tuple`, where it makes none, nor by what makes no str, no bytes, no
-/// range and no exception, nor where the value can't be called.
+/// range, no list and no exception, nor where the value can't be called.
 pub fn call(
     arena: &mut Arena,
     line: &mut String,
@@ -114,6 +115,10 @@ fn call_built_in(
         BuiltIn::Tuple => {
             let tuple = call_tuple(arena, arguments)?;
             Ok(Called::Value(tuple))
+        }
+        BuiltIn::List => {
+            let list = call_list(arena, arguments)?;
+            Ok(Called::Value(list))
         }
     }
 }

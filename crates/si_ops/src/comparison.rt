@@ -82,7 +82,7 @@ fn answer(
 ) -> Result<bool, Refusal>
     requires left { Lies arena.now left }
     requires right { Lies arena.now right }
-    ensures { (w : World) → operations.compare operator (value_of arena.now left) (value_of arena.now right) w ≡ operations.truth (decided result) w }
+    ensures { (w : World) → w.store ≡ arena.now.store → operations.compare operator (value_of arena.now left) (value_of arena.now right) w ≡ operations.truth (decided result) w }
 {
     match operator {
         ComparisonOperator::Less => is_before(arena, left, right),

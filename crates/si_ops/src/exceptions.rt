@@ -6,11 +6,12 @@ ghost use Rattle.si_semantics.specs.Value as pure;
 ghost use Rattle.si_semantics.specs.Operations as operations;
 ghost use Rattle.si_arena.specs.declared.value.Ref.TheVariants as ref;
 ghost use Rattle.si_arena.specs.Causes.{kind_of, message_of, CauseLies};
-ghost use Rattle.si_arena.specs.Memory.{Memory, value_of, all_of, object_of, Lies, AllLie, ObjectLies, IsMade};
+ghost use Rattle.si_arena.specs.Memory.{Memory, value_of, all_of, object_of, contents_of, Lies, AllLie, ObjectLies, IsMade};
 ghost use Rattle.si_ops.specs.Runs.{Decides};
 ghost use Rattle.si_ops.specs.Raised.{IsRaised};
+ghost use Rattle.si_ops.specs.inner.Objects.{is_exception};
 
-use si_arena::{Arena, Cause, Object, Ref, View};
+use si_arena::{Arena, Cause, Contents, Object, Ref, View};
 use si_plain::{Kind, NoMemory};
 
 /// Whether an except clause with this value matches the exception at an address (Python Language Reference 3.14,
@@ -30,8 +31,19 @@ pub fn catches(arena: &Arena, clause: Ref, address: usize) -> Result<bool, Cause
     }
 }
 
-// Whether an object is an exception of a kind, or of one under it; a thread is none.
-fn is_of(object: Object, top: Kind) -> bool
+// Whether an object is an exception of a kind, or of one under it; no other object is one.
+fn is_of(contents: Contents, top: Kind) -> bool
+    ensures { (m : Memory) → result ≡ operations.is_of top (Some (contents_of m contents.entry)) }
+{
+    match contents {
+        Contents::Plain(object) => is_plain_of(object, top),
+        Contents::List(_) => false,
+        Contents::Dict(_) => false,
+    }
+}
+
+// The same of an exception or a thread.
+fn is_plain_of(object: Object, top: Kind) -> bool
     ensures { (m : Memory) → result ≡ operations.is_of top (Some (object_of m object)) }
 {
     match object {
@@ -45,22 +57,22 @@ fn is_of(object: Object, top: Kind) -> bool
 
 // Whether an object is an exception of one of these kinds, or of one under it; there is no answer where one of these is
 // no kind.
-fn is_of_one(arena: &Arena, kinds: &[Ref], object: Object) -> Option<bool>
+fn is_of_one(arena: &Arena, kinds: &[Ref], contents: Contents) -> Option<bool>
     requires { AllLie arena.now kinds.now }
-    ensures { result ≡ operations.is_of_one (all_of arena.now kinds.now) (Some (object_of arena.now object)) }
+    ensures { result ≡ operations.is_of_one (all_of arena.now kinds.now) (Some (contents_of arena.now contents.entry)) }
 {
     let mut matches = false;
     for i in 0..kinds.len() {
         let View::Kind(top) = arena.view(&kinds[i]) else {
             return None;
         };
-        matches = matches || is_of(object, top);
+        matches = matches || is_of(contents, top);
     }
     Some(matches)
 }
 
 /// The exception that `raise` with a value raises, by its address (Python Language Reference 3.14, 7.8): an exception
-/// itself, of a kind a new one without argument, and for any other value, a thread too, a new TypeError. Memory is asked for only where
+/// itself, of a kind a new one without argument, and for any other value, a thread, a list and a dict too, a new TypeError. Memory is asked for only where
 /// one is made; where it is refused, the arena is as before.
 pub fn raised_by(arena: &mut Arena, value: Ref) -> Result<usize, NoMemory>
     requires { Lies arena.old value }
@@ -69,11 +81,12 @@ pub fn raised_by(arena: &mut Arena, value: Ref) -> Result<usize, NoMemory>
     ensures memory { (x : ℕ) (k : Kind) (a : Option pure.Value) → value ≡ ref.Object x → slice_get arena.old.store x ≡ Some (pure.Exception k a) → (arena.new ≡ arena.old) × IsOk result }
 {
     match value {
-        Ref::Object(address) => match arena.object(address) {
-            Object::Thread { .. } => raised_for(arena, Cause::WrongType),
-            Object::Started(_) => raised_for(arena, Cause::WrongType),
-            _ => Ok(address),
-        },
+        Ref::Object(address) => {
+            if is_exception(arena.object(address)) {
+                return Ok(address);
+            }
+            raised_for(arena, Cause::WrongType)
+        }
         Ref::Kind(kind) => make_at(arena, Object::Bare(kind)),
         Ref::Range(place) => {
             let _steps = arena.steps(place);
@@ -84,6 +97,27 @@ pub fn raised_by(arena: &mut Arena, value: Ref) -> Result<usize, NoMemory>
             raised_for(arena, Cause::WrongType)
         }
         _ => raised_for(arena, Cause::WrongType),
+    }
+}
+
+// Whether an object is an exception.
+fn is_exception(contents: Contents) -> bool
+    ensures { (m : Memory) → result ≡ is_exception (contents_of m contents.entry) }
+{
+    match contents {
+        Contents::Plain(object) => is_plain_exception(object),
+        Contents::List(_) => false,
+        Contents::Dict(_) => false,
+    }
+}
+
+// The same of an exception or a thread.
+fn is_plain_exception(object: Object) -> bool
+    ensures { (m : Memory) → result ≡ is_exception (object_of m object) }
+{
+    match object {
+        Object::Bare(_) | Object::Made(_, _) | Object::Caused(_) => true,
+        Object::Thread { .. } | Object::Started(_) => false,
     }
 }
 

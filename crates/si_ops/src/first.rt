@@ -80,7 +80,7 @@ fn is_spelled(name: &str, word: &str) -> bool
 }
 
 // The built-ins that are no kinds (Python Standard Library 3.14, "Built-in Functions").
-fn built_ins() -> [BuiltIn; 14]
+fn built_ins() -> [BuiltIn; 15]
     ensures { map built_in_of result ≡ operations.built_ins }
 {
     [
@@ -98,6 +98,7 @@ fn built_ins() -> [BuiltIn; 14]
         BuiltIn::Max,
         BuiltIn::Bytes,
         BuiltIn::Tuple,
+        BuiltIn::List,
     ]
 }
 

@@ -1,29 +1,55 @@
 // What a `for` goes over.
 
-ghost use Rattle.std.specs.Prelude.{◌≡◌, option_map, IfSome, ◌<◌, ◌^◌, length};
+ghost use Rattle.std.specs.Prelude.{◌≡◌, option_map, IfSome, ◌<◌, ◌^◌, length, slice_get};
 ghost use Rattle.si_semantics.specs.World.{World};
 ghost use Rattle.si_semantics.specs.Operations.{iterator_of};
 ghost use Rattle.si_arena.specs.Memory.{Memory, value_of, Lies};
 ghost use Rattle.si_arena.specs.Texts.{text_of};
-ghost use Rattle.si_ops.specs.Items.{items_of, ItemsLie, GivesNext};
+ghost use Rattle.si_semantics.specs.Operations.{iterator_at};
+ghost use Rattle.si_ops.specs.Items.{items_of, ItemsLie, GivesItem, GivesNext};
 ghost use Rattle.si_ops.specs.declared.items.Items.TheVariants as item;
 
 use crate::ranges::is_item;
 use crate::tuples::members;
-use si_arena::{Arena, Ref, View};
+use si_arena::{Arena, Cause, Contents, Ref, View};
 use si_plain::add;
 
 /// What a `for` still has to give (Python Language Reference 3.14, 8.3).
 #[derive(Clone, Copy, Debug)]
 pub enum Items {
     /// The integers from one on, a step apart, before a stop.
-    Numbers { at: i64, stop: i64, step: i64 },
+    Numbers {
+        at: i64,
+        stop: i64,
+        step: i64,
+    },
     /// The characters of a str that has so many, of which so many were given.
-    Characters { text: Ref, given: u32, length: u32 },
+    Characters {
+        text: Ref,
+        given: u32,
+        length: u32,
+    },
     /// Bytes, each as an integer, of which so many were given.
-    Octets { bytes: Ref, given: usize },
+    Octets {
+        bytes: Ref,
+        given: usize,
+    },
     /// The items of a tuple, of which so many were given.
-    Members { tuple: Ref, given: usize },
+    Members {
+        tuple: Ref,
+        given: usize,
+    },
+    /// The items of the list at an address, from a position on: it is looked at as it is at that turn.
+    Listed {
+        address: usize,
+        at: usize,
+    },
+    /// The keys of the dict at an address, from a position on, and how many it had at first.
+    Keys {
+        address: usize,
+        at: usize,
+        count: usize,
+    },
     /// Nothing.
     NoMore,
 }
@@ -35,7 +61,7 @@ impl Items {
     /// What a value gives, where it can be gone over. It takes no memory.
     pub fn of(arena: &Arena, value: Ref) -> Option<Items>
         requires { Lies arena.now value }
-        ensures items { (w : World) → option_map (items_of arena.now) result ≡ iterator_of (value_of arena.now value) w }
+        ensures items { (w : World) → w.store ≡ arena.now.store → option_map (items_of arena.now) result ≡ iterator_of (value_of arena.now value) w }
         ensures lie { IfSome result (λ items. ItemsLie arena.now items) }
     {
         match arena.view(&value) {
@@ -57,27 +83,48 @@ impl Items {
                 tuple: value,
                 given: 0,
             }),
+            View::Object(address) => items_at(arena, address),
             _ => None,
         }
     }
 
-    /// The next item, and what is left, where there is one. It takes no memory.
+    /// The next item, and what is left, where there is one; `SizeChanged` where a dict has not as many keys as at first. It
+    /// takes no memory.
     #[inline(always)]
-    pub fn next(self, arena: &Arena) -> Option<(Ref, Items)>
+    pub fn next(self, arena: &Arena) -> Result<Option<(Ref, Items)>, Cause>
         requires { ItemsLie arena.now self }
         ensures { GivesNext arena.now self result }
     {
         match self {
-            Items::Numbers { at, stop, step } => next_number(at, stop, step),
+            Items::Numbers { at, stop, step } => Ok(next_number(at, stop, step)),
             Items::Characters {
                 text,
                 given,
                 length,
-            } => next_character(arena, text, given, length),
-            Items::Octets { bytes, given } => next_octet(arena, bytes, given),
-            Items::Members { tuple, given } => next_member(arena, tuple, given),
-            Items::NoMore => None,
+            } => Ok(next_character(arena, text, given, length)),
+            Items::Octets { bytes, given } => Ok(next_octet(arena, bytes, given)),
+            Items::Members { tuple, given } => Ok(next_member(arena, tuple, given)),
+            Items::Listed { address, at } => Ok(next_listed(arena, address, at)),
+            Items::Keys { address, at, count } => next_key(arena, address, at, count),
+            Items::NoMore => Ok(None),
         }
+    }
+}
+
+// What the object at an address gives: a list its items, a dict its keys.
+fn items_at(arena: &Arena, address: usize) -> Option<Items>
+    requires { address < length arena.now.store }
+    ensures items { (m : Memory) → option_map (items_of m) result ≡ iterator_at address (slice_get arena.now.store address) }
+    ensures lie { IfSome result (λ items. ItemsLie arena.now items) }
+{
+    match arena.object(address) {
+        Contents::List(_) => Some(Items::Listed { address, at: 0 }),
+        Contents::Dict(pairs) => Some(Items::Keys {
+            address,
+            at: 0,
+            count: pairs.len(),
+        }),
+        Contents::Plain(_) => None,
     }
 }
 
@@ -96,7 +143,7 @@ fn length_in(text: Ref) -> u32
 // The next integer, and what is left: what lies past the integers lies past the stop.
 #[inline(always)]
 fn next_number(at: i64, stop: i64, step: i64) -> Option<(Ref, Items)>
-    ensures { (m : Memory) → GivesNext m (item.Numbers at stop step) result }
+    ensures { (m : Memory) → GivesItem m (item.Numbers at stop step) result }
 {
     if !is_item(at, stop, step) {
         return None;
@@ -115,7 +162,7 @@ fn next_number(at: i64, stop: i64, step: i64) -> Option<(Ref, Items)>
 // The next character of a text, as a text, and what is left.
 fn next_character(arena: &Arena, text: Ref, given: u32, length: u32) -> Option<(Ref, Items)>
     requires { ItemsLie arena.now (item.Characters text given length) }
-    ensures { GivesNext arena.now (item.Characters text given length) result }
+    ensures { GivesItem arena.now (item.Characters text given length) result }
 {
     if given >= length {
         return None;
@@ -132,7 +179,7 @@ fn next_character(arena: &Arena, text: Ref, given: u32, length: u32) -> Option<(
 // The next of bytes, as an integer, and what is left.
 fn next_octet(arena: &Arena, bytes: Ref, given: usize) -> Option<(Ref, Items)>
     requires { ItemsLie arena.now (item.Octets bytes given) }
-    ensures { GivesNext arena.now (item.Octets bytes given) result }
+    ensures { GivesItem arena.now (item.Octets bytes given) result }
 {
     let all = arena.bytes(&bytes);
     if given >= all.len() {
@@ -146,7 +193,7 @@ fn next_octet(arena: &Arena, bytes: Ref, given: usize) -> Option<(Ref, Items)>
 // The next item of a tuple, and what is left.
 fn next_member(arena: &Arena, tuple: Ref, given: usize) -> Option<(Ref, Items)>
     requires { ItemsLie arena.now (item.Members tuple given) }
-    ensures { GivesNext arena.now (item.Members tuple given) result }
+    ensures { GivesItem arena.now (item.Members tuple given) result }
 {
     let all = members(arena, &tuple);
     if given >= all.len() {
@@ -155,4 +202,50 @@ fn next_member(arena: &Arena, tuple: Ref, given: usize) -> Option<(Ref, Items)>
     let member = all[given];
     let given = given + 1;
     Some((member, Items::Members { tuple, given }))
+}
+
+// The item of a list at a position, and what is left.
+#[inline(always)]
+fn next_listed(arena: &Arena, address: usize, at: usize) -> Option<(Ref, Items)>
+    requires { address < length arena.now.store }
+    ensures { GivesItem arena.now (item.Listed address at) result }
+{
+    match arena.list(address) {
+        Some(items) => {
+            if at >= items.len() {
+                return None;
+            }
+            let next = items[at];
+            let at = at + 1;
+            Some((next, Items::Listed { address, at }))
+        }
+        None => None,
+    }
+}
+
+// The key of a dict at a position, and what is left, where it has as many keys as at first.
+fn next_key(
+    arena: &Arena,
+    address: usize,
+    at: usize,
+    count: usize,
+) -> Result<Option<(Ref, Items)>, Cause>
+    requires { address < length arena.now.store }
+    ensures { GivesNext arena.now (item.Keys address at count) result }
+{
+    match arena.object(address) {
+        Contents::Dict(pairs) => {
+            if pairs.len() != count {
+                return Err(Cause::SizeChanged);
+            }
+            if at >= count {
+                return Ok(None);
+            }
+            let key = pairs.pair(at).key;
+            let at = at + 1;
+            Ok(Some((key, Items::Keys { address, at, count })))
+        }
+        Contents::List(_) => Ok(None),
+        Contents::Plain(_) => Ok(None),
+    }
 }

@@ -1,33 +1,36 @@
 // What is in a value.
 
-ghost use Rattle.std.specs.Prelude.{◌≡◌, ◌≤◌, drop, length, Ok};
+ghost use Rattle.std.specs.Prelude.{◌≡◌, ◌≤◌, ◌<◌, drop, length, slice_get, Ok};
 ghost use Rattle.si_semantics.specs.Parts.{begins_with, is_part};
 ghost use Rattle.si_semantics.specs.World.{World};
 ghost use Rattle.si_semantics.specs.Value.{Str, Bytes};
 ghost use Rattle.si_semantics.specs.Operations as operations;
 ghost use Rattle.si_arena.specs.Texts.{characters_in};
-ghost use Rattle.si_arena.specs.Memory.{Memory, value_of, all_of, range_of, Lies, AllLie};
+ghost use Rattle.si_semantics.specs.Dicts.{key_of};
+ghost use Rattle.si_arena.specs.Memory.{Memory, value_of, all_of, dict_at, range_of, Lies, AllLie};
 ghost use Rattle.si_arena.specs.Views.{value_in};
 ghost use Rattle.si_ops.specs.Runs.{decided};
 
 use crate::characters::{character_at, length_of};
 use crate::equality::are_equal;
+use crate::held::is_key;
 use crate::ranges::is_among;
 use crate::refusal::Refusal;
 use crate::truth::int_of_truth;
-use si_arena::{Arena, Characters, Ref, Steps, View};
+use si_arena::{Arena, Characters, Contents, Ref, Steps, View};
 
 /// `item in whole`, where it has an answer (Python Language Reference 3.14, 6.10.2). It takes no memory.
 pub fn contains(arena: &Arena, whole: Ref, item: Ref) -> Result<bool, Refusal>
     requires whole { Lies arena.now whole }
     requires item { Lies arena.now item }
-    ensures { (w : World) → operations.contains (value_of arena.now whole) (value_of arena.now item) w ≡ decided result }
+    ensures { (w : World) → w.store ≡ arena.now.store → operations.contains (value_of arena.now whole) (value_of arena.now item) w ≡ decided result }
 {
     match arena.view(&whole) {
         View::Str(text) => is_in_text(text, arena.view(&item)),
         View::Bytes(bytes) => is_in_bytes(bytes, arena.view(&item)),
         View::Range(steps) => Ok(is_item_of(steps, arena.view(&item))),
         View::Tuple(items) => is_any_of(arena, items, item),
+        View::Object(address) => is_in_object(arena, address, item),
         _ => Err(Refusal::WrongType),
     }
 }
@@ -75,20 +78,45 @@ fn is_item_of(steps: &Steps, item: View) -> bool
     }
 }
 
-// Whether a value is equal to one of these, asked from the left.
+// Whether a value is equal to one of these: it is asked whether it is equal to each, from the left.
 fn is_any_of(arena: &Arena, items: &[Ref], item: Ref) -> Result<bool, Refusal>
     requires items { AllLie arena.now items.now }
     requires item { Lies arena.now item }
-    ensures { (w : World) → operations.is_any_of (all_of arena.now items.now) (value_of arena.now item) w ≡ decided result }
+    ensures { (w : World) → w.store ≡ arena.now.store → operations.is_any_of (all_of arena.now items.now) (value_of arena.now item) w ≡ decided result }
 {
     for i in 0..items.len() {
-        match are_equal(arena, items[i], item) {
+        match are_equal(arena, item, items[i]) {
             Ok(false) => {}
             Ok(true) => return Ok(true),
             Err(refusal) => return Err(refusal),
         }
     }
     Ok(false)
+}
+
+// Whether a value is an item of the list, or a key of the dict, at an address.
+fn is_in_object(arena: &Arena, address: usize, item: Ref) -> Result<bool, Refusal>
+    requires address { address < length arena.now.store }
+    requires item { Lies arena.now item }
+    ensures { (w : World) → w.store ≡ arena.now.store → operations.object_contains (slice_get arena.now.store address) (value_of arena.now item) w ≡ decided result }
+{
+    match arena.object(address) {
+        Contents::List(items) => is_any_of(arena, items, item),
+        Contents::Dict(_) => is_key_at(arena, address, item),
+        Contents::Plain(_) => Err(Refusal::WrongType),
+    }
+}
+
+// Whether a value is a key of the dict at an address, where it can be one.
+fn is_key_at(arena: &Arena, address: usize, item: Ref) -> Result<bool, Refusal>
+    requires address { address < length arena.now.store }
+    requires item { Lies arena.now item }
+    ensures { operations.is_key (key_of (value_of arena.now item)) (dict_at arena.now address) ≡ decided result }
+{
+    if !is_key(arena, item) {
+        return Err(Refusal::WrongType);
+    }
+    Ok(arena.find(address, item).is_some())
 }
 
 // Whether a text is a part of another.

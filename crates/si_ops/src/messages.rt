@@ -38,6 +38,7 @@ fn parts_of<'a>(arena: &'a Arena, cause: Cause) -> Parts<'a>
         Cause::TooDeep => fixed("too deep"),
         Cause::NoneActive => fixed("no active exception"),
         Cause::Outside => fixed("index out of range"),
+        Cause::SizeChanged => fixed("dictionary changed size"),
         Cause::NotDefined(name) => Parts {
             front: "name ",
             name: arena.name(name).as_str(),

@@ -1,6 +1,6 @@
 // The built-ins that give a value.
 
-ghost use Rattle.std.specs.Prelude.{◌≡◌, ◌∷◌, [], ◌<◌, pos, unsigned_abs};
+ghost use Rattle.std.specs.Prelude.{◌≡◌, ◌∷◌, [], ◌<◌, length, slice_get, pos, unsigned_abs};
 ghost use Rattle.si_plain.specs.Integers.{in_range};
 ghost use Rattle.si_semantics.specs.Value as pure;
 ghost use Rattle.si_semantics.specs.Operations as operations;
@@ -16,7 +16,7 @@ use crate::numerals::{read_integer, with_sign};
 use crate::operand::integer_in;
 use crate::ranges::items_in;
 use crate::truth::{int_of_truth, is_true};
-use si_arena::{Arena, Cause, Characters, Fault, Ref, View};
+use si_arena::{Arena, Cause, Characters, Contents, Fault, Ref, View};
 use si_plain::{ComparisonOperator, Kind};
 
 /// A call of `len`, with one argument.
@@ -30,7 +30,7 @@ pub fn call_len(arena: &Arena, arguments: &[Ref]) -> Result<Ref, Cause>
     }
 }
 
-// How many characters, bytes or items a value has.
+// How many characters, bytes, items or keys a value has.
 fn length_in(arena: &Arena, value: Ref) -> Result<Ref, Cause>
     requires { Lies arena.now value }
     ensures { Tells (λ w. operations.length_of (value_of arena.now value) w) arena.now result }
@@ -40,7 +40,20 @@ fn length_in(arena: &Arena, value: Ref) -> Result<Ref, Cause>
         View::Bytes(bytes) => Ok(Ref::Int(bytes.len() as i64)),
         View::Range(steps) => integer(with_sign(items_in(steps), false)),
         View::Tuple(items) => Ok(Ref::Int(items.len() as i64)),
+        View::Object(address) => length_at(arena, address),
         _ => Err(Cause::WrongType),
+    }
+}
+
+// How many items or keys the object at an address has: a list, a dict.
+fn length_at(arena: &Arena, address: usize) -> Result<Ref, Cause>
+    requires { address < length arena.now.store }
+    ensures { Tells (λ w. operations.length_of_object (slice_get arena.now.store address) w) arena.now result }
+{
+    match arena.object(address) {
+        Contents::List(items) => Ok(Ref::Int(items.len() as i64)),
+        Contents::Dict(pairs) => integer(with_sign(pairs.len() as u64, false)),
+        Contents::Plain(_) => Err(Cause::WrongType),
     }
 }
 

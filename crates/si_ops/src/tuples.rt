@@ -1,6 +1,6 @@
 // Tuples: operators between them, and the built-in that makes them.
 
-ghost use Rattle.std.specs.Prelude.{◌≡◌, ◌≤◌, ◌<◌, ◌+◌, ◌-◌, ◌*◌, true, length, nat_lt, ◌||◌, OnOk, IfOk, ◌++◌, ◌∷◌, []};
+ghost use Rattle.std.specs.Prelude.{◌≡◌, ◌≤◌, ◌<◌, ◌+◌, ◌-◌, ◌*◌, true, length, nat_lt, ◌||◌, OnOk, IfOk, None, ◌++◌, ◌∷◌, []};
 ghost use Rattle.si_semantics.specs.Value as pure;
 ghost use Rattle.si_semantics.specs.Value.{tuple_of, Int};
 ghost use Rattle.si_semantics.specs.Operations as operations;
@@ -12,8 +12,10 @@ ghost use Rattle.si_arena.specs.Bytes.{bytes_of};
 ghost use Rattle.si_ops.specs.Runs.{Runs};
 ghost use Rattle.si_ops.specs.Operands.{members_of, made_of, NeedsNone, IsTold};
 ghost use Rattle.si_ops.specs.Calls.{NeedsNoTuple};
+ghost use Rattle.si_ops.specs.Items.{world_of};
 
 use crate::characters::length_of;
+use crate::gone_over::{collected, items_count};
 use crate::ranges::{item_of, items_in};
 use si_arena::{Arena, Cause, Fault, Ref, Size, Steps, View};
 use si_plain::limits::{MAX_TUPLE_LEVELS, MAX_TUPLE_VALUES};
@@ -115,8 +117,8 @@ fn is_past(values: u64, levels: u32) -> bool
     values > u64::from(MAX_TUPLE_VALUES) || levels > MAX_TUPLE_LEVELS
 }
 
-// Some values and then others.
-fn gathered(alloc: Global, first: &[Ref], second: &[Ref]) -> Result<Vec<Ref>, NoMemory>
+/// Some values and then others.
+pub fn gathered(alloc: Global, first: &[Ref], second: &[Ref]) -> Result<Vec<Ref>, NoMemory>
     ensures { IfOk result (λ all. all.items ≡ first.now ++ second.now) }
 {
     let mut all = Vec::new(alloc);
@@ -166,8 +168,8 @@ fn is_copied_past(size: Size, count: u64) -> bool
     }
 }
 
-// Values so many times.
-fn copied(alloc: Global, items: &[Ref], count: u64) -> Result<Vec<Ref>, NoMemory>
+/// Values so many times.
+pub fn copied(alloc: Global, items: &[Ref], count: u64) -> Result<Vec<Ref>, NoMemory>
     ensures all { (m : Memory) → IfOk result (λ all. all_of m all.items ≡ copies count (all_of m items.now)) }
     ensures lie { (m : Memory) → AllLie m items.now → IfOk result (λ all. AllLie m all.items) }
 {
@@ -182,7 +184,7 @@ fn copied(alloc: Global, items: &[Ref], count: u64) -> Result<Vec<Ref>, NoMemory
 pub fn call_tuple(arena: &mut Arena, arguments: &[Ref]) -> Result<Ref, Fault>
     requires { AllLie arena.old arguments.now }
     ensures runs { Runs (λ w. operations.call_built_in pure.MakeTuple (all_of arena.old arguments.now) w) arena.old arena.new result }
-    ensures memory { NeedsNoTuple (all_of arena.old arguments.now) → IsTold result }
+    ensures memory { NeedsNoTuple arena.old.store (all_of arena.old arguments.now) → IsTold result }
 {
     match arguments {
         [value] => tuple_from(arena, *value),
@@ -194,7 +196,7 @@ pub fn call_tuple(arena: &mut Arena, arguments: &[Ref]) -> Result<Ref, Fault>
 fn tuple_from(arena: &mut Arena, value: Ref) -> Result<Ref, Fault>
     requires { Lies arena.old value }
     ensures runs { Runs (λ w. operations.tuple_from (value_of arena.old value) w) arena.old arena.new result }
-    ensures memory { NeedsNoTuple (value_of arena.old value ∷ []) → IsTold result }
+    ensures memory { NeedsNoTuple arena.old.store (value_of arena.old value ∷ []) → IsTold result }
 {
     match arena.view(&value) {
         View::Str(text) => {
@@ -207,8 +209,25 @@ fn tuple_from(arena: &mut Arena, value: Ref) -> Result<Ref, Fault>
             place_numbers(arena, &steps)
         }
         View::Tuple(_) => Ok(value),
+        View::Object(_) => place_gone_over(arena, value),
         _ => Err(Fault::Raises(Cause::WrongType)),
     }
+}
+
+// The items of an object, where it can be gone over, as a tuple.
+fn place_gone_over(arena: &mut Arena, object: Ref) -> Result<Ref, Fault>
+    requires { Lies arena.old object }
+    ensures runs { Runs (λ w. operations.tuple_made (operations.items_from (value_of arena.old object) w) w) arena.old arena.new result }
+    ensures memory { operations.items_from (value_of arena.old object) (world_of arena.old) ≡ None → IsTold result }
+{
+    let Some(count) = items_count(arena, object) else {
+        return Err(Fault::Raises(Cause::WrongType));
+    };
+    if count >= u64::from(MAX_TUPLE_VALUES) {
+        return Err(Fault::Raises(Cause::TooLong));
+    }
+    let items = collected(arena, object, count as usize)?;
+    arena.place_tuple(items.as_slice())
 }
 
 // The characters of a str that has so many, as a tuple.
@@ -289,8 +308,8 @@ fn numbers_of(alloc: Global, steps: &Steps) -> Result<Vec<Ref>, NoMemory>
     Ok(all)
 }
 
-// Puts a value after others.
-fn keep(values: &mut Vec<Ref>, value: Ref) -> Result<(), NoMemory>
+/// Puts a value after others.
+pub fn keep(values: &mut Vec<Ref>, value: Ref) -> Result<(), NoMemory>
     ensures { OnOk result (values.new.items ≡ values.old.items ++ value ∷ []) }
 {
     values.push(value)?;

@@ -6,16 +6,25 @@ use Rattle.si_semantics.specs.Value.{Text}
 use Rattle.si_semantics.specs.Tree as tree
 use Rattle.si_semantics.specs.Tree.{Expr, Stmt, Target, Stmts}
 use Rattle.si_semantics.specs.Tokens as token
-use Rattle.si_semantics.specs.Grammar.{Terminal, NAME, Sign, Word, NEWLINE, INDENT, DEDENT, Many, Behind, Spells, max_depth, IsExpression, Simple, stmts_of, Lines, Block, Suite, Branch, Tested, Over, Otherwise, elifs_of, Compound, Nests, IsTarget}
-use Rattle.si_parse.specs.inner.Reading.{then_read, rest_of, name_at, parameters_by, defined_by, define_by, expression_at, LineParser, is_dedent, many_by, indented_by, suite_from, suite_by, branch_by, over_by, expressions_by, with_branch, elif_by, is_none, no_elif, elifs_by, otherwise_from, otherwise_by, joined_if, if_by, joined_while, while_by, target_from, target_by, joined_for, for_by, Header, if_header, while_header, for_header, try_header, def_header, header_at, compound_by, with_compound, block_from, block_at, after}
-use Rattle.si_parse.proofs.Laws.{then_read_some, some_inj, spells_looser, spells_deeper, name_tighter, after_newline_some, after_colon_some, after_indent_some, after_elif_some, after_in_some, header_word, header_at_some, after_open_some, name_at_some, after_else_some}
-use Rattle.si_parse.proofs.Levels.{high, at_condition}
+use Rattle.si_semantics.specs.Grammar.{Terminal, NAME, Sign, Word, NEWLINE, INDENT, DEDENT, Many, Behind, Spells, max_depth, IsExpression, Simple, stmts_of, Lines, Block, Suite, Branch, Tested, Over, Otherwise, elifs_of, Compound, Nests}
+use Rattle.si_parse.specs.inner.Lookahead.{rest_of, Header, if_header, while_header, for_header, try_header, def_header, header_at, after}
+use Rattle.si_parse.specs.inner.Lists.{then_read, many_by, is_none}
+use Rattle.si_parse.specs.inner.Names.{name_at, parameters_by}
+use Rattle.si_parse.specs.inner.Expressions.{expression_at}
+use Rattle.si_parse.specs.inner.Unbracketed.{expressions_by}
+use Rattle.si_parse.specs.inner.Targets.{target_by}
+use Rattle.si_parse.specs.inner.Statements.{LineParser}
+use Rattle.si_parse.specs.inner.Blocks.{defined_by, define_by, is_dedent, indented_by, suite_from, suite_by, branch_by, over_by, with_branch, elif_by, no_elif, elifs_by, otherwise_from, otherwise_by, joined_if, if_by, joined_while, while_by, joined_for, for_by}
+use Rattle.si_parse.specs.inner.Lines.{compound_by, with_compound, block_from, block_at}
+use Rattle.si_parse.proofs.Laws.{then_read_some, some_inj, spells_deeper, after_newline_some, after_colon_some, after_indent_some, after_elif_some, header_word, header_at_some, after_open_some, name_at_some, after_else_some}
+use Rattle.si_parse.proofs.Levels.{at_condition}
 use Rattle.si_parse.proofs.Lists.{chosen, added, many_sound, many_complete}
 use Rattle.si_parse.proofs.Starts.{newline_not, dedent_not, header_not, elif_not, else_not, except_not, finally_not}
 use Rattle.si_parse.proofs.Sound.{expression_sound}
 use Rattle.si_parse.proofs.Names.{parameters_reads, parameters_complete}
 use Rattle.si_parse.proofs.Complete.{expression_complete}
 use Rattle.si_parse.proofs.Unbracketed.{expressions_reads, expressions_complete}
+use Rattle.si_parse.proofs.Targets.{target_reads, target_complete}
 use Rattle.si_parse.proofs.Handlers.{try_reads, try_complete, finally_complete}
 use Rattle.si_parse.proofs.Statements.{with_line, line_reads, line_complete, line_starts, line_terminals}
 
@@ -37,42 +46,6 @@ dedent_only : (ts : List Terminal) → is_dedent ts ≡ true → ts ≡ DEDENT �
 dedent_only [] h = cc
 dedent_only (DEDENT ∷ ts) h = refl
 dedent_only (_ ∷ ts) h = cc
-
--- ---- the target of a `for`
-
-abbrev TargetRead : List Terminal → Target × List Terminal → Type 0
-TargetRead ts x = (f : List Terminal) × (ts ≡ f ++ Word token.InWord ∷ x.1) × IsTarget x.0 f
-
-target_behind : (f ts : List Terminal) (y : Text) (o : Option (List Terminal)) → after (Word token.InWord) ts ≡ o → Spells max_depth 18 (tree.Name y) f → (x : Target × List Terminal) → option_map {U = Target × List Terminal} (λ rest. (tree.Named y, rest)) o ≡ Some x → TargetRead (f ++ ts) x
-target_behind f ts y None is spelled x h = cc
-target_behind f ts y (Some rest) is spelled x h =
-    let P : Target × List Terminal → Type 0 = TargetRead (f ++ ts) in subst P (some_inj (tree.Named y, rest) x h) (f, ap (λ t. f ++ t) (after_in_some ts rest is), spelled)
-
-target_is : (f ts : List Terminal) (e : Expr) → Spells max_depth 16 e f → (x : Target × List Terminal) → target_from e (after (Word token.InWord) ts) ≡ Some x → TargetRead (f ++ ts) x
-target_is f ts (tree.Name y) spelled x h = target_behind f ts y (after (Word token.InWord) ts) refl (name_tighter max_depth 16 18 y f spelled) x h
-target_is f ts (tree.Constant v) spelled x h = cc
-target_is f ts (tree.Unary op e) spelled x h = cc
-target_is f ts (tree.Binary op e g) spelled x h = cc
-target_is f ts (tree.Attribute e y) spelled x h = cc
-target_is f ts (tree.Call e y args names) spelled x h = cc
-target_is f ts (tree.Subscript e i) spelled x h = cc
-target_is f ts (tree.Tuple items) spelled x h = cc
-target_is f ts (tree.Boolean op e others) spelled x h = cc
-target_is f ts (tree.Compare e cs) spelled x h = cc
-target_is f ts (tree.Conditional e g i) spelled x h = cc
-
-target_reads : (ts : List Terminal) (x : Target × List Terminal) → target_by ts ≡ Some x → TargetRead ts x
-target_reads ts x h =
-    let s = then_read_some (expression_at max_depth 16 ts) (λ r. target_from r.0 (after (Word token.InWord) r.2)) x h in
-    let a = expression_sound max_depth 16 (omega arith) (high 16 (omega arith)) ts s.0 s.1 in
-    let P : List Terminal → Type 0 = λ t. TargetRead t x in
-    subst P (sym a.0.split) (target_is a.0.front s.0.2 s.0.0 (spells_deeper s.0.1 max_depth a.1 16 s.0.0 a.0.front a.0.spelled) x s.2)
-
-target_complete : (x : Text) (f more : List Terminal) → IsTarget (tree.Named x) f → target_by (f ++ Word token.InWord ∷ more) ≡ Some (tree.Named x, more)
-target_complete x f more h =
-    let loose = spells_looser max_depth 16 18 (tree.Name x) f (omega arith) h in
-    let c = expression_complete max_depth max_depth 16 (tree.Name x) f (Word token.InWord ∷ more) (omega arith) (omega arith) loose (omega arith) refl in
-    ap (λ o. then_read o (λ r. target_from r.0 (after (Word token.InWord) r.2))) c.3
 
 -- ---- what is read is in the grammar
 
@@ -146,7 +119,7 @@ module _ (L : Lines) (line : LineParser) (sound : LineSound L line) where
 
   over_reads : (ts : List Terminal) (r : Branch × List Terminal) → over_by line ts ≡ Some r → OverRead ts r
   over_reads ts r h =
-      let t = then_read_some (expressions_by (expression_at max_depth) ts) (λ t. then_read (suite_by line t.2) (λ b. Some ((t.0, stmts_of b.0), b.1))) r h in
+      let t = then_read_some (expressions_by (expression_at max_depth) 1 ts) (λ t. then_read (suite_by line t.2) (λ b. Some ((t.0, stmts_of b.0), b.1))) r h in
       let a = expressions_reads ts t.0 t.1 in
       let b = then_read_some (suite_by line t.0.2) (λ b. Some ((t.0.0, stmts_of b.0), b.1)) r t.2 in
       let s = suite_reads t.0.2 b.0 b.1 in
@@ -318,6 +291,8 @@ compound_begun L (tree.Global xs) f more h = absurd h
 compound_begun L (tree.Import m) f more h = absurd h
 compound_begun L (tree.Evaluate e) f more h = absurd h
 compound_begun L (tree.Assign t e) f more h = absurd h
+compound_begun L (tree.AugmentItem a b op e) f more h = absurd h
+compound_begun L (tree.Delete a b) f more h = absurd h
 compound_begun L (tree.Augment t op e) f more h = absurd h
 compound_begun L tree.Pass f more h = absurd h
 compound_begun L tree.Break f more h = absurd h
@@ -383,7 +358,7 @@ module _ (L : Lines) (line : LineParser) (complete : LineComplete L line) (begin
   over_complete b f more h =
       let k = suite_colon b.1 h.1 h.4 in
       let c = expressions_complete b.0 h.0 (Sign token.Colon ∷ (k.0 ++ more)) h.3 (omega arith, refl) refl refl in
-      let P : List Terminal → Type 0 = λ g. expressions_by (expression_at max_depth) (h.0 ++ (g ++ more)) ≡ Some (b.0, c.0, g ++ more) in
+      let P : List Terminal → Type 0 = λ g. expressions_by (expression_at max_depth) 1 (h.0 ++ (g ++ more)) ≡ Some (b.0, c.0, g ++ more) in
       let s = suite_complete b.1 h.1 more h.4 in
       ap (over_by line) (ap (λ t. t ++ more) h.2 ∙ append_assoc h.0 h.1 more)
       ∙ ap (λ o. then_read o (λ t. then_read (suite_by line t.2) (λ b. Some ((t.0, stmts_of b.0), b.1)))) (subst P (sym k.1) c.1)
@@ -453,18 +428,18 @@ module _ (L : Lines) (line : LineParser) (complete : LineComplete L line) (begin
             ∙ ap (λ last. Some (tree.While test body last, more)) (sym o.1),
       )
 
-  for_complete : (x : Text) (over : Expr) (body other : Stmts) (f more : List Terminal) → Compound L (tree.For (tree.Named x) over body other) f → Ends more → (g : List Terminal) × (f ≡ Word token.ForWord ∷ g) × (for_by line (g ++ more) ≡ Some (tree.For (tree.Named x) over body other, more))
-  for_complete x over body other f more h e =
+  for_complete : (t : Target) (over : Expr) (body other : Stmts) (f more : List Terminal) → Compound L (tree.For t over body other) f → Ends more → (g : List Terminal) × (f ≡ Word token.ForWord ∷ g) × (for_by line (g ++ more) ≡ Some (tree.For t over body other, more))
+  for_complete t over body other f more h e =
       let o = otherwise_complete other h.2 more h.6 e in
       let split : (h.0 ++ Word token.InWord ∷ (h.1 ++ h.2)) ++ more ≡ h.0 ++ Word token.InWord ∷ (h.1 ++ (h.2 ++ more)) =
       append_assoc h.0 (Word token.InWord ∷ (h.1 ++ h.2)) more ∙ ap (λ t. h.0 ++ Word token.InWord ∷ t) (append_assoc h.1 h.2 more) in (
         h.0 ++ Word token.InWord ∷ (h.1 ++ h.2),
         h.3,
         ap (for_by line) split
-            ∙ ap (λ o. then_read o (λ x. then_read (over_by line x.1) (λ b. then_read (otherwise_by line b.1) (joined_for x.0 b.0)))) (target_complete x h.0 (h.1 ++ (h.2 ++ more)) h.4)
-            ∙ ap (λ o. then_read o (λ b. then_read (otherwise_by line b.1) (joined_for (tree.Named x) b.0))) (over_complete (over, body) h.1 (h.2 ++ more) h.5)
-            ∙ ap (λ o. then_read o (joined_for (tree.Named x) (over, body))) o.2
-            ∙ ap (λ last. Some (tree.For (tree.Named x) over body last, more)) (sym o.1),
+            ∙ ap (λ o. then_read o (λ x. then_read (over_by line x.1) (λ b. then_read (otherwise_by line b.1) (joined_for x.0 b.0)))) (target_complete t h.0 (h.1 ++ (h.2 ++ more)) h.4)
+            ∙ ap (λ o. then_read o (λ b. then_read (otherwise_by line b.1) (joined_for t b.0))) (over_complete (over, body) h.1 (h.2 ++ more) h.5)
+            ∙ ap (λ o. then_read o (joined_for t (over, body))) o.2
+            ∙ ap (λ last. Some (tree.For t over body last, more)) (sym o.1),
       )
 
   define_complete : (x : Text) (ps : List Text) (body : Stmts) (f more : List Terminal) → Compound L (tree.Define x ps body) f → (g : List Terminal) × (f ≡ Word token.DefWord ∷ g) × (define_by line (g ++ more) ≡ Some (tree.Define x ps body, more))
@@ -494,9 +469,9 @@ module _ (L : Lines) (line : LineParser) (complete : LineComplete L line) (begin
       let c = while_complete test rest other f more h e in
       let P : List Terminal → Type 0 = λ f. Read body (tree.While test rest other ∷ []) f more in
       subst P (sym c.1) (ap (λ o. then_read o (with_compound body)) c.2)
-  compound_read body (tree.For (tree.Named x) over rest other) f more h e =
-      let c = for_complete x over rest other f more h e in
-      let P : List Terminal → Type 0 = λ f. Read body (tree.For (tree.Named x) over rest other ∷ []) f more in
+  compound_read body (tree.For t over rest other) f more h e =
+      let c = for_complete t over rest other f more h e in
+      let P : List Terminal → Type 0 = λ f. Read body (tree.For t over rest other ∷ []) f more in
       subst P (sym c.1) (ap (λ o. then_read o (with_compound body)) c.2)
   compound_read body (tree.Try rest cs other) f more h e =
       let c = try_complete L line suite_complete rest cs other f more h (record { no_except = e.excepts; no_else = e.elses; some = e.some }) e.finals in
@@ -516,6 +491,8 @@ module _ (L : Lines) (line : LineParser) (complete : LineComplete L line) (begin
   compound_read body (tree.Import m) f more h e = absurd h
   compound_read body (tree.Evaluate x) f more h e = absurd h
   compound_read body (tree.Assign t v) f more h e = absurd h
+  compound_read body (tree.AugmentItem a b op v) f more h e = absurd h
+  compound_read body (tree.Delete a b) f more h e = absurd h
   compound_read body (tree.Augment t op v) f more h e = absurd h
   compound_read body tree.Pass f more h e = absurd h
   compound_read body tree.Break f more h e = absurd h

@@ -1,7 +1,9 @@
--- The trees of statements that are built of their parts.
-use Rattle.std.proofs.Common.{◌≡◌, map, Vec, Global, ap, ◌∙◌}
+-- The trees of statements and of targets that are built of their parts.
+use Rattle.std.proofs.Common.{◌≡◌, map, Vec, Global, sym, ap, ◌∙◌}
 use Rattle.si_semantics.specs.Tree as tree
 use Rattle.si_semantics.specs.Grammar.{clauses_of}
+use Rattle.si_semantics.specs.Grammar as grammar
+use Rattle.si_syntax.specs.declared.stmt.Assign.{Assign}
 use Rattle.si_syntax.specs.declared.stmt.Branch.{Branch}
 use Rattle.si_syntax.specs.declared.stmt.Clause.{Clause}
 use Rattle.si_syntax.specs.declared.stmt.Define.{Define}
@@ -9,12 +11,19 @@ use Rattle.si_syntax.specs.declared.stmt.Finally.{Finally}
 use Rattle.si_syntax.specs.declared.stmt.For.{For}
 use Rattle.si_syntax.specs.declared.stmt.If.{If}
 use Rattle.si_syntax.specs.declared.stmt.Stmt.{Stmt}
-use Rattle.si_syntax.specs.declared.stmt.Stmt.TheOpen.{Finally-F, Try-F}
+use Rattle.si_syntax.specs.declared.stmt.Stmt.TheFolds.{fold-roll-Stmt}
+use Rattle.si_syntax.specs.declared.stmt.Stmt.TheOpen.{Finally-F, Stmt-F, Try-F}
 use Rattle.si_syntax.specs.declared.stmt.Stmt.TheVariants as stmts
+use Rattle.si_syntax.specs.declared.stmt.Stmt.TheVariants.{rolls-Assign}
 use Rattle.si_syntax.specs.declared.stmt.Stmt.TheViews.{out-roll-Finally, out-roll-Try, roll-Finally, roll-Try}
 use Rattle.si_syntax.specs.declared.stmt.Try.{Try}
 use Rattle.si_syntax.specs.declared.stmt.While.{While}
-use Rattle.si_syntax.specs.Trees.{body_of, clause_of, stmt_of, tried_of}
+use Rattle.si_syntax.specs.declared.target.Target.{Target}
+use Rattle.si_syntax.specs.declared.target.Target.TheFolds.{fold-roll-Target}
+use Rattle.si_syntax.specs.declared.target.Target.TheOpen.{Target-F}
+use Rattle.si_syntax.specs.declared.target.Target.TheVariants.{rolls-Unpack}
+use Rattle.si_syntax.specs.declared.target.Target.TheViews as targets
+use Rattle.si_syntax.specs.Trees.{body_of, clause_of, expr_of, stmt_of, target_step, target_of, targets_of, Tried, tried_of, stmt_step, branch_step, clause_step, define_step, finally_step, for_step, if_step, try_step, while_step}
 use Rattle.si_syntax.proofs.Forms.{finally_is, try_is}
 
 -- the parts of a `try`, and of one with a finally suite
@@ -39,3 +48,12 @@ ends_with end r = tree.Finally (body_of r.body.items) (clauses_of (map clause_of
 pub finally_built : (r : TryParts) (end : Vec Stmt Global) → stmt_of (stmts.Finally (roll-Finally (record { tried = roll-Try r; end = end }))) ≡ ends_with end r
 finally_built r end =
     finally_is (roll-Finally (record { tried = roll-Try r; end = end })) ∙ ap finally_with (out-roll-Finally (record { tried = roll-Try r; end = end })) ∙ ap (ends_with end) (out-roll-Try r)
+
+pub assign_built : (a : Assign) → stmt_of (stmts.Assign a) ≡ tree.Assign (targets_of a.targets.items) (expr_of a.value)
+assign_built a =
+    ap stmt_of (sym (rolls-Assign a))
+    ∙ fold-roll-Stmt tree.Stmt grammar.Branch grammar.Clause tree.Stmt tree.Stmt tree.Stmt tree.Stmt Tried tree.Stmt stmt_step branch_step clause_step define_step finally_step for_step if_step try_step while_step (Stmt-F.Assign a)
+
+-- targets in a row that are unpacked
+pub unpack_built : (ts : Vec Target Global) → target_of (targets.Unpack ts) ≡ tree.Unpack (targets_of ts.items)
+unpack_built ts = ap target_of (sym (rolls-Unpack ts)) ∙ fold-roll-Target tree.Target target_step (Target-F.Unpack ts)

@@ -3,7 +3,8 @@ use Rattle.std.proofs.Common.{◌≡◌, ℕ, zero, suc, ◌*◌, ◌<◌, ◌�
 use Rattle.std.proofs.lemmas.List.{append-nil}
 use Rattle.si_semantics.specs.Tree.{Expr}
 use Rattle.si_semantics.specs.Grammar.{Terminal, Many}
-use Rattle.si_parse.specs.inner.Reading.{strength_at, begins_literal, then_read, Found, Parsed, chain_from, chain_by}
+use Rattle.si_parse.specs.inner.Lookahead.{strength_at, begins_literal}
+use Rattle.si_parse.specs.inner.Lists.{then_read, Found, Parsed, chain_from, chain_by}
 use Rattle.si_parse.proofs.Laws.{then_read_some, some_inj, Items}
 
 -- an operator stands first, so an item is read

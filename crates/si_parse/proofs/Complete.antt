@@ -1,6 +1,6 @@
 -- What is in the grammar is read.
 use Rattle.std.proofs.Common.{◌≡◌, ℕ, zero, suc, ◌+◌, ◌-◌, ◌<◌, ◌≤◌, List, [], ◌∷◌, ◌++◌, inl, inr, length, Bool, Option, Some, None, true, false, refl, sym, ap, ◌∙◌, subst, max, arith, add-one, append_assoc, length-append}
-use Rattle.std.specs.Prelude.{nat_lt, not, ◌&&◌, if◌then◌else◌}
+use Rattle.std.specs.Prelude.{nat_lt, not, ◌&&◌, if◌then◌else◌, flat_map}
 use Rattle.std.proofs.lemmas.Bool.Decides.{nat_tests}
 use Rattle.std.proofs.lemmas.List.{append-nil}
 use Rattle.si_semantics.specs.Value.{Nothing, Truth, Int, Str, Bytes, Provided, Function, Range, Tuple, Class, Module, Queue, Interpreter, Exec, Address}
@@ -9,15 +9,17 @@ use Rattle.si_semantics.specs.Tree as tree
 use Rattle.si_semantics.specs.Tokens.{Symbol, Keyword}
 use Rattle.si_semantics.specs.Tokens as token
 use Rattle.si_semantics.specs.Text.{max_length}
-use Rattle.si_semantics.specs.Grammar.{Terminal, NAME, NUMBER, STRING, Sign, Word, level_of, left_level, right_level, symbol_of, prefix_level, prefix_of, boolean_level, item_level, word_of, comparison_of, is_identity, Many, Behind, Separated, Ended, Argument, Positional, ByName, Passes, IsPassed, exprs_of, items_of, Link, links_of, chain_of, Compares, Strings, Spells, BYTES, Octets}
-use Rattle.si_parse.specs.inner.Reading.{short, named_at, argument_from, argument_by, call_of, called, comparison, boolean, continuation_at, strength_of, strength_at, then_read, after_boolean, with_word, comparison_at, identity_from, Found, Parsed, Parser, arguments_from, arguments_by, within, call_by, indexed, subscript_by, is_singleton, compared_to, compared_by, other_by, conditional_by, extended_by, continued_by, items_from, tupled, grouped, bracketed_from, strings_by, bracketed_by, operand_from, operand_by, expression_at, after, begins_literal, octets_by}
+use Rattle.si_semantics.specs.Grammar.{Terminal, NAME, NUMBER, STRING, Sign, Word, level_of, left_level, right_level, symbol_of, prefix_level, prefix_of, boolean_level, item_level, word_of, comparison_of, is_identity, Many, Behind, Separated, Ended, Argument, Positional, ByName, Passes, IsPassed, exprs_of, items_of, Link, links_of, chain_of, Compares, PairsOf, Strings, Spells, BYTES, Octets}
+use Rattle.si_parse.specs.inner.Lookahead.{comparison, boolean, continuation_at, strength_of, strength_at, after_boolean, after, begins_literal}
+use Rattle.si_parse.specs.inner.Lists.{then_read, Found, Parsed, alone}
+use Rattle.si_parse.specs.inner.Expressions.{short, named_at, argument_from, argument_by, call_of, called, with_word, comparison_at, identity_from, Parser, arguments_from, arguments_by, within, call_by, indexed, subscript_by, is_singleton, compared_to, compared_by, other_by, conditional_by, extended_by, continued_by, items_from, tupled, grouped, bracketed_from, strings_by, bracketed_by, operand_from, operand_by, expression_at, octets_by, listed, list_by, Pair, both, paired, value_of_key, pair_by, pairs_from, in_dict, dict_by}
 use Rattle.si_parse.proofs.Laws.{some_inj, named_at_some, exprs_of_items, chain_of_links}
 use Rattle.si_parse.proofs.Levels.{right_weaker, right_bound, level_under, role_of_symbol, prefix_gap, prefix_bound, prefix_begins, conditional_gap, boolean_strength, item_bound, role_of_word, after_word, role_of_comparison, boolean_none, comparison_none}
 use Rattle.si_parse.proofs.Lists.{le_to}
-use Rattle.si_parse.proofs.Enclosed.{enclosed_complete}
+use Rattle.si_parse.proofs.Enclosed.{alone_are, enclosed_complete}
 use Rattle.si_parse.proofs.Passed.{passed_complete}
 use Rattle.si_parse.proofs.Chains.{many_long, chain_complete}
-use Rattle.si_parse.proofs.Starts.{expression_begins, some_terminals, close_not, singleton}
+use Rattle.si_parse.proofs.Starts.{expression_begins, some_terminals, close_not, bracket_not, brace_not, singleton}
 use Rattle.si_parse.proofs.Steps.{continued_by_step}
 
 lt_to : (a b : ℕ) → a < b → nat_lt a b ≡ true
@@ -164,14 +166,17 @@ module _ (n : ℕ) (sub : Parser) (complete : IsComplete n sub) where
         let long : length ts ≡ length g + length (Sign token.RightParenthesis ∷ rest) = length-append g (Sign token.RightParenthesis ∷ rest) in
         let split : ts ≡ h.0 ++ (h.1 ++ Sign token.RightParenthesis ∷ rest) = ap (λ t. t ++ Sign token.RightParenthesis ∷ rest) h.2 ∙ append_assoc h.0 h.1 (Sign token.RightParenthesis ∷ rest) in
         let open_yet : (after (Sign token.RightParenthesis)) ts ≡ None = ap (after (Sign token.RightParenthesis)) split ∙ argument_open x h.0 (h.1 ++ Sign token.RightParenthesis ∷ rest) h.3 in
-        let c = enclosed_complete (argument_by sub) (Passes (Spells m)) m Follows argument_read argument_open (λ ts. (omega arith, refl, refl)) (λ ts. (omega arith, refl, refl))
+        let c = enclosed_complete alone (argument_by sub) token.RightParenthesis (Passes (Spells m)) m Follows argument_read argument_open (λ ts. refl) (λ ts. refl) (λ ts. (omega arith, refl, refl)) (λ ts. (omega arith, refl, refl))
         (length ts) [] 0 (x ∷ xs) g rest (omega arith) (omega arith) (omega arith) h in
-        (c.0, c.1, ap (arguments_from sub ts) open_yet ∙ c.2)
+        (c.0, c.1, ap (arguments_from sub ts) open_yet ∙ c.2 ∙ ap (λ l. Some ((l, c.0), rest)) (alone_are (x ∷ xs)))
 
     -- ---- tuples
 
     abbrev Stops : List Terminal → Type 0
     Stops more = (strength_at more < 1) × (begins_literal more ≡ false)
+
+    bracket_open : (e : Expr) (f more : List Terminal) → Spells m 1 e f → after (Sign token.RightBracket) (f ++ more) ≡ None
+    bracket_open e f more h = bracket_not (f ++ more) (expression_begins m 1 e f h more)
 
     item_read : (e : Expr) (f more : List Terminal) → Spells m 1 e f → Stops more → (d : ℕ) × (d ≤ m) × (sub 1 (f ++ more) ≡ Some (e, d, more))
     item_read e f more h ends = let c = complete m 1 e f more le (omega arith) h ends.0 ends.1 in (c.0, c.1, c.3)
@@ -199,9 +204,64 @@ module _ (n : ℕ) (sub : Parser) (complete : IsComplete n sub) where
         let open_yet : after (Sign token.RightParenthesis) ts ≡ None
         = ap (after (Sign token.RightParenthesis)) (append_assoc h.4.0 h.4.1 (Sign token.RightParenthesis ∷ rest)) ∙ not_closed m 1 y h.4.0 h.4.3 (h.4.1 ++ Sign token.RightParenthesis ∷ rest) in
         let c = first_read x h.0 (Sign token.Comma ∷ ts) h.3 (omega arith, refl) in
-        let s = enclosed_complete (sub 1) (Spells m 1) m Stops item_read (λ e f more h. not_closed m 1 e f h more) (λ ts. (omega arith, refl)) (λ ts. (omega arith, refl))
-        (length ts) (x ∷ []) c.0 (y ∷ xs) g rest (omega arith) (omega arith) c.1 (h.4.0, h.4.1, refl, h.4.3, h.4.4) in
-        (s.0, s.1, ap (bracketed_by sub) split ∙ c.2 ∙ ap (λ o. then_read (items_from sub (x ∷ [], c.0) ts o) tupled) open_yet ∙ ap (λ o. then_read o tupled) s.2)
+        let s = enclosed_complete alone (sub 1) token.RightParenthesis (Spells m 1) m Stops item_read (λ e f more h. not_closed m 1 e f h more) (λ ts. refl) (λ ts. refl) (λ ts. (omega arith, refl)) (λ ts. (omega arith, refl))
+        (length ts) (x ∷ []) c.0 (y ∷ xs) g rest (omega arith) (omega arith) c.1 (h.4.0, h.4.1, refl, h.4.3, h.4.4) in (
+          s.0,
+          s.1,
+          ap (bracketed_by sub) split
+              ∙ c.2
+              ∙ ap (λ o. then_read (items_from sub token.RightParenthesis (x ∷ [], c.0) ts o) tupled) open_yet
+              ∙ ap (λ o. then_read o tupled) s.2
+              ∙ ap (λ l. Some (tree.Tuple (exprs_of (x ∷ l)), s.0 + 1, rest)) (alone_are (y ∷ xs)),
+        )
+
+    -- ---- lists and dicts
+
+    list_complete : (xs : List Expr) (f rest : List Terminal) → Separated (Spells m 1) token.Comma xs f
+        → (d : ℕ) × (d ≤ m) × (list_by sub (f ++ Sign token.RightBracket ∷ rest) ≡ Some (tree.ListDisplay (exprs_of xs), d + 1, rest))
+    list_complete [] f rest h = (0, omega arith, ap (λ t. list_by sub (t ++ Sign token.RightBracket ∷ rest)) h)
+    list_complete (x ∷ xs) f rest h =
+        let ts = f ++ Sign token.RightBracket ∷ rest in
+        let long : length ts ≡ length f + length (Sign token.RightBracket ∷ rest) = length-append f (Sign token.RightBracket ∷ rest) in
+        let split : ts ≡ h.0 ++ (h.1 ++ Sign token.RightBracket ∷ rest) = ap (λ t. t ++ Sign token.RightBracket ∷ rest) h.2 ∙ append_assoc h.0 h.1 (Sign token.RightBracket ∷ rest) in
+        let open_yet : after (Sign token.RightBracket) ts ≡ None = ap (after (Sign token.RightBracket)) split ∙ bracket_open x h.0 (h.1 ++ Sign token.RightBracket ∷ rest) h.3 in
+        let s = enclosed_complete alone (sub 1) token.RightBracket (Spells m 1) m Stops item_read bracket_open (λ ts. refl) (λ ts. refl) (λ ts. (omega arith, refl)) (λ ts. (omega arith, refl))
+        (length ts) [] 0 (x ∷ xs) f rest (omega arith) (omega arith) (omega arith) h in (
+          s.0,
+          s.1,
+          ap (λ o. then_read (items_from sub token.RightBracket ([], 0) ts o) listed) open_yet
+              ∙ ap (λ o. then_read o listed) s.2
+              ∙ ap (λ l. Some (tree.ListDisplay (exprs_of l), s.0 + 1, rest)) (alone_are (x ∷ xs)),
+        )
+
+    pair_read : (p : Pair) (f more : List Terminal) → PairsOf (Spells m) p f → Stops more → (d : ℕ) × (d ≤ m) × (pair_by sub (f ++ more) ≡ Some (p, d, more))
+    pair_read p f more h ends =
+        let behind = Sign token.Colon ∷ (h.1 ++ more) in
+        let split : f ++ more ≡ h.0 ++ behind = ap (λ t. t ++ more) h.2 ∙ append_assoc h.0 (Sign token.Colon ∷ h.1) more in
+        let k = complete m 1 p.0 h.0 behind le (omega arith) h.3 (omega arith) refl in
+        let v = complete m 1 p.1 h.1 more le (omega arith) h.4 ends.0 ends.1 in (
+          max k.0 v.0,
+          omega (arith, k.1, v.1),
+          ap (pair_by sub) split
+              ∙ ap (λ o. then_read o (λ k. then_read (after (Sign token.Colon) k.2) (value_of_key sub k))) k.3
+              ∙ ap (λ o. then_read o (paired (p.0, k.0, behind))) v.3,
+        )
+
+    pair_open : (p : Pair) (f more : List Terminal) → PairsOf (Spells m) p f → after (Sign token.RightBrace) (f ++ more) ≡ None
+    pair_open p f more h =
+        ap (after (Sign token.RightBrace)) (ap (λ t. t ++ more) h.2 ∙ append_assoc h.0 (Sign token.Colon ∷ h.1) more) ∙ brace_not (h.0 ++ Sign token.Colon ∷ (h.1 ++ more)) (expression_begins m 1 p.0 h.0 h.3 (Sign token.Colon ∷ (h.1 ++ more)))
+
+    dict_complete : (ps : List Pair) (f rest : List Terminal) → Separated (PairsOf (Spells m)) token.Comma ps f
+        → (d : ℕ) × (d ≤ m) × (dict_by sub (f ++ Sign token.RightBrace ∷ rest) ≡ Some (tree.DictDisplay (exprs_of (flat_map both ps)), d + 1, rest))
+    dict_complete [] f rest h = (0, omega arith, ap (λ t. dict_by sub (t ++ Sign token.RightBrace ∷ rest)) h)
+    dict_complete (p ∷ ps) f rest h =
+        let ts = f ++ Sign token.RightBrace ∷ rest in
+        let long : length ts ≡ length f + length (Sign token.RightBrace ∷ rest) = length-append f (Sign token.RightBrace ∷ rest) in
+        let split : ts ≡ h.0 ++ (h.1 ++ Sign token.RightBrace ∷ rest) = ap (λ t. t ++ Sign token.RightBrace ∷ rest) h.2 ∙ append_assoc h.0 h.1 (Sign token.RightBrace ∷ rest) in
+        let open_yet : after (Sign token.RightBrace) ts ≡ None = ap (after (Sign token.RightBrace)) split ∙ pair_open p h.0 (h.1 ++ Sign token.RightBrace ∷ rest) h.3 in
+        let s = enclosed_complete both (pair_by sub) token.RightBrace (PairsOf (Spells m)) m Stops pair_read pair_open (λ ts. refl) (λ ts. refl) (λ ts. (omega arith, refl)) (λ ts. (omega arith, refl))
+        (length ts) [] 0 (p ∷ ps) f rest (omega arith) (omega arith) (omega arith) h in
+        (s.0, s.1, ap (λ o. then_read (pairs_from sub ts o) in_dict) open_yet ∙ ap (λ o. then_read o in_dict) s.2)
 
   -- ---- operands of chains
 
@@ -422,6 +482,21 @@ module _ (n : ℕ) (sub : Parser) (complete : IsComplete n sub) where
         starts (suc m) (tree.Tuple items) (Sign token.LeftParenthesis ∷ (f ++ Sign token.RightParenthesis ∷ [])) rest (inner.0 + 1) (omega arith) (omega (arith, inner.1))
         (ap (bracketed_by sub) same ∙ inner.2 ∙ ap (λ t. Some (tree.Tuple t, inner.0 + 1, rest)) (exprs_of_items items))
 
+    list_reached : (m : ℕ) → m ≤ n → (items : Exprs) (f rest : List Terminal) → Separated (Spells m 1) token.Comma (items_of items) f → Reaches (suc m) (tree.ListDisplay items) (Sign token.LeftBracket ∷ (f ++ Sign token.RightBracket ∷ [])) rest
+    list_reached m le items f rest h =
+        let inner = list_complete m le (items_of items) f rest h in
+        let same : (f ++ Sign token.RightBracket ∷ []) ++ rest ≡ f ++ Sign token.RightBracket ∷ rest = append_assoc f (Sign token.RightBracket ∷ []) rest in
+        starts (suc m) (tree.ListDisplay items) (Sign token.LeftBracket ∷ (f ++ Sign token.RightBracket ∷ [])) rest (inner.0 + 1) (omega arith) (omega (arith, inner.1))
+        (ap (list_by sub) same ∙ inner.2 ∙ ap (λ t. Some (tree.ListDisplay t, inner.0 + 1, rest)) (exprs_of_items items))
+
+    dict_reached : (m : ℕ) → m ≤ n → (items : Exprs) (ps : List Pair) (f rest : List Terminal) → items_of items ≡ flat_map both ps → Separated (PairsOf (Spells m)) token.Comma ps f
+        → Reaches (suc m) (tree.DictDisplay items) (Sign token.LeftBrace ∷ (f ++ Sign token.RightBrace ∷ [])) rest
+    dict_reached m le items ps f rest is h =
+        let inner = dict_complete m le ps f rest h in
+        let same : (f ++ Sign token.RightBrace ∷ []) ++ rest ≡ f ++ Sign token.RightBrace ∷ rest = append_assoc f (Sign token.RightBrace ∷ []) rest in
+        starts (suc m) (tree.DictDisplay items) (Sign token.LeftBrace ∷ (f ++ Sign token.RightBrace ∷ [])) rest (inner.0 + 1) (omega arith) (omega (arith, inner.1))
+        (ap (dict_by sub) same ∙ inner.2 ∙ ap (λ t. Some (tree.DictDisplay t, inner.0 + 1, rest)) (ap exprs_of (sym is) ∙ exprs_of_items items))
+
     compare_reached : (m : ℕ) → m ≤ n → Hypothesis m → (level : ℕ) (a : Expr) (cs : tree.Comparisons) (f g rest : List Terminal) → level ≤ 8 → Spells m 10 a f → 0 < length (links_of cs) → Many (Compares (Spells m)) (links_of cs) g
         → strength_at rest ≤ level → begins_literal rest ≡ false → l ≤ level → Reaches (suc m) (tree.Compare a cs) (f ++ g) rest
     compare_reached m le ih level a cs f g rest under ha some hs weak plain at =
@@ -524,6 +599,10 @@ module _ (n : ℕ) (sub : Parser) (complete : IsComplete n sub) where
         (subscript_reached m (omega arith) (reached m (omega arith)) a b h.0 h.1 rest h.4 h.5)
     reached (suc m) le level (tree.Tuple items) front rest (inl h) weak plain at =
         moved (suc m) (tree.Tuple items) (Sign token.LeftParenthesis ∷ (h.0 ++ Sign token.RightParenthesis ∷ [])) front rest h.1 (tuple_reached m (omega arith) items h.0 rest h.2)
+    reached (suc m) le level (tree.ListDisplay items) front rest (inl h) weak plain at =
+        moved (suc m) (tree.ListDisplay items) (Sign token.LeftBracket ∷ (h.0 ++ Sign token.RightBracket ∷ [])) front rest h.1 (list_reached m (omega arith) items h.0 rest h.2)
+    reached (suc m) le level (tree.DictDisplay items) front rest (inl h) weak plain at =
+        moved (suc m) (tree.DictDisplay items) (Sign token.LeftBrace ∷ (h.1 ++ Sign token.RightBrace ∷ [])) front rest h.2 (dict_reached m (omega arith) items h.0 h.1 rest h.3 h.4)
     reached (suc m) le level (tree.Compare a cs) front rest (inl h) weak plain at =
         moved (suc m) (tree.Compare a cs) (h.0 ++ h.1) front rest h.2 (compare_reached m (omega arith) (reached m (omega arith)) level a cs h.0 h.1 rest h.3 h.4 h.5 h.6 weak plain at)
     reached (suc m) le level (tree.Boolean op a others) front rest (inl h) weak plain at =

@@ -7,7 +7,13 @@ use Rattle.si_semantics.specs.Tree as tree
 use Rattle.si_semantics.specs.Tree.{Expr, Stmt, Stmts, Clauses}
 use Rattle.si_semantics.specs.Tokens as token
 use Rattle.si_semantics.specs.Grammar.{Terminal, NAME, Sign, Word, Many, Behind, max_depth, IsExpression, stmts_of, Lines, Suite, Otherwise, Clause, clauses_of, clause_list, Excepts, bare_is_last, Handlers, Compound}
-use Rattle.si_parse.specs.inner.Reading.{then_read, is_none, after_catch, no_catch, name_at, expression_at, LineParser, suite_by, otherwise_from, otherwise_by, Catch, caught_from, caught_by, clause_by, with_clause, catch_by, catches_by, bare_from, bare_by, clauses_by, Handled, handled_from, handlers_by, tried, finally_from, try_by, after}
+use Rattle.si_parse.specs.inner.Lookahead.{after}
+use Rattle.si_parse.specs.inner.Lists.{then_read, is_none}
+use Rattle.si_parse.specs.inner.Names.{name_at}
+use Rattle.si_parse.specs.inner.Expressions.{expression_at}
+use Rattle.si_parse.specs.inner.Statements.{LineParser}
+use Rattle.si_parse.specs.inner.Blocks.{suite_by, otherwise_from, otherwise_by}
+use Rattle.si_parse.specs.inner.Handlers.{after_catch, no_catch, Catch, caught_from, caught_by, clause_by, with_clause, catch_by, catches_by, bare_from, bare_by, clauses_by, Handled, handled_from, handlers_by, tried, finally_from, try_by}
 use Rattle.si_parse.proofs.Laws.{then_read_some, some_inj, Items, spells_deeper, name_at_some, after_as_some, after_except_some, after_finally_some}
 use Rattle.si_parse.proofs.Levels.{at_condition}
 use Rattle.si_parse.proofs.Lists.{added, many_sound, many_complete}

@@ -6,8 +6,11 @@ use Rattle.si_semantics.specs.Tree.{UnaryOperator, ComparisonOperator, BooleanOp
 use Rattle.si_semantics.specs.Tree as tree
 use Rattle.si_semantics.specs.Tokens.{Symbol, Keyword}
 use Rattle.si_semantics.specs.Tokens as token
-use Rattle.si_semantics.specs.Grammar.{Terminal, NAME, Sign, Word, NEWLINE, INDENT, Language, prefix_level, prefix_of, item_level, word_of, comparison_of, Many, Behind, Following, Separated, Ended, Argument, Positional, ByName, Passes, items_of, exprs_of, Link, links_of, chain_of, Compares, Produces, Spells}
-use Rattle.si_parse.specs.inner.Reading.{then_read, rest_of, named_at, name_at, Header, if_header, while_header, for_header, try_header, def_header, header_at, after_boolean, with_word, prefix_at, comparison_symbol, identity_from, comparison_at, after}
+use Rattle.si_semantics.specs.Grammar.{Terminal, NAME, Sign, Word, NEWLINE, INDENT, Language, prefix_level, prefix_of, item_level, word_of, comparison_of, Many, Behind, Following, Separated, Ended, Argument, Positional, ByName, Passes, items_of, exprs_of, Link, links_of, chain_of, Compares, PairsOf, Produces, Spells}
+use Rattle.si_parse.specs.inner.Lookahead.{rest_of, Header, if_header, while_header, for_header, try_header, def_header, header_at, after_boolean, after}
+use Rattle.si_parse.specs.inner.Lists.{then_read}
+use Rattle.si_parse.specs.inner.Names.{name_at}
+use Rattle.si_parse.specs.inner.Expressions.{named_at, with_word, prefix_at, comparison_symbol, identity_from, comparison_at}
 
 -- ---- lists of items
 
@@ -48,6 +51,9 @@ passes_mono E F w (ByName x e) ts h = (h.0, h.1, w 1 e h.0 h.2)
 pub behind_mono : (E F : Language) (t : Terminal) (l : ℕ) → Within E F → (e : Expr) (ts : List Terminal) → Behind t (E l) e ts → Behind t (F l) e ts
 behind_mono E F t l w e ts h = (h.0, h.1, w l e h.0 h.2)
 
+pairs_mono : (E F : Language) → Within E F → (p : Expr × Expr) (ts : List Terminal) → PairsOf E p ts → PairsOf F p ts
+pairs_mono E F w p ts h = (h.0, h.1, h.2, w 1 p.0 h.0 h.3, w 1 p.1 h.1 h.4)
+
 produces_mono : (E F : Language) → Within E F → (l : ℕ) (e : Expr) (ts : List Terminal) → Produces E l e ts → Produces F l e ts
 produces_mono E F w l (tree.Name x) ts h = h
 produces_mono E F w l (tree.Constant (Int n)) ts h = h
@@ -71,6 +77,8 @@ produces_mono E F w l (tree.Attribute a x) ts h = (h.0, h.1, h.2, w _ a h.0 h.3)
 produces_mono E F w l (tree.Call a x args names) ts h = (h.0, h.1, h.2, h.3, h.4, h.5, w _ h.2 h.0 h.6, h.7, h.8, separated_mono (Passes E) (Passes F) token.Comma (passes_mono E F w) h.3 h.1 h.9)
 produces_mono E F w l (tree.Subscript a b) ts h = (h.0, h.1, h.2, h.3, w _ a h.0 h.4, w _ b h.1 h.5)
 produces_mono E F w l (tree.Tuple items) ts h = (h.0, h.1, ended_mono (E 1) (F 1) token.Comma (w 1) (items_of items) h.0 h.2)
+produces_mono E F w l (tree.ListDisplay items) ts h = (h.0, h.1, separated_mono (E 1) (F 1) token.Comma (w 1) (items_of items) h.0 h.2)
+produces_mono E F w l (tree.DictDisplay items) ts h = (h.0, h.1, h.2, h.3, separated_mono (PairsOf E) (PairsOf F) token.Comma (pairs_mono E F w) h.0 h.1 h.4)
 produces_mono E F w l (tree.Compare a cs) ts h = (h.0, h.1, h.2, h.3, w 10 a h.0 h.4, h.5, many_mono (Compares E) (Compares F) (compares_mono E F w) (links_of cs) h.1 h.6)
 produces_mono E F w l (tree.Boolean op a others) ts h = (
   h.0,
@@ -106,6 +114,8 @@ produces_looser E k l (tree.Attribute a x) ts le h = (h.0, h.1, omega (arith, h.
 produces_looser E k l (tree.Call a x args names) ts le h = (h.0, h.1, h.2, h.3, h.4, omega (arith, h.5), h.6, h.7, h.8, h.9)
 produces_looser E k l (tree.Subscript a b) ts le h = (h.0, h.1, h.2, omega (arith, h.3), h.4, h.5)
 produces_looser E k l (tree.Tuple items) ts le h = h
+produces_looser E k l (tree.ListDisplay items) ts le h = h
+produces_looser E k l (tree.DictDisplay items) ts le h = h
 produces_looser E k l (tree.Compare a cs) ts le h = (h.0, h.1, h.2, omega (arith, h.3), h.4, h.5, h.6)
 produces_looser E k l (tree.Boolean op a others) ts le h = (h.0, h.1, h.2, omega (arith, h.3), h.4, h.5, h.6)
 produces_looser E k l (tree.Conditional test value other) ts le h = (h.0, h.1, h.2, h.3, omega (arith, h.4), h.5, h.6, h.7)
@@ -120,12 +130,6 @@ spells_deeper zero n le l e ts h = absurd h
 spells_deeper (suc m) zero le l e ts h = absurd (omega arith)
 spells_deeper (suc m) (suc n) le l e ts (inl h) = inl (produces_mono (Spells m) (Spells n) (spells_deeper m n (omega arith)) l e ts h)
 spells_deeper (suc m) (suc n) le l e ts (inr h) = inr (h.0, h.1, spells_deeper m n (omega arith) 1 e h.0 h.2)
-
--- a name is of every level
-pub name_tighter : (n k l : ℕ) (x : List ℕ) (ts : List Terminal) → Spells n k (tree.Name x) ts → Spells n l (tree.Name x) ts
-name_tighter zero k l x ts h = absurd h
-name_tighter (suc n) k l x ts (inl h) = inl h
-name_tighter (suc n) k l x ts (inr h) = inr h
 
 -- one production over parts of at most depth d
 pub node : (d l : ℕ) (e : Expr) (ts : List Terminal) → Produces (Spells d) l e ts → Spells (d + 1) l e ts
@@ -248,6 +252,11 @@ after_raise_some [] rest h = cc
 after_raise_some (Word token.RaiseWord ∷ ts) rest h = let e : ts ≡ rest = cc in ap (λ l. Word token.RaiseWord ∷ l) e
 after_raise_some (_ ∷ ts) rest h = cc
 
+pub after_del_some : (ts rest : List Terminal) → after (Word token.DelWord) ts ≡ Some rest → ts ≡ Word token.DelWord ∷ rest
+after_del_some [] rest h = cc
+after_del_some (Word token.DelWord ∷ ts) rest h = let e : ts ≡ rest = cc in ap (λ l. Word token.DelWord ∷ l) e
+after_del_some (_ ∷ ts) rest h = cc
+
 pub after_not_some : (ts rest : List Terminal) → after (Word token.NotWord) ts ≡ Some rest → ts ≡ Word token.NotWord ∷ rest
 after_not_some [] rest h = cc
 after_not_some (Word token.NotWord ∷ ts) rest h = let e : ts ≡ rest = cc in ap (λ l. Word token.NotWord ∷ l) e
@@ -257,6 +266,11 @@ pub after_bracket_some : (ts rest : List Terminal) → after (Sign token.RightBr
 after_bracket_some [] rest h = cc
 after_bracket_some (Sign token.RightBracket ∷ ts) rest h = let e : ts ≡ rest = cc in ap (λ l. Sign token.RightBracket ∷ l) e
 after_bracket_some (_ ∷ ts) rest h = cc
+
+pub after_brace_some : (ts rest : List Terminal) → after (Sign token.RightBrace) ts ≡ Some rest → ts ≡ Sign token.RightBrace ∷ rest
+after_brace_some [] rest h = cc
+after_brace_some (Sign token.RightBrace ∷ ts) rest h = let e : ts ≡ rest = cc in ap (λ l. Sign token.RightBrace ∷ l) e
+after_brace_some (_ ∷ ts) rest h = cc
 
 pub after_else_some : (ts rest : List Terminal) → after (Word token.ElseWord) ts ≡ Some rest → ts ≡ Word token.ElseWord ∷ rest
 after_else_some [] rest h = cc

@@ -5,7 +5,8 @@ use Rattle.si_semantics.specs.Tree as tree
 use Rattle.si_semantics.specs.Tokens.{Symbol}
 use Rattle.si_semantics.specs.Tokens as token
 use Rattle.si_semantics.specs.Grammar.{Terminal, Sign, Word, level_of, left_level, right_level, symbol_of, prefix_level, prefix_of, boolean_level, item_level, word_of, comparison_of}
-use Rattle.si_parse.specs.inner.Reading.{Continuation, operator, attribute, arguments, index, comparison, boolean, condition, nothing, role_of, continuation_at, strength_of, strength_at, after_boolean, comparison_at, prefix_at, after}
+use Rattle.si_parse.specs.inner.Lookahead.{Continuation, operator, attribute, arguments, index, comparison, boolean, condition, nothing, role_of, continuation_at, strength_of, strength_at, after_boolean, after}
+use Rattle.si_parse.specs.inner.Expressions.{comparison_at, prefix_at}
 
 -- ---- operators between two operands
 

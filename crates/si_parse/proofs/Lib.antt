@@ -18,6 +18,8 @@ pub mod Starts
 pub mod Sound
 pub mod Complete
 pub mod Unbracketed
+pub mod Targets
+pub mod Assigned
 pub mod Statements
 pub mod Handlers
 pub mod Blocks

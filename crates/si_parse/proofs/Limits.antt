@@ -3,12 +3,14 @@ use Rattle.std.proofs.Common.{◌≡◌, ℕ, zero, suc, ◌+◌, ◌≤◌, Lis
 use Rattle.std.specs.Prelude.{flat_map, if◌then◌else◌}
 use Rattle.si_semantics.specs.Value.{Text, Nothing, Truth, Int, Str, Bytes, Provided, Function, Range, Tuple, Class, Module, Queue, Interpreter, Exec, Address}
 use Rattle.si_semantics.specs.Tree as tree
-use Rattle.si_semantics.specs.Tree.{BooleanOperator, Expr, Exprs, Comparisons, Stmt, Stmts, Clauses, callee_of}
+use Rattle.si_semantics.specs.Tree.{BooleanOperator, Expr, Exprs, Comparisons, Target, Targets, Stmt, Stmts, Clauses, callee_of}
 use Rattle.si_semantics.specs.Tokens as token
 use Rattle.si_semantics.specs.Text.{max_length}
-use Rattle.si_semantics.specs.Grammar.{Terminal, Word, left_level, right_level, prefix_level, item_level, word_of, Many, Behind, Following, Separated, Ended, Argument, Positional, ByName, Passes, IsPassed, items_of, exprs_of, links_of, Compares, Spells, max_depth, max_item_depth, IsExpressions, max_parameters, Small, Simple, stmts_of, Lines, Suite, Branch, Tested, Otherwise, elifs_of, clause_list, Excepts, Handlers, Compound, Nests, max_nesting, Derives}
-use Rattle.si_semantics.specs.Limits.{depth_called, depth_of, depth_of_all, depth_of_chain, longest_literal, longest_literal_of_all, longest_literal_of_chain, greatest_of, greatest_in, greatest_in_clauses, most_parameters_of, most_parameters_in, most_parameters_in_clauses, is_elif, nesting_of, nesting_in, nesting_in_clauses, IsWithinLimits}
-use Rattle.si_parse.proofs.Laws.{exprs_of_items, items_of_exprs}
+use Rattle.si_semantics.specs.Grammar.{Terminal, Word, left_level, right_level, prefix_level, item_level, word_of, Many, Behind, Following, Separated, Ended, Argument, Positional, ByName, Passes, IsPassed, items_of, exprs_of, links_of, Compares, PairsOf, Spells, unpack_of, target_of, targets_of, IsTarget, IsForTarget, Targeted, max_depth, max_item_depth, IsExpressions, max_parameters, Small, Simple, stmts_of, Lines, Suite, Branch, Tested, Otherwise, elifs_of, clause_list, Excepts, Handlers, Compound, Nests, max_nesting, Derives}
+use Rattle.si_semantics.specs.Limits.{depth_called, depth_of, depth_of_all, depth_of_chain, longest_literal, longest_literal_of_all, longest_literal_of_chain, greatest_of_target, greatest_of_targets, greatest_of, greatest_in, greatest_in_clauses, most_parameters_of, most_parameters_in, most_parameters_in_clauses, is_elif, nesting_of, nesting_in, nesting_in_clauses, IsWithinLimits}
+use Rattle.si_parse.proofs.Laws.{some_inj, exprs_of_items, items_of_exprs}
+use Rattle.si_parse.proofs.Unbracketed.{AreExpressions}
+use Rattle.si_parse.proofs.Targets.{more_split, unpack_split}
 
 -- ---- expressions
 
@@ -65,15 +67,35 @@ arguments_bounded n b arguments args names g p h =
     let values : map value_of arguments ≡ items_of args = ap (map value_of) p.in_order ∙ ordered_values p.positional p.named ∙ sym p.values_are in
     subst (AreLow n) (ap exprs_of values ∙ exprs_of_items args) (separated_bounded n b arguments g h)
 
--- the items of a tuple after its first
-others_bounded : (n : ℕ) → Bounded n → (es : Exprs) (g : List Terminal) → Following (Spells n 1) token.Comma (items_of es) g → AreLow n es
-others_bounded n b tree.NoExprs g h = none_low n
-others_bounded n b (tree.MoreExprs e es) g h = more_low n e es (b 1 e h.0 h.3) (others_bounded n b es h.1 h.4)
+-- the items of a tuple or a list after its first
+others_bounded : (n l : ℕ) → Bounded n → (es : Exprs) (g : List Terminal) → Following (Spells n l) token.Comma (items_of es) g → AreLow n es
+others_bounded n l b tree.NoExprs g h = none_low n
+others_bounded n l b (tree.MoreExprs e es) g h = more_low n e es (b l e h.0 h.3) (others_bounded n l b es h.1 h.4)
 
-items_bounded : (n : ℕ) → Bounded n → (es : Exprs) (g : List Terminal) → Ended (Spells n 1) token.Comma (items_of es) g → AreLow n es
-items_bounded n b tree.NoExprs g h = none_low n
-items_bounded n b (tree.MoreExprs e tree.NoExprs) g h = more_low n e tree.NoExprs (b 1 e h.0 h.2) (none_low n)
-items_bounded n b (tree.MoreExprs e (tree.MoreExprs x es)) g h = more_low n e (tree.MoreExprs x es) (b 1 e h.0 h.3) (others_bounded n b (tree.MoreExprs x es) h.1 h.4)
+items_bounded : (n l : ℕ) → Bounded n → (es : Exprs) (g : List Terminal) → Ended (Spells n l) token.Comma (items_of es) g → AreLow n es
+items_bounded n l b tree.NoExprs g h = none_low n
+items_bounded n l b (tree.MoreExprs e tree.NoExprs) g h = more_low n e tree.NoExprs (b l e h.0 h.2) (none_low n)
+items_bounded n l b (tree.MoreExprs e (tree.MoreExprs x es)) g h = more_low n e (tree.MoreExprs x es) (b l e h.0 h.3) (others_bounded n l b (tree.MoreExprs x es) h.1 h.4)
+
+-- the items of a list
+listed_bounded : (n : ℕ) → Bounded n → (es : Exprs) (g : List Terminal) → Separated (Spells n 1) token.Comma (items_of es) g → AreLow n es
+listed_bounded n b tree.NoExprs g h = none_low n
+listed_bounded n b (tree.MoreExprs e es) g h = more_low n e es (b 1 e h.0 h.3) (others_bounded n 1 b es h.1 h.4)
+
+-- the keys and values of a dict
+abbrev both_of : List (Expr × Expr) → Exprs
+both_of ps = exprs_of (flat_map (λ p. p.0 ∷ p.1 ∷ []) ps)
+
+pair_low : (n : ℕ) → Bounded n → (p : Expr × Expr) (f : List Terminal) (es : Exprs) → PairsOf (Spells n) p f → AreLow n es → AreLow n (tree.MoreExprs p.0 (tree.MoreExprs p.1 es))
+pair_low n b p f es h low = more_low n p.0 (tree.MoreExprs p.1 es) (b 1 p.0 h.0 h.3) (more_low n p.1 es (b 1 p.1 h.1 h.4) low)
+
+others_paired : (n : ℕ) → Bounded n → (ps : List (Expr × Expr)) (g : List Terminal) → Following (PairsOf (Spells n)) token.Comma ps g → AreLow n (both_of ps)
+others_paired n b [] g h = none_low n
+others_paired n b (p ∷ ps) g h = pair_low n b p h.0 (both_of ps) h.3 (others_paired n b ps h.1 h.4)
+
+paired_bounded : (n : ℕ) → Bounded n → (ps : List (Expr × Expr)) (g : List Terminal) → Separated (PairsOf (Spells n)) token.Comma ps g → AreLow n (both_of ps)
+paired_bounded n b [] g h = none_low n
+paired_bounded n b (p ∷ ps) g h = pair_low n b p h.0 (both_of ps) h.3 (others_paired n b ps h.1 h.4)
 
 chain_bounded : (n : ℕ) → Bounded n → (cs : Comparisons) (g : List Terminal) → Many (Compares (Spells n)) (links_of cs) g → ChainIsLow n cs
 chain_bounded n b tree.NoComparisons g h = record { depth = omega arith; literals = omega arith }
@@ -98,6 +120,8 @@ callee_depth (tree.Binary op a b) = refl
 callee_depth (tree.Call a x args names) = refl
 callee_depth (tree.Subscript a b) = refl
 callee_depth (tree.Tuple items) = refl
+callee_depth (tree.ListDisplay items) = refl
+callee_depth (tree.DictDisplay items) = refl
 callee_depth (tree.Boolean op a others) = refl
 callee_depth (tree.Compare a cs) = refl
 callee_depth (tree.Conditional test value other) = refl
@@ -111,6 +135,8 @@ callee_literals (tree.Binary op a b) = refl
 callee_literals (tree.Call a x args names) = refl
 callee_literals (tree.Subscript a b) = refl
 callee_literals (tree.Tuple items) = refl
+callee_literals (tree.ListDisplay items) = refl
+callee_literals (tree.DictDisplay items) = refl
 callee_literals (tree.Boolean op a others) = refl
 callee_literals (tree.Compare a cs) = refl
 callee_literals (tree.Conditional test value other) = refl
@@ -150,7 +176,10 @@ bounded (suc n) l (tree.Call a x args names) f (inl h) =
 bounded (suc n) l (tree.Subscript a b) f (inl h) =
     let x = bounded n 18 a h.0 h.4 in
     let y = bounded n 1 b h.1 h.5 in record { depth = omega (arith, x.depth, y.depth); literals = omega (arith, x.literals, y.literals) }
-bounded (suc n) l (tree.Tuple items) f (inl h) = let x = items_bounded n (bounded n) items h.0 h.2 in record { depth = omega (arith, x.depth); literals = x.literals }
+bounded (suc n) l (tree.Tuple items) f (inl h) = let x = items_bounded n 1 (bounded n) items h.0 h.2 in record { depth = omega (arith, x.depth); literals = x.literals }
+bounded (suc n) l (tree.ListDisplay items) f (inl h) = let x = listed_bounded n (bounded n) items h.0 h.2 in record { depth = omega (arith, x.depth); literals = x.literals }
+bounded (suc n) l (tree.DictDisplay items) f (inl h) =
+    let x = subst (AreLow n) (ap exprs_of (sym h.3) ∙ exprs_of_items items) (paired_bounded n (bounded n) h.0 h.1 h.4) in record { depth = omega (arith, x.depth); literals = x.literals }
 bounded (suc n) l (tree.Compare a cs) f (inl h) =
     let x = bounded n 10 a h.0 h.4 in
     let y = chain_bounded n (bounded n) cs h.1 h.6 in record { depth = omega (arith, x.depth, y.depth); literals = omega (arith, x.literals, y.literals) }
@@ -164,13 +193,75 @@ bounded (suc n) l (tree.Conditional test value other) f (inl h) =
     record { depth = omega (arith, x.depth, y.depth, z.depth); literals = omega (arith, x.literals, y.literals, z.literals) }
 
 -- a tuple round which no brackets stand is as low as one with brackets
-expressions_bounded : (e : Expr) (f : List Terminal) → IsExpressions e f → IsLow max_depth e
-expressions_bounded e f (inl h) = bounded max_depth 1 e f h
-expressions_bounded e f (inr h) =
-    let P : List Expr → Type 0 = λ items. Ended (Spells max_item_depth 1) token.Comma items f in
-    let x = items_bounded max_item_depth (bounded max_item_depth) (exprs_of h.0) f (subst P (sym (items_of_exprs h.0)) h.3) in
+spelled_low : (l : ℕ) (e : Expr) (f : List Terminal) → AreExpressions l e f → IsLow max_depth e
+spelled_low l e f (inl h) = bounded max_depth l e f h
+spelled_low l e f (inr h) =
+    let P : List Expr → Type 0 = λ items. Ended (Spells max_item_depth l) token.Comma items f in
+    let x = items_bounded max_item_depth l (bounded max_item_depth) (exprs_of h.0) f (subst P (sym (items_of_exprs h.0)) h.3) in
     let low : IsLow max_depth (tree.Tuple (exprs_of h.0)) = record { depth = omega (arith, x.depth); literals = x.literals } in
     subst (IsLow max_depth) (sym h.1) low
+
+expressions_bounded : (e : Expr) (f : List Terminal) → IsExpressions e f → IsLow max_depth e
+expressions_bounded = spelled_low 1
+
+-- ---- targets
+
+-- the expressions of a target are no deeper than this, and their literals are within the limit
+record TargetIsLow (n : ℕ) (t : Target) : Type 0 where
+  depth : greatest_of_target depth_of t ≤ n
+  literals : greatest_of_target longest_literal t ≤ max_length
+
+record TargetsAreLow (n : ℕ) (ts : Targets) : Type 0 where
+  depth : greatest_of_targets depth_of ts ≤ n
+  literals : greatest_of_targets longest_literal ts ≤ max_length
+
+more_targets_low : (n : ℕ) (t : Target) (ts : Targets) → TargetIsLow n t → TargetsAreLow n ts → TargetsAreLow n (tree.MoreTargets t ts)
+more_targets_low n t ts h k = record { depth = omega (arith, h.depth, k.depth); literals = omega (arith, h.literals, k.literals) }
+
+-- the targets that items are, where these are as low as a whole tree of them
+unpacked_low : (n : ℕ) (items : Exprs) (t : Target) → ((ts : Targets) → targets_of items ≡ Some ts → TargetsAreLow n ts) → unpack_of (targets_of items) ≡ Some t → TargetIsLow n t
+unpacked_low n items t low is =
+    let u = unpack_split (targets_of items) t is in
+    let x = low (tree.MoreTargets u.0 u.1) u.2 in
+    subst (TargetIsLow n) u.3 (record { depth = x.depth; literals = x.literals })
+
+mutual
+  target_low : (n : ℕ) (e : Expr) (t : Target) → target_of e ≡ Some t → IsLow n e → TargetIsLow n t
+  target_low n (tree.Name x) t is low = subst (TargetIsLow n) (some_inj (tree.Named x) t is) (record { depth = omega arith; literals = omega arith })
+  target_low n (tree.Subscript a b) t is low = subst (TargetIsLow n) (some_inj (tree.Item a b) t is) (record { depth = omega (arith, low.depth); literals = omega (arith, low.literals) })
+  target_low n (tree.Tuple items) t is low = unpacked_low n items t (λ ts same. targets_low n items ts same (record { depth = omega (arith, low.depth); literals = low.literals })) is
+  target_low n (tree.ListDisplay items) t is low = unpacked_low n items t (λ ts same. targets_low n items ts same (record { depth = omega (arith, low.depth); literals = low.literals })) is
+  target_low n (tree.DictDisplay items) t is low = cc
+  target_low n (tree.Constant v) t is low = cc
+  target_low n (tree.Unary op a) t is low = cc
+  target_low n (tree.Binary op a b) t is low = cc
+  target_low n (tree.Attribute a x) t is low = cc
+  target_low n (tree.Call a x args names) t is low = cc
+  target_low n (tree.Boolean op a others) t is low = cc
+  target_low n (tree.Compare a cs) t is low = cc
+  target_low n (tree.Conditional test value other) t is low = cc
+
+  targets_low : (n : ℕ) (es : Exprs) (ts : Targets) → targets_of es ≡ Some ts → AreLow n es → TargetsAreLow n ts
+  targets_low n tree.NoExprs ts is low = subst (TargetsAreLow n) (some_inj tree.NoTargets ts is) (record { depth = omega arith; literals = omega arith })
+  targets_low n (tree.MoreExprs e es) ts is low =
+      let m = more_split (target_of e) (targets_of es) ts is in
+      let first = target_low n e m.0 m.2 (record { depth = omega (arith, low.depth); literals = omega (arith, low.literals) }) in
+      let others = targets_low n es m.1 m.3 (record { depth = omega (arith, low.depth); literals = omega (arith, low.literals) }) in
+      subst (TargetsAreLow n) m.4 (more_targets_low n m.0 m.1 first others)
+
+-- those of an assignment, each in front of its `=`
+is_target_low : (t : Target) (f : List Terminal) → IsTarget t f → TargetIsLow max_depth t
+is_target_low t f h = target_low max_depth h.0 t h.1 (expressions_bounded h.0 f h.2)
+
+targeted_low : (ts : Targets) (f : List Terminal) → Targeted ts f → TargetsAreLow max_depth ts
+targeted_low tree.NoTargets f h = absurd h
+targeted_low (tree.MoreTargets t tree.NoTargets) f h = more_targets_low max_depth t tree.NoTargets (is_target_low t h.0 h.2) (record { depth = omega arith; literals = omega arith })
+targeted_low (tree.MoreTargets t (tree.MoreTargets u us)) f h =
+    more_targets_low max_depth t (tree.MoreTargets u us) (is_target_low t h.3.0 h.3.2) (targeted_low (tree.MoreTargets u us) h.1 h.4)
+
+-- that of a `for`
+for_target_low : (t : Target) (f : List Terminal) → IsForTarget t f → TargetIsLow max_depth t
+for_target_low t f h = target_low max_depth h.0 t h.1 (spelled_low 18 h.0 f h.2)
 
 -- ---- statements
 
@@ -250,8 +341,16 @@ of_none n s d t p k = record { depth = omega (arith, d); literals = omega (arith
 
 small_keeps : (n : ℕ) (s : Stmt) (f : List Terminal) → Small s f → Keeps n s
 small_keeps n (tree.Evaluate e) f h = of_expression n (tree.Evaluate e) e refl refl refl refl (expressions_bounded e f h)
-small_keeps n (tree.Assign t e) f h = of_expression n (tree.Assign t e) e refl refl refl refl (expressions_bounded e h.1 h.4)
-small_keeps n (tree.Augment t op e) f h = of_expression n (tree.Augment t op e) e refl refl refl refl (expressions_bounded e h.1 h.4)
+small_keeps n (tree.Assign ts e) f h =
+    let t = targeted_low ts h.0 h.3 in
+    let v = expressions_bounded e h.1 h.4 in record { depth = omega (arith, t.depth, v.depth); literals = omega (arith, t.literals, v.literals); parameters = omega arith; nesting = omega arith }
+small_keeps n (tree.Augment x op e) f h = of_expression n (tree.Augment x op e) e refl refl refl refl (expressions_bounded e h.1 h.4)
+small_keeps n (tree.AugmentItem a b op e) f h =
+    let t = is_target_low (tree.Item a b) h.0 h.3 in
+    let v = expressions_bounded e h.1 h.4 in record { depth = omega (arith, t.depth, v.depth); literals = omega (arith, t.literals, v.literals); parameters = omega arith; nesting = omega arith }
+small_keeps n (tree.Delete a b) f h =
+    let t = target_low max_depth (tree.Subscript a b) (tree.Item a b) refl (bounded max_depth 18 (tree.Subscript a b) h.0 h.2) in
+    record { depth = omega (arith, t.depth); literals = omega (arith, t.literals); parameters = omega arith; nesting = omega arith }
 small_keeps n tree.Pass f h = of_none n tree.Pass refl refl refl refl
 small_keeps n tree.Break f h = of_none n tree.Break refl refl refl refl
 small_keeps n tree.Continue f h = of_none n tree.Continue refl refl refl refl
@@ -297,6 +396,14 @@ looped_keeps n s e body other m p k t b o = record {
   literals = omega (arith, m longest_literal, t.literals, b.literals, o.literals);
   parameters = omega (arith, p, b.parameters, o.parameters);
   nesting = omega (arith, k, b.nesting, o.nesting);
+}
+
+for_keeps : (n : ℕ) (t : Target) (over : Expr) (body other : Stmts) → TargetIsLow max_depth t → IsLow max_depth over → AllKeep n body → AllKeep n other → Keeps (suc n) (tree.For t over body other)
+for_keeps n t over body other g v b o = record {
+  depth = omega (arith, g.depth, v.depth, b.depth, o.depth);
+  literals = omega (arith, g.literals, v.literals, b.literals, o.literals);
+  parameters = omega (arith, b.parameters, o.parameters);
+  nesting = omega (arith, b.nesting, o.nesting);
 }
 
 clause_keeps : (n : ℕ) (e : Expr) (y : Option Text) (b : Stmts) (cs : Clauses) → IsLow max_depth e → AllKeep n b → ClausesKeep n cs → ClausesKeep n (tree.MoreClauses (Some e) y b cs)
@@ -398,8 +505,7 @@ module _ (n : ℕ) (L : Lines) (kept : Kept n L) where
       looped_keeps n (tree.While test body other) test body other (λ m. refl) refl (omega arith)
       (bounded max_depth 1 test h.3.0 h.3.3) (suite_keeps body h.3.1 h.3.4) (last_keeps other h.1 h.4)
   compound_keeps (tree.For t over body other) f h =
-      looped_keeps n (tree.For t over body other) over body other (λ m. refl) refl (omega arith)
-      (expressions_bounded over h.5.0 h.5.3) (suite_keeps body h.5.1 h.5.4) (last_keeps other h.2 h.6)
+      for_keeps n t over body other (for_target_low t h.0 h.4) (expressions_bounded over h.5.0 h.5.3) (suite_keeps body h.5.1 h.5.4) (last_keeps other h.2 h.6)
   compound_keeps (tree.Try body cs other) f h =
       let t = handlers_keep cs other h.1 h.5 in try_keeps n body cs other (suite_keeps body h.0 h.3) t.0 t.1
   compound_keeps (tree.Finally body cs other last) f h =
@@ -413,6 +519,8 @@ module _ (n : ℕ) (L : Lines) (kept : Kept n L) where
   compound_keeps (tree.Evaluate e) f h = absurd h
   compound_keeps (tree.Assign t e) f h = absurd h
   compound_keeps (tree.Augment t op e) f h = absurd h
+  compound_keeps (tree.AugmentItem a b op e) f h = absurd h
+  compound_keeps (tree.Delete a b) f h = absurd h
   compound_keeps tree.Pass f h = absurd h
   compound_keeps tree.Break f h = absurd h
   compound_keeps tree.Continue f h = absurd h

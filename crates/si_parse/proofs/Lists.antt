@@ -4,7 +4,8 @@ use Rattle.std.specs.Prelude.{nat_le, if◌then◌else◌}
 use Rattle.std.proofs.lemmas.Bool.Decides.{nat_tests}
 use Rattle.si_semantics.specs.Tokens.{Symbol}
 use Rattle.si_semantics.specs.Grammar.{Terminal, Sign, Many, Following, Separated}
-use Rattle.si_parse.specs.inner.Reading.{Step, then_read, closing_from, closing, behind_item, separated_by, many_by}
+use Rattle.si_parse.specs.inner.Lookahead.{Step}
+use Rattle.si_parse.specs.inner.Lists.{then_read, closing_from, closing, behind_item, separated_by, many_by}
 use Rattle.si_parse.proofs.Laws.{then_read_some, some_inj, Items}
 
 -- which way a test went

@@ -4,7 +4,8 @@ use Rattle.si_semantics.specs.Grammar.{Terminal, terminal, value_of_bytes}
 use Rattle.si_token.specs.declared.token.TokenKind.{TokenKind}
 use Rattle.si_token.specs.declared.token.TokenKind.TheVariants as kind
 use Rattle.si_token.specs.Views.{kind_of}
-use Rattle.si_parse.specs.inner.Reading.{octets_by, then_read}
+use Rattle.si_parse.specs.inner.Lists.{then_read}
+use Rattle.si_parse.specs.inner.Expressions.{octets_by}
 
 other : (text : List ℕ) (k : TokenKind) (bytes : List ℕ) (rest : List Terminal) → (k ≡ kind.Bytes → ⊥) → octets_by text (terminal (kind_of k) bytes ∷ rest) ≡ Some (text, terminal (kind_of k) bytes ∷ rest)
 other text kind.Bytes bytes rest differs = absurd (differs refl)

@@ -3,7 +3,8 @@ use Rattle.std.proofs.Common.{◌≡◌, ◌<◌, List, [], ◌∷◌, ◌++◌,
 use Rattle.std.specs.Prelude.{option_map}
 use Rattle.si_semantics.specs.Tree.{Stmt, Stmts}
 use Rattle.si_semantics.specs.Grammar.{Terminal, ENDMARKER, Many, stmts_of, Nests, max_nesting, Derives}
-use Rattle.si_parse.specs.inner.Reading.{block_at, many_by, is_end, module_by}
+use Rattle.si_parse.specs.inner.Lists.{many_by}
+use Rattle.si_parse.specs.inner.Lines.{block_at, is_end, module_by}
 use Rattle.si_parse.proofs.Laws.{some_inj}
 use Rattle.si_parse.proofs.Lists.{many_sound, many_complete}
 use Rattle.si_parse.proofs.Statements.{with_line}

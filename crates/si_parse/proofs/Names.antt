@@ -6,7 +6,9 @@ use Rattle.std.proofs.lemmas.Option.{cond_some}
 use Rattle.si_semantics.specs.Value.{Text}
 use Rattle.si_semantics.specs.Tokens as token
 use Rattle.si_semantics.specs.Grammar.{Terminal, NAME, Sign, Behind, Following, Separated, IsName, Names, max_parameters}
-use Rattle.si_parse.specs.inner.Reading.{then_read, name_at, and_name, next_name_by, no_comma, names_by, many_by, with_parameter, listed_from, listed_by, few, parameters_by, after}
+use Rattle.si_parse.specs.inner.Lookahead.{after}
+use Rattle.si_parse.specs.inner.Lists.{then_read, many_by}
+use Rattle.si_parse.specs.inner.Names.{name_at, and_name, next_name_by, no_comma, names_by, with_parameter, listed_from, listed_by, few, parameters_by}
 use Rattle.si_parse.proofs.Laws.{then_read_some, some_inj, after_close_some, after_comma_some, name_at_some}
 use Rattle.si_parse.proofs.Lists.{le_from, le_to, added, Pairwise, separated_sound, separated_complete, many_sound, many_complete}
 

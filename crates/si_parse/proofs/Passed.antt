@@ -13,7 +13,8 @@ use Rattle.si_semantics.specs.Tree.{Expr}
 use Rattle.si_semantics.specs.Scope.{is_in, are_distinct}
 use Rattle.si_semantics.specs.Grammar.{Argument, Positional, ByName, IsPassed}
 use Rattle.si_semantics.proofs.Names.{same_is, same_self}
-use Rattle.si_parse.specs.inner.Reading.{then_read, Passed, no_names, with_passed, passed_from}
+use Rattle.si_parse.specs.inner.Lists.{then_read}
+use Rattle.si_parse.specs.inner.Expressions.{Passed, no_names, with_passed, passed_from}
 use Rattle.si_parse.specs.declared.argument.Argument.{Argument as Rust}
 use Rattle.si_parse.specs.inner.Gives.{argument_of}
 use Rattle.si_parse.proofs.Laws.{then_read_some, some_inj}

@@ -16,7 +16,7 @@ use Rattle.si_parse.specs.declared.fault.ParseFault.TheVariants.{Syntax, NoMemor
 use Rattle.si_syntax.specs.declared.modules.Module.{Module}
 use Rattle.si_syntax.specs.Modules.{tree_of}
 use Rattle.si_parse.specs.Modules.{IsRead, max_bytes}
-use Rattle.si_parse.specs.inner.Reading.{module_by}
+use Rattle.si_parse.specs.inner.Lines.{module_by}
 use Rattle.si_parse.specs.inner.Gives.{Fails, IsSyntax, fault_of, from}
 use Rattle.si_parse.proofs.Modules.{none_derived}
 

@@ -1,6 +1,6 @@
 -- What is read is in the grammar.
 use Rattle.std.proofs.Common.{◌≡◌, ℕ, zero, suc, ◌+◌, ◌<◌, ◌≤◌, List, [], ◌∷◌, ◌++◌, length, Option, Some, None, Bool, true, false, refl, sym, ap, ◌∙◌, subst, ⊎_elim, max, arith, add-one, append_assoc}
-use Rattle.std.specs.Prelude.{nat_lt, nat_le, nat_eq, ◌&&◌, not}
+use Rattle.std.specs.Prelude.{nat_lt, nat_le, nat_eq, ◌&&◌, not, flat_map}
 use Rattle.std.proofs.lemmas.Bool.Decides.{nat_tests}
 use Rattle.std.proofs.lemmas.Option.{cond_some}
 use Rattle.std.proofs.lemmas.List.{append-nil}
@@ -10,12 +10,15 @@ use Rattle.si_semantics.specs.Tree as tree
 use Rattle.si_semantics.specs.Tokens.{Symbol, Keyword}
 use Rattle.si_semantics.specs.Tokens as token
 use Rattle.si_semantics.specs.Text.{max_length}
-use Rattle.si_semantics.specs.Grammar.{Terminal, NAME, NUMBER, STRING, Sign, Word, value_of_int, value_of_str, level_of, left_level, right_level, symbol_of, prefix_level, prefix_of, boolean_level, item_level, word_of, comparison_of, is_identity, Many, Behind, Separated, Ended, Argument, Positional, ByName, Passes, IsPassed, exprs_of, items_of, links_of, chain_of, Compares, Strings, Spells, BYTES, value_of_bytes, Octets}
-use Rattle.si_parse.specs.inner.Reading.{short, str_by, Argued, named_at, argument_from, argument_by, passed_from, name_at, attributed, attribute_by, call_of, called, boolean, continuation_at, strength_of, strength_at, then_read, rest_of, after_boolean, with_word, comparison_at, Found, Parser, arguments_from, arguments_by, within, binary_by, call_by, indexed, subscript_by, operands_by, boolean_by, is_singleton, compared_to, compared_by, links_by, compare_by, other_by, conditional_by, extended_by, identity_from, continued_by, items_from, items_by, tupled, closed, grouped, bracketed_from, strings_by, prefix_at, unary_by, bracketed_by, atom_by, operand_from, operand_by, expression_at, after, octets_by, bytes_by}
-use Rattle.si_parse.proofs.Laws.{Items, named_at_some, passes_mono, spells_looser, spells_deeper, node, bracketed, then_read_some, some_inj, name_at_some, after_close_some, after_bracket_some, after_comma_some, after_else_some, with_word_some, with_word_none, prefix_at_some, comparison_at_some, links_of_chain, items_of_exprs, separated_mono, many_mono, compares_mono, behind_mono}
+use Rattle.si_semantics.specs.Grammar.{Terminal, NAME, NUMBER, STRING, Sign, Word, value_of_int, value_of_str, level_of, left_level, right_level, symbol_of, prefix_level, prefix_of, boolean_level, item_level, word_of, comparison_of, is_identity, Many, Behind, Separated, Ended, Argument, Positional, ByName, Passes, IsPassed, exprs_of, items_of, links_of, chain_of, Compares, PairsOf, Strings, Spells, BYTES, value_of_bytes, Octets}
+use Rattle.si_parse.specs.inner.Lookahead.{boolean, continuation_at, strength_of, strength_at, rest_of, after_boolean, after}
+use Rattle.si_parse.specs.inner.Lists.{then_read, Found, Measured, alone}
+use Rattle.si_parse.specs.inner.Names.{name_at}
+use Rattle.si_parse.specs.inner.Expressions.{short, str_by, Argued, named_at, argument_from, argument_by, passed_from, attributed, attribute_by, call_of, called, with_word, comparison_at, Parser, arguments_from, arguments_by, within, binary_by, call_by, indexed, subscript_by, operands_by, boolean_by, is_singleton, compared_to, compared_by, links_by, compare_by, other_by, conditional_by, extended_by, identity_from, continued_by, items_from, items_by, tupled, closed, grouped, bracketed_from, strings_by, prefix_at, unary_by, bracketed_by, atom_by, operand_from, operand_by, expression_at, octets_by, bytes_by, listed, list_by, Pair, both, paired, value_of_key, pair_by, pairs_from, pairs_by, in_dict, dict_by}
+use Rattle.si_parse.proofs.Laws.{Items, named_at_some, passes_mono, spells_looser, spells_deeper, node, bracketed, then_read_some, some_inj, name_at_some, after_close_some, after_bracket_some, after_comma_some, after_colon_some, after_brace_some, after_else_some, with_word_some, with_word_none, prefix_at_some, comparison_at_some, links_of_chain, items_of_exprs, separated_mono, many_mono, compares_mono, behind_mono}
 use Rattle.si_parse.proofs.Levels.{strength_at_most, right_stops, right_bound, level_reached, Apart, high, at_condition, at_disjunction, at_comparison, right_apart, level_apart, prefix_apart, prefix_bound, boolean_apart, item_apart, item_bound, condition_up, condition_down, comparison_up, comparison_down, boolean_up, boolean_down, boolean_strength, after_word, boolean_ends, comparison_ends}
 use Rattle.si_parse.proofs.Lists.{le_from, chosen}
-use Rattle.si_parse.proofs.Enclosed.{enclosed_sound}
+use Rattle.si_parse.proofs.Enclosed.{alone_are, enclosed_sound}
 use Rattle.si_parse.proofs.Passed.{passed_sound}
 use Rattle.si_parse.proofs.Chains.{some_items, chain_sound}
 
@@ -131,14 +134,39 @@ module _ (n : ℕ) (sub : Parser) (sound : IsSound n sub) where
       let P : (List Argument × ℕ) × List Terminal → Type 0 = ArgumentsRead ts in
       subst P (some_inj (([], 0), rest) r h) ([], after_close_some ts rest is, omega arith, refl)
   arguments_read ts None is r h =
-      let s = enclosed_sound (argument_by sub) (λ d. Passes (Spells d)) n deeper argument_sound (length ts) [] 0 ts r (omega arith) h in
+      let s = enclosed_sound alone (argument_by sub) token.RightParenthesis (λ d. Passes (Spells d)) n deeper argument_sound after_close_some (length ts) [] 0 ts r (omega arith) h in
       let P : List Argument → Type 0 = λ xs. Separated (Passes (Spells r.0.1)) token.Comma xs s.1 in
-      (s.1, s.6, s.5, subst P (sym s.2) s.7)
+      (s.1, s.6, s.5, subst P (sym (s.2 ∙ alone_are s.0)) s.7)
 
   -- ---- items of tuples
 
   item_sound : (ts : List Terminal) (r : Found) → sub 1 ts ≡ Some r → (f : List Terminal) × (ts ≡ f ++ r.2) × (Spells r.1 1 r.0 f × (r.1 ≤ n))
   item_sound ts r h = let a = sound 1 (omega arith) at_condition ts r h in (a.0.front, a.0.split, (a.0.spelled, a.1))
+
+  -- ---- pairs of dicts
+
+  pair_deeper : (c d : ℕ) → c ≤ d → (p : Pair) (f : List Terminal) → PairsOf (Spells c) p f → PairsOf (Spells d) p f
+  pair_deeper c d le p f h = (h.0, h.1, h.2, spells_deeper c d le 1 p.0 h.0 h.3, spells_deeper c d le 1 p.1 h.1 h.4)
+
+  abbrev PairRead : List Terminal → Measured Pair → Type 0
+  PairRead ts r = (f : List Terminal) × (ts ≡ f ++ r.2) × (PairsOf (Spells r.1) r.0 f × (r.1 ≤ n))
+
+  pair_sound : (ts : List Terminal) (r : Measured Pair) → pair_by sub ts ≡ Some r → PairRead ts r
+  pair_sound ts r h =
+      let k = then_read_some (sub 1 ts) (λ k. then_read (after (Sign token.Colon) k.2) (value_of_key sub k)) r h in
+      let a = sound 1 (omega arith) at_condition ts k.0 k.1 in
+      let u = then_read_some (after (Sign token.Colon) k.0.2) (value_of_key sub k.0) r k.2 in
+      let v = then_read_some (sub 1 u.0) (paired k.0) r u.2 in
+      let b = sound 1 (omega arith) at_condition u.0 v.0 v.1 in
+      let top = max k.0.1 v.0.1 in
+      let P : Measured Pair → Type 0 = PairRead ts in
+      let key = spells_deeper k.0.1 top (omega arith) 1 k.0.0 a.0.front a.0.spelled in
+      let value = spells_deeper v.0.1 top (omega arith) 1 v.0.0 b.0.front b.0.spelled in
+      subst P (some_inj ((k.0.0, v.0.0), top, v.0.2) r v.2) (
+        a.0.front ++ Sign token.Colon ∷ b.0.front,
+        a.0.split ∙ ap (λ t. a.0.front ++ t) (after_colon_some k.0.2 u.0 u.1 ∙ ap (λ t. Sign token.Colon ∷ t) b.0.split) ∙ sym (append_assoc a.0.front (Sign token.Colon ∷ b.0.front) v.0.2),
+        ((a.0.front, b.0.front, refl, key, value), omega (arith, a.1, b.1)),
+      )
 
   -- one item with others behind it
   ended_by : {A : Type 0} (I : Items A) (x : A) (xs : List A) (f g : List Terminal) → I x f → 0 < length xs → Separated I token.Comma xs g → Ended I token.Comma (x ∷ xs) (f ++ Sign token.Comma ∷ g)
@@ -154,13 +182,13 @@ module _ (n : ℕ) (sub : Parser) (sound : IsSound n sub) where
     atom : (f ts : List Terminal) (e : Expr) → Spells (0 + 1) 18 e f → Begins (f ++ ts) (e, 1, ts)
     atom f ts e h = (record { front = f; split = refl; level = 18; spelled = h; continues = strength_at_most ts; enough = omega arith; apart = high 18 (omega arith) }, omega arith)
 
-    -- the tree of the terminals in round brackets
-    enclosed : (f rest ts : List Terminal) (e : Expr) (d : ℕ) → ts ≡ f ++ Sign token.RightParenthesis ∷ rest → Spells (d + 1) 18 e (Sign token.LeftParenthesis ∷ (f ++ Sign token.RightParenthesis ∷ [])) → d ≤ n
-        → Begins (Sign token.LeftParenthesis ∷ ts) (e, d + 1, rest)
-    enclosed f rest ts e d split spelled le = (
+    -- the tree of the terminals in brackets
+    enclosed : (opening ending : Symbol) (f rest ts : List Terminal) (e : Expr) (d : ℕ) → ts ≡ f ++ Sign ending ∷ rest → Spells (d + 1) 18 e (Sign opening ∷ (f ++ Sign ending ∷ [])) → d ≤ n
+        → Begins (Sign opening ∷ ts) (e, d + 1, rest)
+    enclosed opening ending f rest ts e d split spelled le = (
       record {
-        front = Sign token.LeftParenthesis ∷ (f ++ Sign token.RightParenthesis ∷ []);
-        split = ap (λ l. Sign token.LeftParenthesis ∷ l) (split ∙ sym (append_assoc f (Sign token.RightParenthesis ∷ []) rest));
+        front = Sign opening ∷ (f ++ Sign ending ∷ []);
+        split = ap (λ l. Sign opening ∷ l) (split ∙ sym (append_assoc f (Sign ending ∷ []) rest));
         level = 18;
         spelled = spelled;
         continues = strength_at_most rest;
@@ -181,7 +209,7 @@ module _ (n : ℕ) (sub : Parser) (sound : IsSound n sub) where
         (f : List Terminal) × (front ++ Sign token.Comma ∷ ts ≡ f ++ Sign token.RightParenthesis ∷ r.1) × Ended (Spells r.0.1 1) token.Comma r.0.0 f × (r.0.1 ≤ n)
 
     items_read : (e : Expr) (d : ℕ) (front ts : List Terminal) (o : Option (List Terminal)) → after (Sign token.RightParenthesis) ts ≡ o → Spells d 1 e front → d ≤ n → (r : (List Expr × ℕ) × List Terminal)
-        → items_from sub (e ∷ [], d) ts o ≡ Some r → ItemsRead e d front ts r
+        → items_from sub token.RightParenthesis (e ∷ [], d) ts o ≡ Some r → ItemsRead e d front ts r
     items_read e d front ts (Some rest) is spelled le r h =
         let P : (List Expr × ℕ) × List Terminal → Type 0 = ItemsRead e d front ts in
         subst P (some_inj ((e ∷ [], d), rest) r h) (
@@ -191,12 +219,12 @@ module _ (n : ℕ) (sub : Parser) (sound : IsSound n sub) where
           le,
         )
     items_read e d front ts None is spelled le r h =
-        let s = enclosed_sound (sub 1) (λ d. Spells d 1) n (λ c d le x f h. spells_deeper c d le 1 x f h) item_sound (length ts) (e ∷ []) d ts r le h in
+        let s = enclosed_sound alone (sub 1) token.RightParenthesis (λ d. Spells d 1) n (λ c d le x f h. spells_deeper c d le 1 x f h) item_sound after_close_some (length ts) (e ∷ []) d ts r le h in
         let P : List Expr → Type 0 = λ xs. Ended (Spells r.0.1 1) token.Comma xs (front ++ Sign token.Comma ∷ s.1) in
         let all = ended_by (Spells r.0.1 1) e s.0 front s.1 (spells_deeper d r.0.1 s.4 1 e front spelled) s.3 s.7 in (
           front ++ Sign token.Comma ∷ s.1,
           ap (λ l. front ++ Sign token.Comma ∷ l) s.6 ∙ sym (append_assoc front (Sign token.Comma ∷ s.1) (Sign token.RightParenthesis ∷ r.1)),
-          subst P (sym s.2) all,
+          subst P (sym (s.2 ∙ ap (λ l. e ∷ l) (alone_are s.0))) all,
           s.5,
         )
 
@@ -204,19 +232,19 @@ module _ (n : ℕ) (sub : Parser) (sound : IsSound n sub) where
         → closed sub e d o p ≡ Some r → Begins (Sign token.LeftParenthesis ∷ (front ++ ts)) r
     closed_reads e d front ts (Some rest) p is with r spelled le h =
         let P : Found → Type 0 = Begins (Sign token.LeftParenthesis ∷ (front ++ ts)) in
-        subst P (some_inj (e, d + 1, rest) r h) (enclosed front rest (front ++ ts) e d (ap (λ l. front ++ l) (after_close_some ts rest is)) (bracketed d 18 e front spelled) le)
+        subst P (some_inj (e, d + 1, rest) r h) (enclosed token.LeftParenthesis token.RightParenthesis front rest (front ++ ts) e d (ap (λ l. front ++ l) (after_close_some ts rest is)) (bracketed d 18 e front spelled) le)
     closed_reads e d front ts None (Some more) is with r spelled le h =
-        let s = then_read_some (items_by sub e d more) tupled r h in
+        let s = then_read_some (items_by sub token.RightParenthesis (e ∷ [], d) more) tupled r h in
         let x = items_read e d front more (after (Sign token.RightParenthesis) more) refl spelled le s.0 s.1 in
         let P : Found → Type 0 = Begins (Sign token.LeftParenthesis ∷ (front ++ ts)) in
         subst P (some_inj (tree.Tuple (exprs_of s.0.0.0), s.0.0.1 + 1, s.0.1) r s.2)
-        (enclosed x.0 s.0.1 (front ++ ts) (tree.Tuple (exprs_of s.0.0.0)) s.0.0.1 (ap (λ l. front ++ l) (after_comma_some ts more with) ∙ x.1) (tuple_spelled s.0.0.1 s.0.0.0 x.0 x.2) x.3)
+        (enclosed token.LeftParenthesis token.RightParenthesis x.0 s.0.1 (front ++ ts) (tree.Tuple (exprs_of s.0.0.0)) s.0.0.1 (ap (λ l. front ++ l) (after_comma_some ts more with) ∙ x.1) (tuple_spelled s.0.0.1 s.0.0.0 x.0 x.2) x.3)
     closed_reads e d front ts None None is with r spelled le h = cc
 
     bracketed_from_reads : (ts : List Terminal) (o : Option (List Terminal)) → after (Sign token.RightParenthesis) ts ≡ o → (r : Found) → bracketed_from sub ts o ≡ Some r → Begins (Sign token.LeftParenthesis ∷ ts) r
     bracketed_from_reads ts (Some rest) is r h =
         let P : Found → Type 0 = Begins (Sign token.LeftParenthesis ∷ ts) in
-        subst P (some_inj (tree.Tuple tree.NoExprs, 1, rest) r h) (enclosed [] rest ts (tree.Tuple tree.NoExprs) 0 (after_close_some ts rest is) (tuple_spelled 0 [] [] refl) (omega arith))
+        subst P (some_inj (tree.Tuple tree.NoExprs, 1, rest) r h) (enclosed token.LeftParenthesis token.RightParenthesis [] rest ts (tree.Tuple tree.NoExprs) 0 (after_close_some ts rest is) (tuple_spelled 0 [] [] refl) (omega arith))
     bracketed_from_reads ts None is r h =
         let s = then_read_some (sub 1 ts) (grouped sub) r h in
         let a = sound 1 (omega arith) at_condition ts s.0 s.1 in
@@ -225,6 +253,60 @@ module _ (n : ℕ) (sub : Parser) (sound : IsSound n sub) where
 
     bracketed_reads : (ts : List Terminal) (r : Found) → bracketed_by sub ts ≡ Some r → Begins (Sign token.LeftParenthesis ∷ ts) r
     bracketed_reads ts r h = bracketed_from_reads ts (after (Sign token.RightParenthesis) ts) refl r h
+
+    -- ---- lists and dicts
+
+    list_spelled : (d : ℕ) (es : List Expr) (f : List Terminal) → Separated (Spells d 1) token.Comma es f → Spells (d + 1) 18 (tree.ListDisplay (exprs_of es)) (Sign token.LeftBracket ∷ (f ++ Sign token.RightBracket ∷ []))
+    list_spelled d es f h =
+        let P : List Expr → Type 0 = λ xs. Separated (Spells d 1) token.Comma xs f in
+        node d 18 (tree.ListDisplay (exprs_of es)) (Sign token.LeftBracket ∷ (f ++ Sign token.RightBracket ∷ [])) (f, refl, subst P (sym (items_of_exprs es)) h)
+
+    abbrev ListRead : List Terminal → (List Expr × ℕ) × List Terminal → Type 0
+    ListRead ts r = (f : List Terminal) × (ts ≡ f ++ Sign token.RightBracket ∷ r.1) × Separated (Spells r.0.1 1) token.Comma r.0.0 f × (r.0.1 ≤ n)
+
+    list_from_reads : (ts : List Terminal) (o : Option (List Terminal)) → after (Sign token.RightBracket) ts ≡ o → (r : (List Expr × ℕ) × List Terminal) → items_from sub token.RightBracket ([], 0) ts o ≡ Some r → ListRead ts r
+    list_from_reads ts (Some rest) is r h =
+        let P : (List Expr × ℕ) × List Terminal → Type 0 = ListRead ts in
+        subst P (some_inj (([], 0), rest) r h) ([], after_bracket_some ts rest is, refl, omega arith)
+    list_from_reads ts None is r h =
+        let s = enclosed_sound alone (sub 1) token.RightBracket (λ d. Spells d 1) n (λ c d le x f h. spells_deeper c d le 1 x f h) item_sound after_bracket_some (length ts) [] 0 ts r (omega arith) h in
+        let P : List Expr → Type 0 = λ xs. Separated (Spells r.0.1 1) token.Comma xs s.1 in
+        (s.1, s.6, subst P (sym (s.2 ∙ alone_are s.0)) s.7, s.5)
+
+    list_reads : (ts : List Terminal) (r : Found) → list_by sub ts ≡ Some r → Begins (Sign token.LeftBracket ∷ ts) r
+    list_reads ts r h =
+        let s = then_read_some (items_by sub token.RightBracket ([], 0) ts) listed r h in
+        let x = list_from_reads ts (after (Sign token.RightBracket) ts) refl s.0 s.1 in
+        let P : Found → Type 0 = Begins (Sign token.LeftBracket ∷ ts) in
+        subst P (some_inj (tree.ListDisplay (exprs_of s.0.0.0), s.0.0.1 + 1, s.0.1) r s.2)
+        (enclosed token.LeftBracket token.RightBracket x.0 s.0.1 ts (tree.ListDisplay (exprs_of s.0.0.0)) s.0.0.1 x.1 (list_spelled s.0.0.1 s.0.0.0 x.0 x.2) x.3)
+
+    dict_spelled : (d : ℕ) (es : List Expr) (pairs : List Pair) (f : List Terminal) → es ≡ flat_map both pairs → Separated (PairsOf (Spells d)) token.Comma pairs f
+        → Spells (d + 1) 18 (tree.DictDisplay (exprs_of es)) (Sign token.LeftBrace ∷ (f ++ Sign token.RightBrace ∷ []))
+    dict_spelled d es pairs f same h =
+        node d 18 (tree.DictDisplay (exprs_of es)) (Sign token.LeftBrace ∷ (f ++ Sign token.RightBrace ∷ [])) (pairs, f, refl, items_of_exprs es ∙ same, h)
+
+    abbrev PairsRead : List Terminal → (List Expr × ℕ) × List Terminal → Type 0
+    PairsRead ts r =
+        (pairs : List Pair) × (f : List Terminal) × (r.0.0 ≡ flat_map both pairs) × (ts ≡ f ++ Sign token.RightBrace ∷ r.1) × Separated (PairsOf (Spells r.0.1)) token.Comma pairs f × (r.0.1 ≤ n)
+
+    pairs_from_reads : (ts : List Terminal) (o : Option (List Terminal)) → after (Sign token.RightBrace) ts ≡ o → (r : (List Expr × ℕ) × List Terminal) → pairs_from sub ts o ≡ Some r → PairsRead ts r
+    pairs_from_reads ts (Some rest) is r h =
+        let P : (List Expr × ℕ) × List Terminal → Type 0 = PairsRead ts in
+        subst P (some_inj (([], 0), rest) r h) ([], [], refl, after_brace_some ts rest is, refl, omega arith)
+    pairs_from_reads ts None is r h =
+        let s = enclosed_sound both (pair_by sub) token.RightBrace (λ d. PairsOf (Spells d)) n pair_deeper pair_sound after_brace_some (length ts) [] 0 ts r (omega arith) h in
+        (s.0, s.1, s.2, s.6, s.7, s.5)
+
+    dict_reads : (ts : List Terminal) (r : Found) → dict_by sub ts ≡ Some r → Begins (Sign token.LeftBrace ∷ ts) r
+    dict_reads ts r h =
+        let s = then_read_some (pairs_by sub ts) in_dict r h in
+        let x = pairs_from_reads ts (after (Sign token.RightBrace) ts) refl s.0 s.1 in
+        let P : Found → Type 0 = Begins (Sign token.LeftBrace ∷ ts) in
+        subst P (some_inj (tree.DictDisplay (exprs_of s.0.0.0), s.0.0.1 + 1, s.0.1) r s.2)
+        (enclosed token.LeftBrace token.RightBrace x.1 s.0.1 ts (tree.DictDisplay (exprs_of s.0.0.0)) s.0.0.1 x.3 (dict_spelled s.0.0.1 s.0.0.0 x.0 x.1 x.2 x.4) x.5)
+
+    -- ---- signs and literals
 
     unary_read : (op : UnaryOperator) (ts : List Terminal) (r : Found) → l ≤ prefix_level op → then_read (sub (prefix_level op) ts) (λ r. Some (tree.Unary op r.0, r.1 + 1, r.2)) ≡ Some r → Begins (prefix_of op ∷ ts) r
     unary_read op ts r under h =
@@ -304,6 +386,8 @@ module _ (n : ℕ) (sub : Parser) (sound : IsSound n sub) where
         let P : Found → Type 0 = Begins (Word token.FalseWord ∷ ts) in
         subst P (some_inj (tree.Constant (Truth false), 1, ts) r h) (atom (Word token.FalseWord ∷ []) ts (tree.Constant (Truth false)) (node 0 18 (tree.Constant (Truth false)) (Word token.FalseWord ∷ []) refl))
     atom_reads (Sign token.LeftParenthesis ∷ ts) r h = bracketed_reads ts r h
+    atom_reads (Sign token.LeftBracket ∷ ts) r h = list_reads ts r h
+    atom_reads (Sign token.LeftBrace ∷ ts) r h = dict_reads ts r h
     atom_reads (_ ∷ ts) r h = cc
 
     operand_from_reads : (ts : List Terminal) (o : Option UnaryOperator) → prefix_at ts ≡ o → (r : Found) → operand_from sub l ts o ≡ Some r → Begins ts r
@@ -410,13 +494,13 @@ module _ (n : ℕ) (sub : Parser) (sound : IsSound n sub) where
   known true false h i = cc
   known false s h i = cc
 
-  alone : (d : ℕ) (e : Expr) (w : Keyword) (f : List Terminal) → nat_eq d 1 ≡ true → (Spells 1 10 e f → f ≡ Word w ∷ []) → Spells d 10 e f → (v : Keyword) × (f ≡ Word v ∷ [])
-  alone d e w f one only h = let same : d ≡ 1 = grind (arith, nat_tests) in (w, only (subst (λ k. Spells k 10 e f) same h))
+  one_word : (d : ℕ) (e : Expr) (w : Keyword) (f : List Terminal) → nat_eq d 1 ≡ true → (Spells 1 10 e f → f ≡ Word w ∷ []) → Spells d 10 e f → (v : Keyword) × (f ≡ Word v ∷ [])
+  one_word d e w f one only h = let same : d ≡ 1 = grind (arith, nat_tests) in (w, only (subst (λ k. Spells k 10 e f) same h))
 
   singleton_word : (e : Expr) (d : ℕ) (f : List Terminal) → is_singleton e d ≡ true → Spells d 10 e f → (w : Keyword) × (f ≡ Word w ∷ [])
-  singleton_word (tree.Constant Nothing) d f is h = alone d (tree.Constant Nothing) token.NoneWord f is (λ g. ⊎_elim (λ x. x) (λ b. absurd b.2) g) h
-  singleton_word (tree.Constant (Truth true)) d f is h = alone d (tree.Constant (Truth true)) token.TrueWord f is (λ g. ⊎_elim (λ x. x) (λ b. absurd b.2) g) h
-  singleton_word (tree.Constant (Truth false)) d f is h = alone d (tree.Constant (Truth false)) token.FalseWord f is (λ g. ⊎_elim (λ x. x) (λ b. absurd b.2) g) h
+  singleton_word (tree.Constant Nothing) d f is h = one_word d (tree.Constant Nothing) token.NoneWord f is (λ g. ⊎_elim (λ x. x) (λ b. absurd b.2) g) h
+  singleton_word (tree.Constant (Truth true)) d f is h = one_word d (tree.Constant (Truth true)) token.TrueWord f is (λ g. ⊎_elim (λ x. x) (λ b. absurd b.2) g) h
+  singleton_word (tree.Constant (Truth false)) d f is h = one_word d (tree.Constant (Truth false)) token.FalseWord f is (λ g. ⊎_elim (λ x. x) (λ b. absurd b.2) g) h
   singleton_word _ d f is h = cc
 
   abbrev LinkRead : List Terminal → ComparisonOperator → Found → Type 0

@@ -6,7 +6,11 @@ use Rattle.si_semantics.specs.Tree as tree
 use Rattle.si_semantics.specs.Tokens.{Keyword}
 use Rattle.si_semantics.specs.Tokens as token
 use Rattle.si_semantics.specs.Grammar.{Terminal, NAME, NUMBER, STRING, BYTES, Sign, Word, NEWLINE, DEDENT, symbol_of, left_level, prefix_of, prefix_level, item_level, truth_word, Strings, Octets, Spells}
-use Rattle.si_parse.specs.inner.Reading.{header_at, ends_small, ends_items, is_dedent, word_statement, import_at, is_singleton, after}
+use Rattle.si_parse.specs.inner.Lookahead.{header_at, after}
+use Rattle.si_parse.specs.inner.Expressions.{is_singleton}
+use Rattle.si_parse.specs.inner.Unbracketed.{ends_items}
+use Rattle.si_parse.specs.inner.Statements.{ends_small, word_statement, import_at}
+use Rattle.si_parse.specs.inner.Blocks.{is_dedent}
 
 -- whether an operand may begin so
 abbrev pub is_operand : Terminal → Bool
@@ -18,6 +22,8 @@ is_operand (Sign token.Plus) = true
 is_operand (Sign token.Minus) = true
 is_operand (Sign token.Tilde) = true
 is_operand (Sign token.LeftParenthesis) = true
+is_operand (Sign token.LeftBracket) = true
+is_operand (Sign token.LeftBrace) = true
 is_operand (Word token.NoneWord) = true
 is_operand (Word token.TrueWord) = true
 is_operand (Word token.FalseWord) = true
@@ -81,6 +87,8 @@ expression_begins (suc m) l (tree.Subscript a b) f (inl h) x =
     ∙ ap begins (append_assoc h.0 (Sign token.LeftBracket ∷ (h.1 ++ Sign token.RightBracket ∷ [])) x)
     ∙ expression_begins m 18 a h.0 h.4 (Sign token.LeftBracket ∷ ((h.1 ++ Sign token.RightBracket ∷ []) ++ x))
 expression_begins (suc m) l (tree.Tuple items) f (inl h) x = ap (λ t. begins (t ++ x)) h.1
+expression_begins (suc m) l (tree.ListDisplay items) f (inl h) x = ap (λ t. begins (t ++ x)) h.1
+expression_begins (suc m) l (tree.DictDisplay items) f (inl h) x = ap (λ t. begins (t ++ x)) h.2
 expression_begins (suc m) l (tree.Compare a cs) f (inl h) x = ap (λ t. begins (t ++ x)) h.2 ∙ ap begins (append_assoc h.0 h.1 x) ∙ expression_begins m 10 a h.0 h.4 (h.1 ++ x)
 expression_begins (suc m) l (tree.Boolean op a others) f (inl h) x = ap (λ t. begins (t ++ x)) h.2 ∙ ap begins (append_assoc h.0 h.1 x) ∙ expression_begins m (item_level op) a h.0 h.4 (h.1 ++ x)
 expression_begins (suc m) l (tree.Conditional test value other) f (inl h) x =
@@ -99,11 +107,23 @@ close_not [] h = cc
 close_not (Sign token.RightParenthesis ∷ ts) h = cc
 close_not (_ ∷ ts) h = refl
 
+pub bracket_not : (ts : List Terminal) → begins ts ≡ true → after (Sign token.RightBracket) ts ≡ None
+bracket_not [] h = cc
+bracket_not (Sign token.RightBracket ∷ ts) h = cc
+bracket_not (_ ∷ ts) h = refl
+
+pub brace_not : (ts : List Terminal) → begins ts ≡ true → after (Sign token.RightBrace) ts ≡ None
+brace_not [] h = cc
+brace_not (Sign token.RightBrace ∷ ts) h = cc
+brace_not (_ ∷ ts) h = refl
+
 pub items_not : (ts : List Terminal) → begins ts ≡ true → ends_items ts ≡ false
 items_not [] h = cc
 items_not (NEWLINE ∷ ts) h = cc
 items_not (Sign token.Semicolon ∷ ts) h = cc
 items_not (Sign token.Colon ∷ ts) h = cc
+items_not (Sign token.Equal ∷ ts) h = cc
+items_not (Word token.InWord ∷ ts) h = cc
 items_not (_ ∷ ts) h = refl
 
 pub colon_not : (ts : List Terminal) → begins ts ≡ true → after (Sign token.Colon) ts ≡ None
@@ -139,6 +159,11 @@ raise_not [] h = cc
 raise_not (Word token.RaiseWord ∷ ts) h = cc
 raise_not (_ ∷ ts) h = refl
 
+pub del_not : (ts : List Terminal) → begins ts ≡ true → after (Word token.DelWord) ts ≡ None
+del_not [] h = cc
+del_not (Word token.DelWord ∷ ts) h = cc
+del_not (_ ∷ ts) h = refl
+
 pub ends_not : (ts : List Terminal) → begins ts ≡ true → ends_small ts ≡ false
 ends_not [] h = cc
 ends_not (NEWLINE ∷ ts) h = cc
@@ -156,6 +181,7 @@ is_start (Word token.GlobalWord) = true
 is_start (Word token.ImportWord) = true
 is_start (Word token.FromWord) = true
 is_start (Word token.RaiseWord) = true
+is_start (Word token.DelWord) = true
 is_start t = is_operand t
 
 abbrev pub starts : List Terminal → Bool
@@ -172,6 +198,7 @@ starts_operand (Word token.GlobalWord ∷ ts) h = refl
 starts_operand (Word token.ImportWord ∷ ts) h = refl
 starts_operand (Word token.FromWord ∷ ts) h = refl
 starts_operand (Word token.RaiseWord ∷ ts) h = refl
+starts_operand (Word token.DelWord ∷ ts) h = refl
 starts_operand (_ ∷ ts) h = h
 
 pub newline_not : (ts : List Terminal) → starts ts ≡ true → after NEWLINE ts ≡ None
@@ -268,6 +295,8 @@ singleton (suc m) (tree.Call a i args names) w (inl h) =
 singleton (suc m) (tree.Subscript a b) w (inl h) =
     absurd (omega (arith, ap length h.2, length-append h.0 (Sign token.LeftBracket ∷ (h.1 ++ Sign token.RightBracket ∷ [])), some_terminals m 18 a h.0 h.4))
 singleton (suc m) (tree.Tuple items) w (inl h) = cc (h.1)
+singleton (suc m) (tree.ListDisplay items) w (inl h) = cc (h.1)
+singleton (suc m) (tree.DictDisplay items) w (inl h) = cc (h.2)
 singleton (suc m) (tree.Compare a cs) w (inl h) = absurd (omega (arith, h.3))
 singleton (suc m) (tree.Boolean tree.And a others) w (inl h) = absurd (omega (arith, h.3))
 singleton (suc m) (tree.Boolean tree.Or a others) w (inl h) = absurd (omega (arith, h.3))

@@ -8,20 +8,28 @@ use Rattle.si_plain.specs.declared.modules.ModuleName.TheVariants.{Threading, In
 use Rattle.si_semantics.specs.Value.{Text}
 use Rattle.si_semantics.specs.Text.{same_text}
 use Rattle.si_semantics.specs.Tree as tree
-use Rattle.si_semantics.specs.Tree.{BinaryOperator, Expr, Stmt}
+use Rattle.si_semantics.specs.Tree.{BinaryOperator, Expr, Stmt, Target}
 use Rattle.si_semantics.specs.Tokens.{Symbol}
 use Rattle.si_semantics.specs.Tokens as token
-use Rattle.si_semantics.specs.Grammar.{Terminal, NAME, Sign, Word, NEWLINE, Following, Separated, max_depth, IsExpression, IsExpressions, exprs_of, augmented_of, import_of, Small, Simple}
-use Rattle.si_parse.specs.inner.Reading.{Found, Parsed, ends_items, expressions_by, then_read, rest_of, strength_at, begins_literal, no_comma, names_by, ends_small, value_by, returned_by, raised_by, global_by, expression_at, assignment_symbol, assignment_at, assigned, statement_from, spelled_by, word_statement, name_at, named, after_name, after_import, after_from, after_interpreters, imported, import_at, small_from, statement_by, with_statement, line_by, after}
+use Rattle.si_semantics.specs.Grammar.{Terminal, NAME, Sign, Word, NEWLINE, Following, Separated, max_depth, Spells, IsExpression, IsExpressions, exprs_of, augmented_of, target_of, targets_of, import_of, Small, Simple}
+use Rattle.si_syntax.specs.Trees.{target_row}
+use Rattle.si_parse.specs.inner.Lookahead.{rest_of, strength_at, begins_literal, after}
+use Rattle.si_parse.specs.inner.Lists.{Found, Parsed, then_read}
+use Rattle.si_parse.specs.inner.Names.{no_comma, names_by, name_at}
+use Rattle.si_parse.specs.inner.Expressions.{expression_at}
+use Rattle.si_parse.specs.inner.Unbracketed.{ends_items, expressions_by}
+use Rattle.si_parse.specs.inner.Statements.{ends_small, value_by, returned_by, raised_by, global_by, assignment_symbol, assignment_at, statement_from, spelled_by, word_statement, named, after_name, after_import, after_from, after_interpreters, imported, import_at, small_from, statement_by, with_statement, line_by, augment, augmented, deleted, deleted_by}
 use Rattle.si_semantics.proofs.Names.{same_is}
-use Rattle.si_parse.proofs.Laws.{then_read_some, some_inj, spells_deeper, after_semicolon_some, after_newline_some, name_at_some, after_import_some, after_from_some, after_return_some, after_global_some, after_raise_some}
-use Rattle.si_parse.proofs.Levels.{at_condition}
+use Rattle.si_parse.proofs.Laws.{then_read_some, some_inj, spells_looser, spells_deeper, after_semicolon_some, after_newline_some, name_at_some, after_import_some, after_from_some, after_return_some, after_global_some, after_raise_some, after_del_some}
+use Rattle.si_parse.proofs.Levels.{high, at_condition}
 use Rattle.si_parse.proofs.Lists.{chosen, added, Pairwise, separated_sound, separated_complete}
-use Rattle.si_parse.proofs.Starts.{begins, expression_begins, word_not, import_not, return_not, global_not, raise_not, ends_not, starts, starts_operand, newline_not}
+use Rattle.si_parse.proofs.Starts.{begins, expression_begins, word_not, import_not, return_not, global_not, raise_not, del_not, ends_not, starts, starts_operand, newline_not}
 use Rattle.si_parse.proofs.Sound.{expression_sound}
 use Rattle.si_parse.proofs.Names.{names_reads, names_complete}
 use Rattle.si_parse.proofs.Complete.{expression_complete}
 use Rattle.si_parse.proofs.Unbracketed.{expressions_reads, expression_alone, expressions_complete, expressions_begin}
+use Rattle.si_parse.proofs.Targets.{unpack_split, target_tighter}
+use Rattle.si_parse.proofs.Assigned.{Equated, equated, assigned_reads, assigned_complete, equated_begins}
 
 -- ---- signs of assignments
 
@@ -87,43 +95,45 @@ sign_weak (Some tree.Power) ts = (omega arith, refl)
 abbrev SmallRead : List Terminal → Stmt × List Terminal → Type 0
 SmallRead ts r = (f : List Terminal) × (ts ≡ f ++ r.1) × Small r.0 f
 
-assigned_small : (x : Text) (a : Option BinaryOperator) (e : Expr) (f g : List Terminal) → IsExpression (tree.Name x) f → IsExpressions e g → Small (assigned (tree.Named x) a e) (f ++ Sign (sign_of a) ∷ g)
-assigned_small x None e f g h i = (f, g, refl, h, i)
-assigned_small x (Some op) e f g h i = (f, g, refl, h, i)
+augmented_small : (e : Expr) (op : BinaryOperator) (v : Expr) (f g : List Terminal) (s : Stmt) → augment e op v ≡ Some s → IsExpressions e f → IsExpressions v g → Small s (f ++ Sign (augmented_of op) ∷ g)
+augmented_small (tree.Name x) op v f g s is h i =
+    let P : Stmt → Type 0 = λ s. Small s (f ++ Sign (augmented_of op) ∷ g) in subst P (some_inj (tree.Augment x op v) s is) (f, g, refl, (tree.Name x, refl, h), i)
+augmented_small (tree.Subscript a b) op v f g s is h i =
+    let P : Stmt → Type 0 = λ s. Small s (f ++ Sign (augmented_of op) ∷ g) in subst P (some_inj (tree.AugmentItem a b op v) s is) (f, g, refl, (tree.Subscript a b, refl, h), i)
+augmented_small (tree.Constant w) op v f g s is h i = cc
+augmented_small (tree.Unary o e) op v f g s is h i = cc
+augmented_small (tree.Binary o e d) op v f g s is h i = cc
+augmented_small (tree.Attribute e x) op v f g s is h i = cc
+augmented_small (tree.Call e x args names) op v f g s is h i = cc
+augmented_small (tree.Tuple items) op v f g s is h i = cc
+augmented_small (tree.ListDisplay items) op v f g s is h i = cc
+augmented_small (tree.DictDisplay items) op v f g s is h i = cc
+augmented_small (tree.Boolean o e others) op v f g s is h i = cc
+augmented_small (tree.Compare e cs) op v f g s is h i = cc
+augmented_small (tree.Conditional e d c) op v f g s is h i = cc
 
--- a name is no tuple
-no_tuple : (x : Text) (items : List Expr) → tree.Name x ≡ tree.Tuple (exprs_of items) → ⊥
-no_tuple x items h = cc
-
-name_alone : (x : Text) (f : List Terminal) → IsExpressions (tree.Name x) f → IsExpression (tree.Name x) f
-name_alone x f h = ⊎_elim (λ e. e) (λ t. absurd (no_tuple x t.0 t.1)) h
+behind_some : (o : Option Stmt) (ts : List Terminal) (r : Stmt × List Terminal) → option_map {U = Stmt × List Terminal} (λ s. (s, ts)) o ≡ Some r → (s : Stmt) × (o ≡ Some s) × ((s, ts) ≡ r)
+behind_some None ts r h = cc
+behind_some (Some s) ts r h = (s, refl, some_inj (s, ts) r h)
 
 from_reads : (f ts : List Terminal) (e : Expr) (o : Option (Option BinaryOperator × List Terminal)) → assignment_at ts ≡ o → IsExpressions e f → (r : Stmt × List Terminal) → statement_from (expression_at max_depth) ts e o ≡ Some r → SmallRead (f ++ ts) r
 from_reads f ts e None is spelled r h =
     let P : Stmt × List Terminal → Type 0 = SmallRead (f ++ ts) in subst P (some_inj (tree.Evaluate e, ts) r h) (f, refl, spelled)
-from_reads f ts (tree.Name x) (Some a) is spelled r h =
-    let s = then_read_some (expressions_by (expression_at max_depth) a.1) (λ r. Some (assigned (tree.Named x) a.0 r.0, r.2)) r h in
-    let b = expressions_reads a.1 s.0 s.1 in
+from_reads f ts e (Some (None, rest)) is spelled r h = assigned_reads f e ts rest (assignment_some ts None rest is) spelled r h
+from_reads f ts e (Some (Some op, rest)) is spelled r h =
+    let s = then_read_some (expressions_by (expression_at max_depth) 1 rest) (augmented e op) r h in
+    let b = expressions_reads rest s.0 s.1 in
+    let m = behind_some (augment e op s.0.0) s.0.2 r s.2 in
     let P : Stmt × List Terminal → Type 0 = SmallRead (f ++ ts) in
-    subst P (some_inj (assigned (tree.Named x) a.0 s.0.0, s.0.2) r s.2) (
-      f ++ Sign (sign_of a.0) ∷ b.0,
-      ap (λ t. f ++ t) (assignment_some ts a.0 a.1 is ∙ ap (λ t. Sign (sign_of a.0) ∷ t) b.1) ∙ sym (append_assoc f (Sign (sign_of a.0) ∷ b.0) s.0.2),
-      assigned_small x a.0 s.0.0 f b.0 (name_alone x f spelled) b.2,
+    subst P m.2 (
+      f ++ Sign (augmented_of op) ∷ b.0,
+      ap (λ t. f ++ t) (assignment_some ts (Some op) rest is ∙ ap (λ t. Sign (augmented_of op) ∷ t) b.1) ∙ sym (append_assoc f (Sign (augmented_of op) ∷ b.0) s.0.2),
+      augmented_small e op s.0.0 f b.0 m.0 m.1 spelled b.2,
     )
-from_reads f ts (tree.Constant v) (Some a) is spelled r h = cc
-from_reads f ts (tree.Unary op e) (Some a) is spelled r h = cc
-from_reads f ts (tree.Binary op e g) (Some a) is spelled r h = cc
-from_reads f ts (tree.Attribute e x) (Some a) is spelled r h = cc
-from_reads f ts (tree.Call e x args names) (Some a) is spelled r h = cc
-from_reads f ts (tree.Subscript e i) (Some a) is spelled r h = cc
-from_reads f ts (tree.Tuple items) (Some a) is spelled r h = cc
-from_reads f ts (tree.Boolean op e others) (Some a) is spelled r h = cc
-from_reads f ts (tree.Compare e cs) (Some a) is spelled r h = cc
-from_reads f ts (tree.Conditional e g i) (Some a) is spelled r h = cc
 
 spelled_reads : (ts : List Terminal) (r : Stmt × List Terminal) → spelled_by (expression_at max_depth) ts ≡ Some r → SmallRead ts r
 spelled_reads ts r h =
-    let s = then_read_some (expressions_by (expression_at max_depth) ts) (λ r. statement_from (expression_at max_depth) r.2 r.0 (assignment_at r.2)) r h in
+    let s = then_read_some (expressions_by (expression_at max_depth) 1 ts) (λ r. statement_from (expression_at max_depth) r.2 r.0 (assignment_at r.2)) r h in
     let a = expressions_reads ts s.0 s.1 in
     let P : List Terminal → Type 0 = λ t. SmallRead t r in
     subst P (sym a.1) (from_reads a.0 s.0.2 s.0.0 (assignment_at s.0.2) refl a.2 r s.2)
@@ -160,7 +170,7 @@ expression_reads : (ts : List Terminal) (r : Found) → expression_at max_depth 
 expression_reads ts r h =
     let a = expression_sound max_depth 1 (omega arith) at_condition ts r h in (a.0.front, a.0.split, spells_deeper r.1 max_depth a.1 1 r.0 a.0.front a.0.spelled)
 
-returned_small : (a : Option Expr) (f : List Terminal) → Value (expressions_by (expression_at max_depth)) IsExpressions expressions_reads a f → Small (tree.Return a) (Word token.ReturnWord ∷ f)
+returned_small : (a : Option Expr) (f : List Terminal) → Value (expressions_by (expression_at max_depth) 1) IsExpressions expressions_reads a f → Small (tree.Return a) (Word token.ReturnWord ∷ f)
 returned_small None f h = ap (λ t. Word token.ReturnWord ∷ t) h
 returned_small (Some e) f h = (f, refl, h)
 
@@ -170,8 +180,8 @@ raised_small (Some e) f h = (f, refl, h)
 
 returned_reads : (ts : List Terminal) (r : Stmt × List Terminal) → returned_by (expression_at max_depth) ts ≡ Some r → SmallRead (Word token.ReturnWord ∷ ts) r
 returned_reads ts r h =
-    let s = then_read_some (value_by (expressions_by (expression_at max_depth)) ts) (λ r. Some (tree.Return r.0, r.1)) r h in
-    let v = value_reads (expressions_by (expression_at max_depth)) IsExpressions expressions_reads ts s.0 s.1 in
+    let s = then_read_some (value_by (expressions_by (expression_at max_depth) 1) ts) (λ r. Some (tree.Return r.0, r.1)) r h in
+    let v = value_reads (expressions_by (expression_at max_depth) 1) IsExpressions expressions_reads ts s.0 s.1 in
     let P : Stmt × List Terminal → Type 0 = SmallRead (Word token.ReturnWord ∷ ts) in
     subst P (some_inj (tree.Return s.0.0, s.0.1) r s.2) (Word token.ReturnWord ∷ v.0, ap (λ t. Word token.ReturnWord ∷ t) v.1, returned_small s.0.0 v.0 v.2)
 
@@ -181,6 +191,30 @@ raised_reads ts r h =
     let v = value_reads (expression_at max_depth 1) IsExpression expression_reads ts s.0 s.1 in
     let P : Stmt × List Terminal → Type 0 = SmallRead (Word token.RaiseWord ∷ ts) in
     subst P (some_inj (tree.Raise s.0.0, s.0.1) r s.2) (Word token.RaiseWord ∷ v.0, ap (λ t. Word token.RaiseWord ∷ t) v.1, raised_small s.0.0 v.0 v.2)
+
+deleted_small : (e : Expr) (f ts : List Terminal) → Spells max_depth 16 e f → (r : Stmt × List Terminal) → deleted e ts ≡ Some r → SmallRead (Word token.DelWord ∷ (f ++ ts)) r
+deleted_small (tree.Subscript a b) f ts spelled r h =
+    let P : Stmt × List Terminal → Type 0 = SmallRead (Word token.DelWord ∷ (f ++ ts)) in
+    subst P (some_inj (tree.Delete a b, ts) r h) (Word token.DelWord ∷ f, refl, (f, refl, target_tighter max_depth 16 18 (tree.Subscript a b) (tree.Item a b) f (omega arith) refl spelled))
+deleted_small (tree.Name x) f ts spelled r h = cc
+deleted_small (tree.Constant v) f ts spelled r h = cc
+deleted_small (tree.Unary op e) f ts spelled r h = cc
+deleted_small (tree.Binary op e d) f ts spelled r h = cc
+deleted_small (tree.Attribute e x) f ts spelled r h = cc
+deleted_small (tree.Call e x args names) f ts spelled r h = cc
+deleted_small (tree.Tuple items) f ts spelled r h = cc
+deleted_small (tree.ListDisplay items) f ts spelled r h = cc
+deleted_small (tree.DictDisplay items) f ts spelled r h = cc
+deleted_small (tree.Boolean op e others) f ts spelled r h = cc
+deleted_small (tree.Compare e cs) f ts spelled r h = cc
+deleted_small (tree.Conditional e d c) f ts spelled r h = cc
+
+deleted_reads : (ts : List Terminal) (r : Stmt × List Terminal) → deleted_by (expression_at max_depth) ts ≡ Some r → SmallRead (Word token.DelWord ∷ ts) r
+deleted_reads ts r h =
+    let s = then_read_some (expression_at max_depth 16 ts) (λ r. deleted r.0 r.2) r h in
+    let a = expression_sound max_depth 16 (omega arith) (high 16 (omega arith)) ts s.0 s.1 in
+    let P : List Terminal → Type 0 = λ t. SmallRead (Word token.DelWord ∷ t) r in
+    subst P (sym a.0.split) (deleted_small s.0.0 a.0.front s.0.2 (spells_deeper s.0.1 max_depth a.1 16 s.0.0 a.0.front a.0.spelled) r s.2)
 
 global_reads : (ts : List Terminal) (r : Stmt × List Terminal) → global_by ts ≡ Some r → SmallRead (Word token.GlobalWord ∷ ts) r
 global_reads ts r h =
@@ -218,22 +252,25 @@ imported_reads ts None (Some rest) is also i h =
     )
 imported_reads ts None None is also i h = cc
 
-small_reads : (ts : List Terminal) (o : Option Stmt) (i : Option (ModuleName × List Terminal)) (p q x : Option (List Terminal)) → word_statement ts ≡ o → import_at ts ≡ i → after (Word token.ReturnWord) ts ≡ p → after (Word token.GlobalWord) ts ≡ q → after (Word token.RaiseWord) ts ≡ x → (r : Stmt × List Terminal)
-    → small_from (expression_at max_depth) ts o i p q x ≡ Some r → SmallRead ts r
-small_reads ts (Some s) i p q x is in_front also too last r h = let P : Stmt × List Terminal → Type 0 = SmallRead ts in subst P (some_inj (s, rest_of ts) r h) (word_reads ts s is)
-small_reads ts None (Some i) p q x is in_front also too last r h =
+small_reads : (ts : List Terminal) (o : Option Stmt) (i : Option (ModuleName × List Terminal)) (p q x y : Option (List Terminal)) → word_statement ts ≡ o → import_at ts ≡ i → after (Word token.ReturnWord) ts ≡ p → after (Word token.GlobalWord) ts ≡ q
+    → after (Word token.RaiseWord) ts ≡ x → after (Word token.DelWord) ts ≡ y → (r : Stmt × List Terminal) → small_from (expression_at max_depth) ts o i p q x y ≡ Some r → SmallRead ts r
+small_reads ts (Some s) i p q x y is in_front also too last del r h = let P : Stmt × List Terminal → Type 0 = SmallRead ts in subst P (some_inj (s, rest_of ts) r h) (word_reads ts s is)
+small_reads ts None (Some i) p q x y is in_front also too last del r h =
     let P : Stmt × List Terminal → Type 0 = SmallRead ts in
     subst P (some_inj (tree.Import i.0, i.1) r h) (imported_reads ts (after_import (codes "threading") ts) (after_interpreters ts) refl refl i in_front)
-small_reads ts None None (Some rest) q x is in_front also too last r h =
+small_reads ts None None (Some rest) q x y is in_front also too last del r h =
     let P : List Terminal → Type 0 = λ t. SmallRead t r in subst P (sym (after_return_some ts rest also)) (returned_reads rest r h)
-small_reads ts None None None (Some rest) x is in_front also too last r h =
+small_reads ts None None None (Some rest) x y is in_front also too last del r h =
     let P : List Terminal → Type 0 = λ t. SmallRead t r in subst P (sym (after_global_some ts rest too)) (global_reads rest r h)
-small_reads ts None None None None (Some rest) is in_front also too last r h =
+small_reads ts None None None None (Some rest) y is in_front also too last del r h =
     let P : List Terminal → Type 0 = λ t. SmallRead t r in subst P (sym (after_raise_some ts rest last)) (raised_reads rest r h)
-small_reads ts None None None None None is in_front also too last r h = spelled_reads ts r h
+small_reads ts None None None None None (Some rest) is in_front also too last del r h =
+    let P : List Terminal → Type 0 = λ t. SmallRead t r in subst P (sym (after_del_some ts rest del)) (deleted_reads rest r h)
+small_reads ts None None None None None None is in_front also too last del r h = spelled_reads ts r h
 
 statement_reads : (ts : List Terminal) (r : Stmt × List Terminal) → statement_by (expression_at max_depth) ts ≡ Some r → SmallRead ts r
-statement_reads ts r h = small_reads ts (word_statement ts) (import_at ts) (after (Word token.ReturnWord) ts) (after (Word token.GlobalWord) ts) (after (Word token.RaiseWord) ts) refl refl refl refl refl r h
+statement_reads ts r h =
+    small_reads ts (word_statement ts) (import_at ts) (after (Word token.ReturnWord) ts) (after (Word token.GlobalWord) ts) (after (Word token.RaiseWord) ts) (after (Word token.DelWord) ts) refl refl refl refl refl refl r h
 
 -- what may stand after a statement
 abbrev Follows : List Terminal → Type 0
@@ -261,29 +298,72 @@ sign_behind (Some tree.Modulo) ts = refl
 sign_behind (Some tree.Power) ts = refl
 
 -- all that a statement reads in front of its end
-whole_read : (e : Expr) (f more : List Terminal) → IsExpressions e f → Follows more → (d : ℕ) × (expressions_by (expression_at max_depth) (f ++ more) ≡ Some (e, d, more))
+whole_read : (e : Expr) (f more : List Terminal) → IsExpressions e f → Follows more → (d : ℕ) × (expressions_by (expression_at max_depth) 1 (f ++ more) ≡ Some (e, d, more))
 whole_read e f more h ends = let over = no_item more ends.3 in expressions_complete e f more h (ends.0, ends.1) over.0 over.1
 
 by_expression : (ts : List Terminal) → begins ts ≡ true → statement_by (expression_at max_depth) ts ≡ spelled_by (expression_at max_depth) ts
 by_expression ts start =
-    ap (λ o. small_from (expression_at max_depth) ts o (import_at ts) (after (Word token.ReturnWord) ts) (after (Word token.GlobalWord) ts) (after (Word token.RaiseWord) ts)) (word_not ts start)
-    ∙ ap (λ o. small_from (expression_at max_depth) ts None o (after (Word token.ReturnWord) ts) (after (Word token.GlobalWord) ts) (after (Word token.RaiseWord) ts)) (import_not ts start)
-    ∙ ap (λ o. small_from (expression_at max_depth) ts None None o (after (Word token.GlobalWord) ts) (after (Word token.RaiseWord) ts)) (return_not ts start)
-    ∙ ap (λ o. small_from (expression_at max_depth) ts None None None o (after (Word token.RaiseWord) ts)) (global_not ts start)
-    ∙ ap (λ o. small_from (expression_at max_depth) ts None None None None o) (raise_not ts start)
+    ap (λ o. small_from (expression_at max_depth) ts o (import_at ts) (after (Word token.ReturnWord) ts) (after (Word token.GlobalWord) ts) (after (Word token.RaiseWord) ts) (after (Word token.DelWord) ts)) (word_not ts start)
+    ∙ ap (λ o. small_from (expression_at max_depth) ts None o (after (Word token.ReturnWord) ts) (after (Word token.GlobalWord) ts) (after (Word token.RaiseWord) ts) (after (Word token.DelWord) ts)) (import_not ts start)
+    ∙ ap (λ o. small_from (expression_at max_depth) ts None None o (after (Word token.GlobalWord) ts) (after (Word token.RaiseWord) ts) (after (Word token.DelWord) ts)) (return_not ts start)
+    ∙ ap (λ o. small_from (expression_at max_depth) ts None None None o (after (Word token.RaiseWord) ts) (after (Word token.DelWord) ts)) (global_not ts start)
+    ∙ ap (λ o. small_from (expression_at max_depth) ts None None None None o (after (Word token.DelWord) ts)) (raise_not ts start)
+    ∙ ap (λ o. small_from (expression_at max_depth) ts None None None None None o) (del_not ts start)
 
-assigned_complete : (x : Text) (a : Option BinaryOperator) (e : Expr) (f g whole more : List Terminal) → whole ≡ f ++ Sign (sign_of a) ∷ g → IsExpression (tree.Name x) f → IsExpressions e g → Follows more → statement_by (expression_at max_depth) (whole ++ more) ≡ Some (assigned (tree.Named x) a e, more)
-assigned_complete x a e f g whole more is hx he ends =
+equated_complete : (us : List Target) (v : Expr) (h more : List Terminal) → 0 < length us → Equated us v h → Follows more → statement_by (expression_at max_depth) (h ++ more) ≡ Some (tree.Assign (target_row us) v, more)
+equated_complete us v h more some r ends =
+    let c = assigned_complete us v h more some r ends.0 ends.1 ends.3 in
+    by_expression (h ++ more) (equated_begins us v h more r) ∙ ap (λ r. then_read r (λ r. statement_from (expression_at max_depth) r.2 r.0 (assignment_at r.2))) c.3 ∙ c.4
+
+-- which expression is a target of this form
+named_is : (e : Expr) (x : Text) → target_of e ≡ Some (tree.Named x) → e ≡ tree.Name x
+named_is (tree.Name y) x h = ap tree.Name (let same : y ≡ x = cc in same)
+named_is (tree.Subscript a b) x h = cc
+named_is (tree.Tuple items) x h = let u = unpack_split (targets_of items) (tree.Named x) h in cc (u.3)
+named_is (tree.ListDisplay items) x h = let u = unpack_split (targets_of items) (tree.Named x) h in cc (u.3)
+named_is (tree.Constant v) x h = cc
+named_is (tree.Unary op a) x h = cc
+named_is (tree.Binary op a b) x h = cc
+named_is (tree.Attribute a y) x h = cc
+named_is (tree.Call a y args names) x h = cc
+named_is (tree.DictDisplay items) x h = cc
+named_is (tree.Boolean op a others) x h = cc
+named_is (tree.Compare a cs) x h = cc
+named_is (tree.Conditional a b c) x h = cc
+
+item_is : (e a b : Expr) → target_of e ≡ Some (tree.Item a b) → e ≡ tree.Subscript a b
+item_is (tree.Name y) a b h = cc
+item_is (tree.Subscript c d) a b h = let same : (c ≡ a) × (d ≡ b) = (cc, cc) in ap (λ c. tree.Subscript c d) same.0 ∙ ap (tree.Subscript a) same.1
+item_is (tree.Tuple items) a b h = let u = unpack_split (targets_of items) (tree.Item a b) h in cc (u.3)
+item_is (tree.ListDisplay items) a b h = let u = unpack_split (targets_of items) (tree.Item a b) h in cc (u.3)
+item_is (tree.Constant v) a b h = cc
+item_is (tree.Unary op c) a b h = cc
+item_is (tree.Binary op c d) a b h = cc
+item_is (tree.Attribute c y) a b h = cc
+item_is (tree.Call c y args names) a b h = cc
+item_is (tree.DictDisplay items) a b h = cc
+item_is (tree.Boolean op c others) a b h = cc
+item_is (tree.Compare c cs) a b h = cc
+item_is (tree.Conditional c d e) a b h = cc
+
+-- an expression that is no tuple stands alone
+stands_alone : (e : Expr) (f : List Terminal) → ((items : List Expr) → e ≡ tree.Tuple (exprs_of items) → ⊥) → IsExpressions e f → IsExpression e f
+stands_alone e f other h = ⊎_elim (λ e. e) (λ t. absurd (other t.0 t.1)) h
+
+augmented_complete : (e : Expr) (op : BinaryOperator) (v : Expr) (s : Stmt) (f g whole more : List Terminal) → whole ≡ f ++ Sign (augmented_of op) ∷ g → IsExpression e f → IsExpressions v g → augment e op v ≡ Some s → Follows more
+    → statement_by (expression_at max_depth) (whole ++ more) ≡ Some (s, more)
+augmented_complete e op v s f g whole more is he hv made ends =
     let behind = g ++ more in
-    let weak = sign_weak a behind in
-    let c = expression_alone (tree.Name x) f (Sign (sign_of a) ∷ behind) hx weak (sign_behind a behind) in
-    let d = whole_read e g more he ends in
-    let split : whole ++ more ≡ f ++ Sign (sign_of a) ∷ behind = ap (λ t. t ++ more) is ∙ append_assoc f (Sign (sign_of a) ∷ g) more in
+    let weak = sign_weak (Some op) behind in
+    let c = expression_alone e f (Sign (augmented_of op) ∷ behind) he weak (sign_behind (Some op) behind) in
+    let d = whole_read v g more hv ends in
+    let split : whole ++ more ≡ f ++ Sign (augmented_of op) ∷ behind = ap (λ t. t ++ more) is ∙ append_assoc f (Sign (augmented_of op) ∷ g) more in
     ap (statement_by (expression_at max_depth)) split
-    ∙ by_expression (f ++ Sign (sign_of a) ∷ behind) (expression_begins max_depth 1 (tree.Name x) f hx (Sign (sign_of a) ∷ behind))
+    ∙ by_expression (f ++ Sign (augmented_of op) ∷ behind) (expression_begins max_depth 1 e f he (Sign (augmented_of op) ∷ behind))
     ∙ ap (λ r. then_read r (λ r. statement_from (expression_at max_depth) r.2 r.0 (assignment_at r.2))) c.1
-    ∙ ap (statement_from (expression_at max_depth) (Sign (sign_of a) ∷ behind) (tree.Name x)) (assignment_is a behind)
-    ∙ ap (λ r. then_read r (λ r. Some (assigned (tree.Named x) a r.0, r.2))) d.1
+    ∙ ap (statement_from (expression_at max_depth) (Sign (augmented_of op) ∷ behind) e) (assignment_is (Some op) behind)
+    ∙ ap (λ r. then_read r (augmented e op)) d.1
+    ∙ ap (λ o. option_map (λ s. (s, more)) o) made
 
 small_over : (ts : List Terminal) → ends_small ts ≡ true → (0 < length ts) × (no_comma ts ≡ true)
 small_over [] h = cc
@@ -306,17 +386,30 @@ statement_complete : (s : Stmt) (f more : List Terminal) → Small s f → Follo
 statement_complete (tree.Evaluate e) f more h ends =
     let c = whole_read e f more h ends in
     by_expression (f ++ more) (expressions_begin e f more h) ∙ ap (λ r. then_read r (λ r. statement_from (expression_at max_depth) r.2 r.0 (assignment_at r.2))) c.1 ∙ ap (statement_from (expression_at max_depth) more e) ends.2
-statement_complete (tree.Assign (tree.Named x) e) f more h ends = assigned_complete x None e h.0 h.1 f more h.2 h.3 h.4 ends
-statement_complete (tree.Augment (tree.Named x) op e) f more h ends = assigned_complete x (Some op) e h.0 h.1 f more h.2 h.3 h.4 ends
+statement_complete (tree.Assign targets e) f more h ends =
+    let r = equated targets e h.0 h.1 h.3 h.4 in
+    ap (λ t. statement_by (expression_at max_depth) (t ++ more)) h.2 ∙ equated_complete r.0 e (h.0 ++ h.1) more r.1 r.3 ends ∙ ap (λ ts. Some (tree.Assign ts e, more)) (sym r.2)
+statement_complete (tree.Augment x op e) f more h ends =
+    let is = named_is h.3.0 x h.3.1 in
+    let alone = stands_alone (tree.Name x) h.0 (λ items bad. cc) (subst (λ e. IsExpressions e h.0) is h.3.2) in
+    augmented_complete (tree.Name x) op e (tree.Augment x op e) h.0 h.1 f more h.2 alone h.4 refl ends
+statement_complete (tree.AugmentItem a b op e) f more h ends =
+    let is = item_is h.3.0 a b h.3.1 in
+    let alone = stands_alone (tree.Subscript a b) h.0 (λ items bad. cc) (subst (λ e. IsExpressions e h.0) is h.3.2) in
+    augmented_complete (tree.Subscript a b) op e (tree.AugmentItem a b op e) h.0 h.1 f more h.2 alone h.4 refl ends
+statement_complete (tree.Delete a b) f more h ends =
+    let loose = spells_looser max_depth 16 18 (tree.Subscript a b) h.0 (omega arith) h.2 in
+    let c = expression_complete max_depth max_depth 16 (tree.Subscript a b) h.0 more (omega arith) (omega arith) loose (omega (arith, ends.0)) ends.1 in
+    ap (λ t. statement_by (expression_at max_depth) (t ++ more)) h.1 ∙ ap (λ o. then_read o (λ r. deleted r.0 r.2)) c.3
 statement_complete tree.Pass f more h ends = ap (λ t. statement_by (expression_at max_depth) (t ++ more)) h
 statement_complete tree.Break f more h ends = ap (λ t. statement_by (expression_at max_depth) (t ++ more)) h
 statement_complete tree.Continue f more h ends = ap (λ t. statement_by (expression_at max_depth) (t ++ more)) h
 statement_complete (tree.Return None) f more h ends =
-    ap (λ t. statement_by (expression_at max_depth) (t ++ more)) h ∙ ap (λ o. then_read o (λ r. Some (tree.Return r.0, r.1))) (value_none (expressions_by (expression_at max_depth)) more ends)
+    ap (λ t. statement_by (expression_at max_depth) (t ++ more)) h ∙ ap (λ o. then_read o (λ r. Some (tree.Return r.0, r.1))) (value_none (expressions_by (expression_at max_depth) 1) more ends)
 statement_complete (tree.Return (Some e)) f more h ends =
     let c = whole_read e h.0 more h.2 ends in
     ap (λ t. statement_by (expression_at max_depth) (t ++ more)) h.1
-    ∙ ap (λ o. then_read o (λ r. Some (tree.Return r.0, r.1))) (value_some (expressions_by (expression_at max_depth)) e c.0 (h.0 ++ more) more (expressions_begin e h.0 more h.2) c.1)
+    ∙ ap (λ o. then_read o (λ r. Some (tree.Return r.0, r.1))) (value_some (expressions_by (expression_at max_depth) 1) e c.0 (h.0 ++ more) more (expressions_begin e h.0 more h.2) c.1)
 statement_complete (tree.Raise None) f more h ends =
     ap (λ t. statement_by (expression_at max_depth) (t ++ more)) h ∙ ap (λ o. then_read o (λ r. Some (tree.Raise r.0, r.1))) (value_none (expression_at max_depth 1) more ends)
 statement_complete (tree.Raise (Some e)) f more h ends =
@@ -336,16 +429,17 @@ statement_complete (tree.For x over body other) f more h ends = absurd h
 statement_complete (tree.Try body cs other) f more h ends = absurd h
 statement_complete (tree.Finally body cs other last) f more h ends = absurd h
 
-expression_starts : (e : Expr) (f more : List Terminal) → IsExpression e f → starts (f ++ more) ≡ true
-expression_starts e f more h = starts_operand (f ++ more) (expression_begins max_depth 1 e f h more)
-
-target_starts : (x : Text) (s : Symbol) (f g whole more : List Terminal) → whole ≡ f ++ Sign s ∷ g → IsExpression (tree.Name x) f → starts (whole ++ more) ≡ true
-target_starts x s f g whole more is h = ap starts (ap (λ t. t ++ more) is ∙ append_assoc f (Sign s ∷ g) more) ∙ expression_starts (tree.Name x) f (Sign s ∷ (g ++ more)) h
+target_starts : (e : Expr) (s : Symbol) (f g whole more : List Terminal) → whole ≡ f ++ Sign s ∷ g → IsExpressions e f → starts (whole ++ more) ≡ true
+target_starts e s f g whole more is h =
+    ap starts (ap (λ t. t ++ more) is ∙ append_assoc f (Sign s ∷ g) more) ∙ starts_operand (f ++ Sign s ∷ (g ++ more)) (expressions_begin e f (Sign s ∷ (g ++ more)) h)
 
 pub small_starts : (s : Stmt) (f more : List Terminal) → Small s f → starts (f ++ more) ≡ true
 small_starts (tree.Evaluate e) f more h = starts_operand (f ++ more) (expressions_begin e f more h)
-small_starts (tree.Assign (tree.Named x) e) f more h = target_starts x token.Equal h.0 h.1 f more h.2 h.3
-small_starts (tree.Augment (tree.Named x) op e) f more h = target_starts x (augmented_of op) h.0 h.1 f more h.2 h.3
+small_starts (tree.Assign targets e) f more h =
+    let r = equated targets e h.0 h.1 h.3 h.4 in starts_operand (f ++ more) (ap (λ t. begins (t ++ more)) h.2 ∙ equated_begins r.0 e (h.0 ++ h.1) more r.3)
+small_starts (tree.Augment x op e) f more h = target_starts h.3.0 (augmented_of op) h.0 h.1 f more h.2 h.3.2
+small_starts (tree.AugmentItem a b op e) f more h = target_starts h.3.0 (augmented_of op) h.0 h.1 f more h.2 h.3.2
+small_starts (tree.Delete a b) f more h = ap (λ t. starts (t ++ more)) h.1
 small_starts tree.Pass f more h = ap (λ t. starts (t ++ more)) h
 small_starts tree.Break f more h = ap (λ t. starts (t ++ more)) h
 small_starts tree.Continue f more h = ap (λ t. starts (t ++ more)) h

@@ -3,7 +3,11 @@ use Rattle.std.proofs.Common.{◌≡◌, ℕ, zero, suc, ◌-◌, ◌<◌, List,
 use Rattle.std.specs.Prelude.{nat_lt, if◌then◌else◌}
 use Rattle.si_semantics.specs.Tree.{Expr, Stmt}
 use Rattle.si_semantics.specs.Grammar.{Terminal}
-use Rattle.si_parse.specs.inner.Reading.{Parser, Step, then_read, strength_at, continuation_at, closing, behind_item, separated_by, chain_from, chain_by, Parsed, many_by, extended_by, continued_by, expression_by, expression_at, header_at, simple_line, block_from, block_at}
+use Rattle.si_parse.specs.inner.Lookahead.{Step, strength_at, continuation_at, header_at}
+use Rattle.si_parse.specs.inner.Lists.{then_read, closing, behind_item, separated_by, chain_from, chain_by, Parsed, many_by}
+use Rattle.si_parse.specs.inner.Expressions.{Parser, extended_by, continued_by, expression_by, expression_at}
+use Rattle.si_parse.specs.inner.Statements.{simple_line}
+use Rattle.si_parse.specs.inner.Lines.{block_from, block_at}
 
 pub expression_at_zero : (b l : ℕ) (ts : List Terminal) → b ≡ 0 → expression_at b l ts ≡ None
 unfolding expression_at

@@ -4,7 +4,8 @@ use Rattle.si_semantics.specs.Grammar.{Terminal, terminal, value_of_str}
 use Rattle.si_token.specs.declared.token.TokenKind.{TokenKind}
 use Rattle.si_token.specs.declared.token.TokenKind.TheVariants as kind
 use Rattle.si_token.specs.Views.{kind_of}
-use Rattle.si_parse.specs.inner.Reading.{strings_by, then_read}
+use Rattle.si_parse.specs.inner.Lists.{then_read}
+use Rattle.si_parse.specs.inner.Expressions.{strings_by}
 
 other : (text : List ℕ) (k : TokenKind) (bytes : List ℕ) (rest : List Terminal) → (k ≡ kind.Str → ⊥) → strings_by text (terminal (kind_of k) bytes ∷ rest) ≡ Some (text, terminal (kind_of k) bytes ∷ rest)
 other text kind.Str bytes rest differs = absurd (differs refl)

@@ -6,10 +6,19 @@ use Rattle.si_semantics.specs.Value.{Text}
 use Rattle.si_semantics.specs.Tree as tree
 use Rattle.si_semantics.specs.Tree.{Expr, Stmt, Stmts, Target}
 use Rattle.si_semantics.specs.Tokens as token
-use Rattle.si_semantics.specs.Grammar.{Terminal, DEDENT, Branch, stmts_of, Clause, clauses_of, Sign, Word}
+use Rattle.si_semantics.specs.Grammar.{Terminal, DEDENT, Branch, stmts_of, Clause, clauses_of, Sign, Word, target_of}
 use Rattle.si_parse.specs.declared.fault.ParseFault.{ParseFault}
 use Rattle.si_parse.specs.declared.fault.ParseFault.TheVariants.{Syntax, NoMemory}
-use Rattle.si_parse.specs.inner.Reading.{Parser, Step, Continuation, strength_of, then_read, strength_at, continuation_at, closing, behind_item, separated_by, chain_from, chain_by, Parsed, many_by, extended_by, continued_by, rest_of, name_at, and_name, next_name_by, Header, header_at, LineParser, with_branch, branch_by, over_by, elif_by, otherwise_by, joined_while, while_by, target_by, joined_for, for_by, parameters_by, defined_by, define_by, suite_by, handlers_by, finally_from, try_by, after_catch, with_clause, clause_by, catch_by, handled_from, tried, compound_by, with_compound, block_from, block_at, after}
+use Rattle.si_parse.specs.inner.Lookahead.{Step, Continuation, strength_of, strength_at, continuation_at, rest_of, Header, header_at, after}
+use Rattle.si_parse.specs.inner.Lists.{then_read, closing, behind_item, separated_by, chain_from, chain_by, Parsed, many_by}
+use Rattle.si_parse.specs.inner.Names.{name_at, and_name, next_name_by, parameters_by}
+use Rattle.si_parse.specs.inner.Expressions.{Parser, extended_by, continued_by}
+use Rattle.si_parse.specs.inner.Unbracketed.{expressions_by}
+use Rattle.si_parse.specs.inner.Statements.{LineParser, Chained, chained_from, chained_by}
+use Rattle.si_parse.specs.inner.Blocks.{with_branch, branch_by, over_by, elif_by, otherwise_by, joined_while, while_by, joined_for, for_by, defined_by, define_by, suite_by}
+use Rattle.si_parse.specs.inner.Targets.{target_by}
+use Rattle.si_parse.specs.inner.Handlers.{handlers_by, finally_from, try_by, after_catch, with_clause, clause_by, catch_by, handled_from, tried}
+use Rattle.si_parse.specs.inner.Lines.{compound_by, with_compound, block_from, block_at}
 use Rattle.si_parse.specs.inner.Gives.{Fails}
 use Rattle.si_parse.proofs.Steps.{continued_by_step, separated_by_step, chain_by_step, many_by_step, block_at_step}
 
@@ -108,6 +117,12 @@ block_compound n body ts rest word s more positive is h =
 pub next_name_read : (xs : List Text) (ts rest : List Terminal) (x : Text) (more : List Terminal) → after (Sign token.Comma) ts ≡ Some rest → name_at rest ≡ Some (x, more) → next_name_by xs ts ≡ Some (xs ++ x ∷ [], more)
 next_name_read xs ts rest x more is h = ap (λ o. then_read o (λ rest. then_read (name_at rest) (and_name xs))) is ∙ ap (λ o. then_read o (and_name xs)) h
 
+-- one more target of an assignment
+pub chained_read : (sub : Parser) (b : Chained) (ts rest : List Terminal) (t : Target) (e : Expr) (d : ℕ) (more : List Terminal) → after (Sign token.Equal) ts ≡ Some rest → target_of b.1 ≡ Some t → expressions_by sub 1 rest ≡ Some (e, d, more)
+    → chained_by sub b ts ≡ Some ((b.0 ++ t ∷ [], e), more)
+chained_read sub b ts rest t e d more next is h =
+    ap (λ o. then_read o (λ rest. then_read (target_of b.1) (chained_from sub b rest))) next ∙ ap (λ o. then_read o (chained_from sub b rest)) is ∙ ap (λ o. then_read o (λ r. Some ((b.0 ++ t ∷ [], r.0), r.2))) h
+
 pub elif_read : (line : LineParser) (bs : List Branch) (ts rest : List Terminal) (b : Branch) (more : List Terminal) → after (Word token.ElifWord) ts ≡ Some rest → branch_by line rest ≡ Some (b, more) → elif_by line bs ts ≡ Some (bs ++ b ∷ [], more)
 elif_read line bs ts rest b more is h = ap (λ o. then_read o (λ rest. then_read (branch_by line rest) (with_branch bs))) is ∙ ap (λ o. then_read o (with_branch bs)) h
 
@@ -172,6 +187,10 @@ dedent_rest : (ts rest : List Terminal) → after DEDENT ts ≡ Some rest → re
 dedent_rest [] rest h = cc
 dedent_rest (DEDENT ∷ ts) rest h = cc
 dedent_rest (_ ∷ ts) rest h = cc
+
+pub many_over : {B : Type 0} (item : B → List Terminal → Option (B × List Terminal)) (ends : List Terminal → Bool) (k : ℕ) (b : B) (ts : List Terminal) → 0 < k → ends ts ≡ true → many_by item ends k b ts ≡ Some (b, ts)
+many_over item ends k b ts positive over =
+    many_by_step item ends k b ts positive ∙ ap (λ t. if t then Some (b, ts) else then_read (item b ts) (λ r. many_by item ends (k - 1) r.0 r.1)) over
 
 module _ {B : Type 0} (item : B → List Terminal → Option (B × List Terminal)) (ends : List Terminal → Bool) (k j : ℕ) (b : B) (ts : List Terminal) (one : k ≡ j + 1) (more : ends ts ≡ false) where
   many_turn : many_by item ends k b ts ≡ then_read (item b ts) (λ r. many_by item ends j r.0 r.1)

@@ -2,7 +2,7 @@
 
 ghost use Rattle.std.specs.Prelude.{◌≡◌, [], map, option_map, string_bytes};
 ghost use Rattle.si_syntax.specs.Trees.{expr_of};
-ghost use Rattle.si_parse.specs.inner.Reading.{named_at, passed_from};
+ghost use Rattle.si_parse.specs.inner.Expressions.{named_at, passed_from};
 ghost use Rattle.si_parse.specs.inner.Gives.{Gives, from, argument_of};
 
 use crate::fault::ParseFault;

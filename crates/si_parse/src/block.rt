@@ -2,7 +2,8 @@
 
 ghost use Rattle.std.specs.Prelude.{◌≡◌, ℕ, ◌+◌, ◌-◌, ◌*◌, ◌<◌, [], length, map, option_map, string_bytes};
 ghost use Rattle.si_syntax.specs.Trees.{expr_of, stmt_of, branch_of};
-ghost use Rattle.si_parse.specs.inner.Reading.{indented_by, suite_by, branch_by, over_by, elifs_by, otherwise_by, if_by, while_by, for_by, define_by, compound_by, block_at};
+ghost use Rattle.si_parse.specs.inner.Blocks.{indented_by, suite_by, branch_by, over_by, elifs_by, otherwise_by, if_by, while_by, for_by, define_by};
+ghost use Rattle.si_parse.specs.inner.Lines.{compound_by, block_at};
 ghost use Rattle.si_parse.specs.inner.Gives.{Gives, from, header_view};
 
 use crate::expression::expression;
@@ -185,7 +186,7 @@ fn over(
     requires { parts < 999 }
     ensures { Gives (λ x. (branch_of x.0, from tokens.now x.1)) result (over_by (block_at parts) (from tokens.now start)) }
 {
-    let (test, _, at) = expressions(alloc, tokens, start)?;
+    let (test, _, at) = expressions(alloc, EXPRESSION, tokens, start)?;
     let (body, end) = suite(alloc, parts, tokens, at)?;
     Ok((Branch { test, body }, end))
 }

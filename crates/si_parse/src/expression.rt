@@ -2,8 +2,10 @@
 
 ghost use Rattle.std.specs.Prelude.{◌≡◌, ℕ, ◌+◌, ◌-◌, ◌*◌, ◌<◌, ◌≤◌, [], map, length, option_map, string_bytes, IfOk};
 ghost use Rattle.si_semantics.specs.Grammar.{is_identity};
+ghost use Rattle.si_token.specs.Views.{symbol_of};
 ghost use Rattle.si_syntax.specs.Trees.{expr_of, link_of};
-ghost use Rattle.si_parse.specs.inner.Reading.{rest_of, within, strings_by, str_by, is_singleton, compared_by, operand_by, atom_by, unary_by, items_by, bracketed_by, continued_by, binary_by, attribute_by, call_of, call_by, subscript_by, compare_by, boolean_by, conditional_by, extended_by, argument_by, arguments_by, operands_by, links_by, expression_at};
+ghost use Rattle.si_parse.specs.inner.Lookahead.{rest_of};
+ghost use Rattle.si_parse.specs.inner.Expressions.{within, strings_by, str_by, is_singleton, compared_by, operand_by, atom_by, unary_by, items_by, bracketed_by, list_by, dict_by, pair_by, pairs_by, continued_by, binary_by, attribute_by, call_of, call_by, subscript_by, compare_by, boolean_by, conditional_by, extended_by, argument_by, arguments_by, operands_by, links_by, expression_at};
 ghost use Rattle.si_parse.specs.inner.Gives.{Gives, from, continuation_view, argument_of};
 
 use crate::argument::{Argument, named_at, passed};
@@ -100,7 +102,7 @@ fn operand(alloc: Global, parts: u32, level: u32, tokens: &[Token], at: usize) -
     }
 }
 
-// A name, a literal, a word that is one, or what stands in round brackets.
+// A name, a literal, a word that is one, or what stands in brackets.
 #[cycle(expressions)]
 fn atom(alloc: Global, parts: u32, tokens: &[Token], at: usize) -> Read
     requires { parts < 999 }
@@ -128,6 +130,8 @@ fn atom(alloc: Global, parts: u32, tokens: &[Token], at: usize) -> Read
         TokenKind::Keyword(Keyword::True) => Ok((Expr::Truth(true), 1, at + 1)),
         TokenKind::Keyword(Keyword::False) => Ok((Expr::Truth(false), 1, at + 1)),
         TokenKind::Symbol(Symbol::LeftParenthesis) => bracketed(alloc, parts, tokens, at + 1),
+        TokenKind::Symbol(Symbol::LeftBracket) => list(alloc, parts, tokens, at + 1),
+        TokenKind::Symbol(Symbol::LeftBrace) => dict(alloc, parts, tokens, at + 1),
         _ => Err(ParseFault::Syntax(token.span.line)),
     }
 }
@@ -157,7 +161,7 @@ fn unary(
     ))
 }
 
-// The expression or the tuple after an open bracket, up to the closed one.
+// The expression or the tuple after an open round bracket, up to the closed one.
 #[cycle(expressions)]
 fn bracketed(alloc: Global, parts: u32, tokens: &[Token], at: usize) -> Read
     requires { parts < 999 }
@@ -174,39 +178,119 @@ fn bracketed(alloc: Global, parts: u32, tokens: &[Token], at: usize) -> Read
     let Some(behind) = after(tokens, at, Symbol::Comma) else {
         return Err(ParseFault::Syntax(line_at(tokens, at)));
     };
-    let (values, depth, at) = items(alloc, parts, first, depth, tokens, behind)?;
+    let mut before = Vec::new(alloc);
+    before.push(first)?;
+    let bracket = Symbol::RightParenthesis;
+    let (values, depth, at) = items(alloc, parts, bracket, before, depth, tokens, behind)?;
     Ok((Expr::Tuple(values), depth + 1, at))
 }
 
-// The items of a tuple, of which the first one was read with the comma after it, up to the closed bracket, and the
-// greatest depth among them.
+// The list after an open bracket, up to the closed one.
+#[cycle(expressions)]
+fn list(alloc: Global, parts: u32, tokens: &[Token], at: usize) -> Read
+    requires { parts < 999 }
+    ensures reads { Gives (λ x. (expr_of x.0, x.1, from tokens.now x.2)) result (list_by (expression_at parts) (from tokens.now at)) }
+    ensures shallow { IfOk result (λ x. x.1 ≤ parts + 1) }
+{
+    let none = Vec::new(alloc);
+    let (values, depth, at) = items(alloc, parts, Symbol::RightBracket, none, 0, tokens, at)?;
+    Ok((Expr::ListDisplay(values), depth + 1, at))
+}
+
+// The dict after an open brace, up to the closed one.
+#[cycle(expressions)]
+fn dict(alloc: Global, parts: u32, tokens: &[Token], at: usize) -> Read
+    requires { parts < 999 }
+    ensures reads { Gives (λ x. (expr_of x.0, x.1, from tokens.now x.2)) result (dict_by (expression_at parts) (from tokens.now at)) }
+    ensures shallow { IfOk result (λ x. x.1 ≤ parts + 1) }
+{
+    let (values, depth, at) = pairs(alloc, parts, tokens, at)?;
+    Ok((Expr::DictDisplay(values), depth + 1, at))
+}
+
+// A key and its value, the greatest depth of both, and the place after them.
+#[cycle(expressions)]
+fn pair(
+    alloc: Global,
+    parts: u32,
+    tokens: &[Token],
+    at: usize,
+) -> Result<(Expr, Expr, u32, usize), ParseFault>
+    requires { parts < 999 }
+    ensures reads { Gives (λ x. ((expr_of x.0, expr_of x.1), x.2, from tokens.now x.3)) result (pair_by (expression_at parts) (from tokens.now at)) }
+    ensures shallow { IfOk result (λ x. x.2 ≤ parts) }
+{
+    let (key, key_depth, at) = expression(alloc, parts, EXPRESSION, tokens, at)?;
+    let Some(behind) = after(tokens, at, Symbol::Colon) else {
+        return Err(ParseFault::Syntax(line_at(tokens, at)));
+    };
+    let (value, value_depth, at) = expression(alloc, parts, EXPRESSION, tokens, behind)?;
+    Ok((key, value, key_depth.max(value_depth), at))
+}
+
+// The keys and values after an open brace by turns, up to the closed one, and the greatest depth among them.
+#[cycle(expressions)]
+#[tactic(auto, using(crate::proofs::Steps::separated_by_zero))]
+fn pairs(
+    alloc: Global,
+    parts: u32,
+    tokens: &[Token],
+    start: usize,
+) -> Result<(Vec<Expr>, u32, usize), ParseFault>
+    requires { parts < 999 }
+    ensures reads { Gives (λ x. ((map expr_of x.0.items, x.1), from tokens.now x.2)) result (pairs_by (expression_at parts) (from tokens.now start)) }
+    ensures shallow { IfOk result (λ x. x.1 ≤ parts) }
+{
+    if let Some(behind) = after(tokens, start, Symbol::RightBrace) {
+        return Ok((Vec::new(alloc), 0, behind));
+    }
+    let mut values = Vec::new(alloc);
+    let mut depth: u32 = 0;
+    let mut at = start;
+    for _turn in start..tokens.len() {
+        let (key, value, pair_depth, behind) = pair(alloc, parts, tokens, at)?;
+        values.push(key)?;
+        values.push(value)?;
+        depth = depth.max(pair_depth);
+        if let Some(end) = after_items(tokens, behind, Symbol::RightBrace) {
+            return Ok((values, depth, end));
+        }
+        let Some(more) = after(tokens, behind, Symbol::Comma) else {
+            return Err(ParseFault::Syntax(line_at(tokens, behind)));
+        };
+        at = more;
+    }
+    Err(ParseFault::Syntax(line_at(tokens, at)))
+}
+
+// The items of a tuple or a list behind those before, up to the closed bracket, and the greatest depth among them.
 #[cycle(expressions)]
 #[tactic(auto, using(crate::proofs::Steps::separated_by_zero))]
 fn items(
     alloc: Global,
     parts: u32,
-    first: Expr,
-    first_depth: u32,
+    bracket: Symbol,
+    before: Vec<Expr>,
+    before_depth: u32,
     tokens: &[Token],
     start: usize,
 ) -> Result<(Vec<Expr>, u32, usize), ParseFault>
     requires limit { parts < 999 }
-    requires shallow { first_depth ≤ parts }
-    ensures reads { Gives (λ x. ((map expr_of x.0.items, x.1), from tokens.now x.2)) result (items_by (expression_at parts) (expr_of first) first_depth (from tokens.now start)) }
+    requires shallow { before_depth ≤ parts }
+    ensures reads { Gives (λ x. ((map expr_of x.0.items, x.1), from tokens.now x.2)) result (items_by (expression_at parts) (symbol_of bracket) (map expr_of before.items, before_depth) (from tokens.now start)) }
     ensures shallow { IfOk result (λ x. x.1 ≤ parts) }
 {
-    let mut values = Vec::new(alloc);
-    values.push(first)?;
-    if let Some(behind) = after(tokens, start, Symbol::RightParenthesis) {
-        return Ok((values, first_depth, behind));
+    if let Some(behind) = after(tokens, start, bracket) {
+        return Ok((before, before_depth, behind));
     }
-    let mut depth = first_depth;
+    let mut values = before;
+    let mut depth = before_depth;
     let mut at = start;
     for _turn in start..tokens.len() {
         let (next, next_depth, behind) = expression(alloc, parts, EXPRESSION, tokens, at)?;
         values.push(next)?;
         depth = depth.max(next_depth);
-        if let Some(end) = after_items(tokens, behind) {
+        if let Some(end) = after_items(tokens, behind, bracket) {
             return Ok((values, depth, end));
         }
         let Some(more) = after(tokens, behind, Symbol::Comma) else {
@@ -482,7 +566,7 @@ fn arguments(
         let (next, next_depth, behind) = argument(alloc, parts, tokens, at)?;
         arguments.push(next)?;
         depth = depth.max(next_depth);
-        if let Some(end) = after_items(tokens, behind) {
+        if let Some(end) = after_items(tokens, behind, Symbol::RightParenthesis) {
             return Ok((arguments, depth, end));
         }
         let Some(more) = after(tokens, behind, Symbol::Comma) else {

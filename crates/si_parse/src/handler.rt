@@ -3,7 +3,8 @@
 ghost use Rattle.std.specs.Prelude.{◌≡◌, ℕ, ◌+◌, ◌-◌, ◌*◌, ◌<◌, [], length, map, option_map, string_bytes};
 ghost use Rattle.si_semantics.specs.Grammar.{stmts_of};
 ghost use Rattle.si_syntax.specs.Trees.{expr_of, stmt_of, clause_of};
-ghost use Rattle.si_parse.specs.inner.Reading.{caught_by, clause_by, catches_by, bare_by, handlers_by, try_by, block_at};
+ghost use Rattle.si_parse.specs.inner.Handlers.{caught_by, clause_by, catches_by, bare_by, handlers_by, try_by};
+ghost use Rattle.si_parse.specs.inner.Lines.{block_at};
 ghost use Rattle.si_parse.specs.inner.Gives.{Gives, from};
 
 use crate::block::{otherwise, suite};

@@ -4,7 +4,11 @@ ghost use Rattle.std.specs.Prelude.{◌≡◌, ℕ, ◌+◌, ◌<◌, ◌≤◌,
 ghost use Rattle.si_semantics.specs.Grammar.{terminal_of, Sign, Word, NEWLINE, INDENT, DEDENT};
 ghost use Rattle.si_semantics.specs.Tokens as token;
 ghost use Rattle.si_token.specs.Views.{keyword_of, symbol_of, token_of};
-ghost use Rattle.si_parse.specs.inner.Reading.{after, after_boolean, after_catch, after_comma, after_name, after_import, after_from, after_interpreters, import_at, closing, ends_items, ends_small, header_at, past_comma};
+ghost use Rattle.si_parse.specs.inner.Lookahead.{after, after_boolean, header_at};
+ghost use Rattle.si_parse.specs.inner.Lists.{closing};
+ghost use Rattle.si_parse.specs.inner.Unbracketed.{after_comma, ends_items, past_comma};
+ghost use Rattle.si_parse.specs.inner.Statements.{after_name, after_import, after_from, after_interpreters, import_at, ends_small};
+ghost use Rattle.si_parse.specs.inner.Handlers.{after_catch};
 ghost use Rattle.si_parse.specs.inner.Gives.{from, header_view};
 
 use si_plain::{BooleanOperator, ModuleName};
@@ -160,12 +164,12 @@ pub(crate) fn after_boolean(operator: BooleanOperator, tokens: &[Token], at: usi
 }
 
 // The place after a closed bracket, before which a comma may stand.
-pub(crate) fn after_items(tokens: &[Token], at: usize) -> Option<usize>
-    ensures { option_map (from tokens.now) result ≡ closing (after (Sign token.Comma)) (after (Sign token.RightParenthesis)) (from tokens.now at) }
+pub(crate) fn after_items(tokens: &[Token], at: usize, bracket: Symbol) -> Option<usize>
+    ensures { option_map (from tokens.now) result ≡ closing (after (Sign token.Comma)) (after (Sign (symbol_of bracket))) (from tokens.now at) }
 {
     match after(tokens, at, Symbol::Comma) {
-        Some(behind) => after(tokens, behind, Symbol::RightParenthesis),
-        None => after(tokens, at, Symbol::RightParenthesis),
+        Some(behind) => after(tokens, behind, bracket),
+        None => after(tokens, at, bracket),
     }
 }
 
@@ -222,6 +226,7 @@ fn ends_items(tokens: &[Token], at: usize) -> bool
     match token.kind {
         TokenKind::Newline => true,
         TokenKind::Symbol(Symbol::Semicolon) | TokenKind::Symbol(Symbol::Colon) => true,
+        TokenKind::Symbol(Symbol::Equal) | TokenKind::Keyword(Keyword::In) => true,
         _ => false,
     }
 }

@@ -1,7 +1,7 @@
 // Names that stand in a row: those of a `global`, and parameters.
 
 ghost use Rattle.std.specs.Prelude.{◌≡◌, [], map, option_map, string_bytes};
-ghost use Rattle.si_parse.specs.inner.Reading.{name_at, names_by, listed_by, parameters_by};
+ghost use Rattle.si_parse.specs.inner.Names.{name_at, names_by, listed_by, parameters_by};
 ghost use Rattle.si_parse.specs.inner.Gives.{Gives, from};
 
 use crate::fault::ParseFault;
@@ -63,7 +63,7 @@ fn listed(alloc: Global, tokens: &[Token], start: usize) -> Names
     for _turn in start..tokens.len() {
         let (next, behind) = name(alloc, tokens, at)?;
         names.push(next)?;
-        if let Some(end) = after_items(tokens, behind) {
+        if let Some(end) = after_items(tokens, behind, Symbol::RightParenthesis) {
             return Ok((names, end));
         }
         let Some(more) = after(tokens, behind, Symbol::Comma) else {

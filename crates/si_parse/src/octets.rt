@@ -2,7 +2,7 @@
 
 ghost use Rattle.std.specs.Prelude.{◌≡◌, [], ◌++◌, OnOk};
 ghost use Rattle.si_parse.specs.inner.Gives.{Gives, from};
-ghost use Rattle.si_parse.specs.inner.Reading.{octets_by, bytes_by};
+ghost use Rattle.si_parse.specs.inner.Expressions.{octets_by, bytes_by};
 
 use crate::fault::ParseFault;
 use crate::literal::bytes_value;

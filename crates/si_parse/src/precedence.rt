@@ -3,7 +3,8 @@
 ghost use Rattle.std.specs.Prelude.{◌≡◌, ◌∷◌, option_map, IfSome};
 ghost use Rattle.si_semantics.specs.Grammar.{Word, left_level, right_level, prefix_level, item_level};
 ghost use Rattle.si_token.specs.Views.{symbol_of, keyword_of};
-ghost use Rattle.si_parse.specs.inner.Reading.{role_of, continuation_at, strength_of, rest_of, prefix_at, comparison_symbol, comparison_at};
+ghost use Rattle.si_parse.specs.inner.Lookahead.{role_of, continuation_at, strength_of, rest_of};
+ghost use Rattle.si_parse.specs.inner.Expressions.{prefix_at, comparison_symbol, comparison_at};
 ghost use Rattle.si_parse.specs.inner.Gives.{from, continuation_view};
 
 use crate::lookahead::{after_word, token_at};

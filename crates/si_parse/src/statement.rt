@@ -4,7 +4,10 @@ ghost use Rattle.std.specs.Prelude.{◌≡◌, ℕ, ◌+◌, ◌-◌, length, ma
 ghost use Rattle.si_token.specs.Views.{symbol_of};
 ghost use Rattle.si_semantics.specs.Grammar.{max_depth};
 ghost use Rattle.si_syntax.specs.Trees.{expr_of, stmt_of};
-ghost use Rattle.si_parse.specs.inner.Reading.{assignment_symbol, assignment_at, word_statement, rest_of, expression_at, spelled_by, returned_by, raised_by, global_by, statement_by, line_by, is_end, module_by};
+ghost use Rattle.si_parse.specs.inner.Lookahead.{rest_of};
+ghost use Rattle.si_parse.specs.inner.Expressions.{expression_at};
+ghost use Rattle.si_parse.specs.inner.Statements.{assignment_symbol, assignment_at, word_statement, spelled_by, assigned_by, augmented_by, deleted_by, returned_by, raised_by, global_by, statement_by, line_by};
+ghost use Rattle.si_parse.specs.inner.Lines.{is_end, module_by};
 ghost use Rattle.si_parse.specs.inner.Gives.{Gives, from};
 
 use crate::block::block;
@@ -13,11 +16,11 @@ use crate::expressions::expressions;
 use crate::fault::ParseFault;
 use crate::lookahead::{after, after_line, after_word, ends_small, import_at, line_at, token_at};
 use crate::name::names;
-use crate::precedence::EXPRESSION;
+use crate::precedence::{EXPRESSION, FACTOR};
 use crate::target::as_target;
 use si_plain::BinaryOperator;
 use si_plain::limits::{MAX_EXPRESSION_DEPTH, MAX_NESTING};
-use si_syntax::{Assign, Augment, Stmt};
+use si_syntax::{Assign, Augment, AugmentItem, Expr, Item, Stmt};
 use si_token::{Keyword, Symbol, Token, TokenKind};
 use std::alloc::Global;
 
@@ -74,24 +77,80 @@ fn word_statement(tokens: &[Token], at: usize) -> Option<(Stmt, usize)>
 fn spelled(alloc: Global, tokens: &[Token], start: usize) -> Result<(Stmt, usize), ParseFault>
     ensures { Gives (λ x. (stmt_of x.0, from tokens.now x.1)) result (spelled_by (expression_at max_depth) (from tokens.now start)) }
 {
-    let (first, _, at) = expressions(alloc, tokens, start)?;
-    let Some((operator, behind)) = assignment_at(tokens, at) else {
-        return Ok((Stmt::Evaluate(first), at));
-    };
-    let Some(target) = as_target(first) else {
-        return Err(ParseFault::Syntax(line_at(tokens, at)));
-    };
-    let (value, _, end) = expressions(alloc, tokens, behind)?;
-    match operator {
-        None => Ok((Stmt::Assign(Assign { target, value }), end)),
-        Some(operator) => {
+    let (first, _, at) = expressions(alloc, EXPRESSION, tokens, start)?;
+    match assignment_at(tokens, at) {
+        None => Ok((Stmt::Evaluate(first), at)),
+        Some((None, _)) => assigned(alloc, first, tokens, at),
+        Some((Some(operator), behind)) => augmented(alloc, first, operator, tokens, behind),
+    }
+}
+
+// The assignment to an expression, from the place of its `=`, and the place after it.
+#[tactic(auto, using(crate::proofs::Steps::many_by_zero, crate::proofs::Steps::many_by_step))]
+fn assigned(
+    alloc: Global,
+    first: Expr,
+    tokens: &[Token],
+    start: usize,
+) -> Result<(Stmt, usize), ParseFault>
+    ensures { Gives (λ x. (stmt_of x.0, from tokens.now x.1)) result (assigned_by (expression_at max_depth) (expr_of first) (from tokens.now start)) }
+{
+    let mut targets = Vec::new(alloc);
+    let mut value = first;
+    let mut at = start;
+    for _turn in start..tokens.len() {
+        let Some(behind) = after(tokens, at, Symbol::Equal) else {
+            return Ok((Stmt::Assign(Assign { targets, value }), at));
+        };
+        let target = as_target(alloc, value, line_at(tokens, at))?;
+        let (next, _, end) = expressions(alloc, EXPRESSION, tokens, behind)?;
+        targets.push(target)?;
+        value = next;
+        at = end;
+    }
+    Err(ParseFault::Syntax(line_at(tokens, at)))
+}
+
+// The augmented assignment to an expression, from after its sign, and the place after it.
+fn augmented(
+    alloc: Global,
+    target: Expr,
+    operator: BinaryOperator,
+    tokens: &[Token],
+    start: usize,
+) -> Result<(Stmt, usize), ParseFault>
+    ensures { Gives (λ x. (stmt_of x.0, from tokens.now x.1)) result (augmented_by (expression_at max_depth) (expr_of target) operator (from tokens.now start)) }
+{
+    let (value, _, end) = expressions(alloc, EXPRESSION, tokens, start)?;
+    match target {
+        Expr::Name(name) => {
             let statement = Augment {
-                target,
+                name,
                 operator,
                 value,
             };
             Ok((Stmt::Augment(statement), end))
         }
+        Expr::Subscript(object, index) => {
+            let statement = AugmentItem {
+                item: Item { object, index },
+                operator,
+                value,
+            };
+            Ok((Stmt::AugmentItem(statement), end))
+        }
+        _ => Err(ParseFault::Syntax(line_at(tokens, start))),
+    }
+}
+
+// The statement from after its `del`.
+fn deleted(alloc: Global, tokens: &[Token], start: usize) -> Result<(Stmt, usize), ParseFault>
+    ensures { Gives (λ x. (stmt_of x.0, from tokens.now x.1)) result (deleted_by (expression_at max_depth) (from tokens.now start)) }
+{
+    let (target, _, end) = expression(alloc, MAX_EXPRESSION_DEPTH, FACTOR, tokens, start)?;
+    match target {
+        Expr::Subscript(object, index) => Ok((Stmt::Delete(Item { object, index }), end)),
+        _ => Err(ParseFault::Syntax(line_at(tokens, start))),
     }
 }
 
@@ -107,7 +166,7 @@ fn returned(
     if ends_small(tokens, at) {
         return Ok((Stmt::Return(line, None), at));
     }
-    let (value, _, end) = expressions(alloc, tokens, at)?;
+    let (value, _, end) = expressions(alloc, EXPRESSION, tokens, at)?;
     Ok((Stmt::Return(line, Some(value)), end))
 }
 
@@ -153,6 +212,9 @@ fn statement(alloc: Global, tokens: &[Token], start: usize) -> Result<(Stmt, usi
     }
     if let Some(behind) = after_word(tokens, start, Keyword::Raise) {
         return raised(alloc, tokens, behind);
+    }
+    if let Some(behind) = after_word(tokens, start, Keyword::Del) {
+        return deleted(alloc, tokens, behind);
     }
     spelled(alloc, tokens, start)
 }

@@ -8,7 +8,7 @@ use Rattle.si_semantics.specs.Grammar.{Terminal, terminal_of, stmts_of, Derives}
 use Rattle.si_token.specs.inner.Reading.{then_read}
 use Rattle.si_token.proofs.Runs.{then_some}
 use Rattle.si_parse.specs.Modules.{max_bytes}
-use Rattle.si_parse.specs.inner.Reading.{module_by}
+use Rattle.si_parse.specs.inner.Lines.{module_by}
 use Rattle.si_parse.proofs.Modules.{module_sound, module_complete}
 use Rattle.si_token.proofs.Texts.{some_inj}
 use Rattle.si_reading.specs.Taken.{IsTaken, IsJob}

@@ -1,4 +1,5 @@
 pub mod Apart
+pub mod Bound
 pub mod Declared
 pub mod Resolved
 pub mod Sets

@@ -34,8 +34,10 @@ two_texts f o names fs gs p q now later = ap (option_and_then f) now ∙ then_sa
 mutual
   stmt_is : (a : Stmt) (loop : Bool) (names : List (List Text)) → resolved a loop names ≡ behind names (functions_of a) (stmt_scoped (InText loop) a)
   stmt_is (tree.Evaluate e) loop names = none_behind names
-  stmt_is (tree.Assign t e) loop names = none_behind names
-  stmt_is (tree.Augment t o e) loop names = none_behind names
+  stmt_is (tree.Assign ts e) loop names = none_behind names
+  stmt_is (tree.Augment x o e) loop names = none_behind names
+  stmt_is (tree.AugmentItem a b o e) loop names = none_behind names
+  stmt_is (tree.Delete a b) loop names = none_behind names
   stmt_is tree.Pass loop names = none_behind names
   stmt_is (tree.If a b c) loop names =
       two_texts (resolved_all c loop) (resolved_all b loop names) names (functions_in b) (functions_in c) (stmts_scoped (InText loop) b) (stmts_scoped (InText loop) c) (stmts_are b loop names) (stmts_are c loop)

@@ -6,11 +6,11 @@ use Rattle.std.proofs.Math.Bool.{and_assoc, or-false}
 use Rattle.std.proofs.lemmas.List.{append-nil}
 use Rattle.si_semantics.specs.Value.{Text}
 use Rattle.si_semantics.specs.Tree as tree
-use Rattle.si_semantics.specs.Tree.{Expr, Stmt, Stmts, Clauses}
+use Rattle.si_semantics.specs.Tree.{Expr, Stmt, Target, Targets, Stmts, Clauses}
 use Rattle.si_semantics.specs.Text.{module_name}
-use Rattle.si_semantics.specs.Scope.{is_in, are_apart, are_distinct, with_new, names_of, names_of_value, name_in, bound_by, bound_in, bound_in_clauses, declared_by, declared_in, declared_in_clauses, used_by, used_in, used_in_clauses, declares_first, declare_first, clauses_declare_first, InText, InFunction, stmt_scoped, stmts_scoped, clauses_scoped}
+use Rattle.si_semantics.specs.Scope.{is_in, are_apart, are_distinct, with_new, names_of, names_of_value, name_in, bound_by_target, bound_by_targets, used_by_target, used_by_targets, bound_by, bound_in, bound_in_clauses, declared_by, declared_in, declared_in_clauses, used_by, used_in, used_in_clauses, declares_first, declare_first, clauses_declare_first, InText, InFunction, stmt_scoped, stmts_scoped, clauses_scoped}
 use Rattle.si_scope.specs.declared.seen.Seen.{Seen}
-use Rattle.si_scope.specs.inner.Walk.{with_names, using, binding_any, declaring, after, after_all, after_clauses, local_to}
+use Rattle.si_scope.specs.inner.Walk.{with_names, using, binding_target, binding_targets, binding_any, declaring, after, after_all, after_clauses, local_to}
 use Rattle.si_scope.proofs.Sets.{with_names-append}
 use Rattle.si_scope.proofs.Apart.{and_both, first_of, second_of, apart_nil, apart_cons, apart_front, apart_back, in_names, apart_names}
 use Rattle.si_scope.proofs.Declared.{seen_of}
@@ -173,19 +173,35 @@ behind_names ns us bs in_b ys h = in_b ys (second_of (are_apart ns ys) (are_apar
 name_first : (x : Text) (us bs : List Text) → Within bs us → Within (x ∷ bs) (x ∷ us)
 name_first x us bs in_b = in_both (x ∷ []) us (x ∷ []) bs (λ ys h. h) in_b
 
+-- in front of names that are used
+in_front : (us ns bs : List Text) → Within bs us → Within bs (us ++ ns)
+in_front us ns bs in_b ys h = in_b ys (first_of (are_apart us ys) (are_apart ns ys) (sym (apart_front us ns ys) ∙ h))
+
 two_suites : (n ub uc bb bc : List Text) → Within bb ub → Within bc uc → Within (bb ++ bc) ((n ++ ub) ++ uc)
 two_suites n ub uc bb bc in_b in_c = in_both (n ++ ub) uc bb bc (behind_names n ub bb in_b) in_c
 
 mutual
+  target_bound_apart : (t : Target) → Within (bound_by_target t) (used_by_target t)
+  target_bound_apart (tree.Named x) = λ ys h. h
+  target_bound_apart (tree.Item a b) = no_names (names_of a ++ names_of b)
+  target_bound_apart (tree.Unpack ts) = targets_bound_apart ts
+
+  targets_bound_apart : (ts : Targets) → Within (bound_by_targets ts) (used_by_targets ts)
+  targets_bound_apart tree.NoTargets = no_names []
+  targets_bound_apart (tree.MoreTargets t ts) = in_both (used_by_target t) (used_by_targets ts) (bound_by_target t) (bound_by_targets ts) (target_bound_apart t) (targets_bound_apart ts)
+
+mutual
   bound_apart : (a : Stmt) → Within (bound_by a) (used_by a)
   bound_apart (tree.Evaluate e) = no_names (names_of e)
-  bound_apart (tree.Assign (tree.Named x) e) = name_first x (names_of e) [] (no_names (names_of e))
-  bound_apart (tree.Augment (tree.Named x) o e) = name_first x (names_of e) [] (no_names (names_of e))
+  bound_apart (tree.Assign ts e) = in_front (used_by_targets ts) (names_of e) (bound_by_targets ts) (targets_bound_apart ts)
+  bound_apart (tree.Augment x o e) = name_first x (names_of e) [] (no_names (names_of e))
+  bound_apart (tree.AugmentItem a b o e) = no_names (names_of a ++ (names_of b ++ names_of e))
+  bound_apart (tree.Delete a b) = no_names (names_of a ++ names_of b)
   bound_apart tree.Pass = no_names []
   bound_apart (tree.If a b c) = two_suites (names_of a) (used_in b) (used_in c) (bound_in b) (bound_in c) (all_bound_apart b) (all_bound_apart c)
   bound_apart (tree.While a b c) = two_suites (names_of a) (used_in b) (used_in c) (bound_in b) (bound_in c) (all_bound_apart b) (all_bound_apart c)
-  bound_apart (tree.For (tree.Named x) a b c) =
-      name_first x ((names_of a ++ used_in b) ++ used_in c) (bound_in b ++ bound_in c)
+  bound_apart (tree.For t a b c) =
+      in_both (used_by_target t) ((names_of a ++ used_in b) ++ used_in c) (bound_by_target t) (bound_in b ++ bound_in c) (target_bound_apart t)
       (two_suites (names_of a) (used_in b) (used_in c) (bound_in b) (bound_in c) (all_bound_apart b) (all_bound_apart c))
   bound_apart tree.Break = no_names []
   bound_apart tree.Continue = no_names []
@@ -230,11 +246,39 @@ named : (s : Seen) (a : Option Expr) (y : Option Text) → binding_any y (using 
 named s a None = ap (λ u. using u s) (sym (append-nil (names_of_value a)))
 named s a (Some x) = ap (λ u. seen_of u s.declared (with_new s.locals s.declared (x ∷ []))) (sym (with_names-append s.used (names_of_value a) (x ∷ [])))
 
+-- names that are used behind others
+used_behind : (s : Seen) (n m b : List Text) → using m (seen_in s n [] b) ≡ seen_in s (n ++ m) [] b
+used_behind s n m b = ap (λ u. seen_of u s.declared (with_new s.locals s.declared b)) (sym (with_names-append s.used n m))
+
+mutual
+  -- what a target uses and binds
+  target_is : (t : Target) (s : Seen) → binding_target t s ≡ seen_in s (used_by_target t) [] (bound_by_target t)
+  target_is (tree.Named x) s = refl
+  target_is (tree.Item a b) s = used_behind s (names_of a) (names_of b) []
+  target_is (tree.Unpack ts) s = targets_are ts s
+
+  targets_are : (ts : Targets) (s : Seen) → binding_targets ts s ≡ seen_in s (used_by_targets ts) [] (bound_by_targets ts)
+  targets_are tree.NoTargets s = refl
+  targets_are (tree.MoreTargets t ts) s =
+      targets_are ts (binding_target t s) ∙ ap (λ x. seen_in x (used_by_targets ts) [] (bound_by_targets ts)) (target_is t s)
+      ∙ seen_both s (used_by_target t) [] (bound_by_target t) (used_by_targets ts) [] (bound_by_targets ts) (apart_nil (bound_by_target t))
+
+-- targets that are bound, and an expression after them
+targets_then : (s : Seen) (ts : Targets) (n : List Text) → using n (binding_targets ts s) ≡ seen_in s (used_by_targets ts ++ n) [] (bound_by_targets ts)
+targets_then s ts n = ap (using n) (targets_are ts s) ∙ used_behind s (used_by_targets ts) n (bound_by_targets ts)
+
+target_then : (s : Seen) (t : Target) (n : List Text) → using n (binding_target t s) ≡ seen_in s (used_by_target t ++ n) [] (bound_by_target t)
+target_then s t n = ap (using n) (target_is t s) ∙ used_behind s (used_by_target t) n (bound_by_target t)
+
 mutual
   stmt_is : (a : Stmt) (loop returns : Bool) (s : Seen) → after a loop returns s ≡ given s (used_by a) (declared_by a) (bound_by a) (declares_first a && stmt_scoped (InFunction loop returns) a)
   stmt_is (tree.Evaluate e) loop returns s = one_row s (names_of e) []
-  stmt_is (tree.Assign (tree.Named x) e) loop returns s = one_row s (x ∷ names_of e) (x ∷ [])
-  stmt_is (tree.Augment (tree.Named x) o e) loop returns s = one_row s (x ∷ names_of e) (x ∷ [])
+  stmt_is (tree.Assign ts e) loop returns s = ap Some (targets_then s ts (names_of e)) ∙ one_row s (used_by_targets ts ++ names_of e) (bound_by_targets ts)
+  stmt_is (tree.Augment x o e) loop returns s = one_row s (x ∷ names_of e) (x ∷ [])
+  stmt_is (tree.AugmentItem a b o e) loop returns s =
+      ap (λ t. Some (using (names_of e) t)) (used_behind s (names_of a) (names_of b) []) ∙ ap Some (used_behind s (names_of a ++ names_of b) (names_of e) [])
+      ∙ ap (λ u. Some (seen_in s u [] [])) (append_assoc (names_of a) (names_of b) (names_of e)) ∙ one_row s (names_of a ++ (names_of b ++ names_of e)) []
+  stmt_is (tree.Delete a b) loop returns s = ap Some (used_behind s (names_of a) (names_of b) []) ∙ one_row s (names_of a ++ names_of b) []
   stmt_is tree.Pass loop returns s = one_row s [] []
   stmt_is (tree.If a b c) loop returns s =
       suites_are (after_all c loop returns) (after_all b loop returns (using (names_of a) s)) s (names_of a) [] (used_in b) (declared_in b) (bound_in b) (used_in c) (declared_in c) (bound_in c)
@@ -244,11 +288,15 @@ mutual
       suites_are (after_all c loop returns) (after_all b true returns (using (names_of a) s)) s (names_of a) [] (used_in b) (declared_in b) (bound_in b) (used_in c) (declared_in c) (bound_in c)
       (declare_first b) (stmts_scoped (InFunction true returns) b) (declare_first c) (stmts_scoped (InFunction loop returns) c)
       (stmts_are b true returns (using (names_of a) s)) (stmts_are c loop returns) (no_names (names_of a)) (all_bound_apart b)
-  stmt_is (tree.For (tree.Named x) a b c) loop returns s =
-      let front = seen_in s (x ∷ names_of a) [] (x ∷ []) in
-      suites_are (after_all c loop returns) (after_all b true returns front) s (x ∷ names_of a) (x ∷ []) (used_in b) (declared_in b) (bound_in b) (used_in c) (declared_in c) (bound_in c)
+  stmt_is (tree.For t a b c) loop returns s =
+      let n = used_by_target t ++ names_of a in
+      let front = seen_in s n [] (bound_by_target t) in
+      ap (λ x. option_and_then (after_all c loop returns) (after_all b true returns x)) (target_then s t (names_of a))
+      ∙ suites_are (after_all c loop returns) (after_all b true returns front) s n (bound_by_target t) (used_in b) (declared_in b) (bound_in b) (used_in c) (declared_in c) (bound_in c)
       (declare_first b) (stmts_scoped (InFunction true returns) b) (declare_first c) (stmts_scoped (InFunction loop returns) c)
-      (stmts_are b true returns front) (stmts_are c loop returns) (name_first x (names_of a) [] (no_names (names_of a))) (all_bound_apart b)
+      (stmts_are b true returns front) (stmts_are c loop returns) (in_front (used_by_target t) (names_of a) (bound_by_target t) (target_bound_apart t)) (all_bound_apart b)
+      ∙ ap (λ u. given s u (declared_in b ++ declared_in c) (bound_by_target t ++ (bound_in b ++ bound_in c)) (declares_first (tree.For t a b c) && stmt_scoped (InFunction loop returns) (tree.For t a b c)))
+      (ap (λ u. u ++ used_in c) (append_assoc (used_by_target t) (names_of a) (used_in b)) ∙ append_assoc (used_by_target t) (names_of a ++ used_in b) (used_in c))
   stmt_is tree.Break loop returns s = ap (λ a. if a && loop then Some s else None) (sym (apart_nil s.used))
   stmt_is tree.Continue loop returns s = ap (λ a. if a && loop then Some s else None) (sym (apart_nil s.used))
   stmt_is (tree.Define f ps b) loop returns s = ap (λ a. if a && false then Some (seen_in s (f ∷ []) [] (f ∷ [])) else None) (sym (apart_nil s.used))

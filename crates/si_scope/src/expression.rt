@@ -34,6 +34,8 @@ pub(crate) fn use_names(expr: &Expr, used: &mut Names) -> Result<(), NoMemory>
             use_names(index, used)
         }
         Expr::Tuple(items) => use_all(items, used),
+        Expr::ListDisplay(items) => use_all(items, used),
+        Expr::DictDisplay(items) => use_all(items, used),
         Expr::Boolean(_, first, others) => {
             use_names(first, used)?;
             use_all(others, used)

@@ -8,7 +8,7 @@ ghost use Rattle.si_scope.specs.inner.Walk.{after, after_all, after_clauses, usi
 
 use crate::fault::{ScopeFault, allowed};
 use crate::seen::Seen;
-use si_syntax::{Assign, Branch, Clause, Finally, If, Stmt, Try, While};
+use si_syntax::{Branch, Clause, Finally, If, Stmt, Try, While};
 
 // Where statements of a function stand: in a loop of it or in none, and whether `return` may stand there.
 #[derive(Clone, Copy)]
@@ -52,8 +52,10 @@ fn see_stmt(stmt: &Stmt, place: Place, seen: &mut Seen) -> Result<(), ScopeFault
     match stmt {
         Stmt::Evaluate(expr) => Ok(seen.use_expr(expr)?),
         Stmt::Raise(value) => Ok(seen.use_value(value)?),
-        Stmt::Assign(Assign { target, value }) => Ok(seen.set(target, value)?),
-        Stmt::Augment(statement) => Ok(seen.set(&statement.target, &statement.value)?),
+        Stmt::Assign(statement) => Ok(seen.assign(statement)?),
+        Stmt::Augment(statement) => Ok(seen.augment(statement)?),
+        Stmt::AugmentItem(statement) => Ok(seen.augment_item(statement)?),
+        Stmt::Delete(item) => Ok(seen.use_item(item)?),
         Stmt::Pass => Ok(()),
         Stmt::If(statement) => see_if(statement, place, seen),
         Stmt::While(While { test, body, last }) => {

@@ -68,6 +68,8 @@ fn resolve_stmt(
         Stmt::Evaluate(_)
         | Stmt::Assign(_)
         | Stmt::Augment(_)
+        | Stmt::AugmentItem(_)
+        | Stmt::Delete(_)
         | Stmt::Pass
         | Stmt::Import(_, _)
         | Stmt::Raise(_) => Ok(()),

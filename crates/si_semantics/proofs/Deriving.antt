@@ -4,9 +4,9 @@ use Rattle.std.specs.Prelude.{pos}
 use Rattle.std.proofs.lemmas.List.{append-nil}
 use Rattle.si_semantics.specs.Value.{Text}
 use Rattle.si_semantics.specs.Tree as tree
-use Rattle.si_semantics.specs.Tree.{BinaryOperator, UnaryOperator, ComparisonOperator, Expr, Comparisons, Stmt, Stmts}
+use Rattle.si_semantics.specs.Tree.{BinaryOperator, UnaryOperator, ComparisonOperator, Expr, Exprs, Comparisons, Stmt, Target, Targets, Stmts}
 use Rattle.si_semantics.specs.Tokens as tokens
-use Rattle.si_semantics.specs.Grammar.{Terminal, NAME, NUMBER, Sign, Word, NEWLINE, INDENT, DEDENT, ENDMARKER, level_of, left_level, right_level, symbol_of, prefix_level, prefix_of, comparison_of, is_identity, value_of_int, Many, Link, links_of, Compares, Spells, max_depth, Small, Simple, Suite, Nests, max_nesting, Derives}
+use Rattle.si_semantics.specs.Grammar.{Terminal, NAME, NUMBER, Sign, Word, NEWLINE, INDENT, DEDENT, ENDMARKER, level_of, left_level, right_level, symbol_of, prefix_level, prefix_of, comparison_of, is_identity, value_of_int, items_of, exprs_of, Many, Following, Separated, Link, links_of, Compares, Spells, max_depth, max_item_depth, target_of, IsTarget, Targeted, augmented_of, Small, Simple, Suite, Nests, max_nesting, Derives}
 use Rattle.si_semantics.specs.Worked.Straight.{int, arguments, suite}
 
 -- ---- expressions
@@ -89,15 +89,125 @@ either h a b =
           );
     }
 
+-- an item of a subscription
+abbrev pub subscripted : {n l : ℕ} {a b : Expr} → l ≤ 18 → Expression n 18 a → Expression n 1 b → Expression (suc n) l (tree.Subscript a b)
+subscripted h a b =
+    record {
+      terminals = a.terminals ++ Sign tokens.LeftBracket ∷ (b.terminals ++ Sign tokens.RightBracket ∷ []);
+      spelled = inl (a.terminals, b.terminals, refl, h, a.spelled, b.spelled);
+    }
+
+-- what stands behind the first of expressions in a row: others, or none, or a last comma
+pub record Rest (n l : ℕ) (es : List Expr) : Type 0 where
+  pub terminals : List Terminal
+  pub spelled : Following (Spells n l) tokens.Comma es terminals
+
+abbrev pub no_rest : {n l : ℕ} → Rest n l []
+no_rest = record { terminals = []; spelled = inl refl }
+
+abbrev pub more_rest : {n l : ℕ} {e : Expr} {es : List Expr} → Expression n l e → Rest n l es → Rest n l (e ∷ es)
+more_rest e more =
+    record { terminals = Sign tokens.Comma ∷ (e.terminals ++ more.terminals); spelled = (e.terminals, more.terminals, refl, e.spelled, more.spelled) }
+
+-- expressions in a row
+pub record Row (n l : ℕ) (es : List Expr) : Type 0 where
+  pub terminals : List Terminal
+  pub spelled : Separated (Spells n l) tokens.Comma es terminals
+
+abbrev pub no_row : {n l : ℕ} → Row n l []
+no_row = record { terminals = []; spelled = refl }
+
+abbrev pub row : {n l : ℕ} {e : Expr} {es : List Expr} → Expression n l e → Rest n l es → Row n l (e ∷ es)
+row e more = record { terminals = e.terminals ++ more.terminals; spelled = (e.terminals, more.terminals, refl, e.spelled, more.spelled) }
+
+abbrev pub list_display : {n l : ℕ} {items : Exprs} → Row n 1 (items_of items) → Expression (suc n) l (tree.ListDisplay items)
+list_display r = record {
+  terminals = Sign tokens.LeftBracket ∷ (r.terminals ++ Sign tokens.RightBracket ∷ []);
+  spelled = inl (r.terminals, refl, r.spelled);
+}
+
+-- a dict of one pair, with a comma behind it
+abbrev pub one_pair : {n l : ℕ} {k v : Expr} → Expression n 1 k → Expression n 1 v → Expression (suc n) l (tree.DictDisplay (arguments (k ∷ v ∷ [])))
+one_pair {k = k} {v = v} key value =
+    let pair : List Terminal = key.terminals ++ Sign tokens.Colon ∷ value.terminals in
+    record {
+      terminals = Sign tokens.LeftBrace ∷ ((pair ++ Sign tokens.Comma ∷ []) ++ Sign tokens.RightBrace ∷ []);
+      spelled =
+          inl (
+            (k, v) ∷ [],
+            pair ++ Sign tokens.Comma ∷ [],
+            refl,
+            refl,
+            (pair, Sign tokens.Comma ∷ [], refl, (key.terminals, value.terminals, refl, key.spelled, value.spelled), inr refl),
+          );
+    }
+
+-- two items in brackets
+abbrev pub two_in_brackets : {n l : ℕ} {a b : Expr} → Expression n 1 a → Expression n 1 b → Expression (suc n) l (tree.Tuple (arguments (a ∷ b ∷ [])))
+two_in_brackets a b =
+    let r = row a (more_rest b no_rest) in
+    record {
+      terminals = Sign tokens.LeftParenthesis ∷ (r.terminals ++ Sign tokens.RightParenthesis ∷ []);
+      spelled = inl (r.terminals, refl, r.spelled);
+    }
+
+-- ---- targets
+
+pub record Aim (t : Target) : Type 0 where
+  pub terminals : List Terminal
+  pub spelled : IsTarget t terminals
+
+-- an expression that is a target, and two with a comma between them
+abbrev pub aim : {t : Target} {e : Expr} → target_of e ≡ Some t → Expression max_depth 1 e → Aim t
+aim {e = e} h x = record { terminals = x.terminals; spelled = (e, h, inl x.spelled) }
+
+abbrev pub two_aims : {t : Target} {a b : Expr} → target_of (tree.Tuple (exprs_of (a ∷ b ∷ []))) ≡ Some t → Expression max_item_depth 1 a
+    → Expression max_item_depth 1 b
+    → Aim t
+two_aims {a = a} {b = b} h x y =
+    let r = row x (more_rest y no_rest) in
+    record { terminals = r.terminals; spelled = (tree.Tuple (exprs_of (a ∷ b ∷ [])), h, inr (a ∷ b ∷ [], refl, lit< tt, r.spelled)) }
+
+-- targets, each with `=` behind it
+pub record Aims (ts : Targets) : Type 0 where
+  pub terminals : List Terminal
+  pub spelled : Targeted ts terminals
+
+abbrev pub one_aim : {t : Target} → Aim t → Aims (tree.only t)
+one_aim a = record { terminals = a.terminals ++ Sign tokens.Equal ∷ []; spelled = (a.terminals, refl, a.spelled) }
+
+abbrev pub more_aims : {t u : Target} {us : Targets} → Aim t → Aims (tree.MoreTargets u us) → Aims (tree.MoreTargets t (tree.MoreTargets u us))
+more_aims a more =
+    record {
+      terminals = (a.terminals ++ Sign tokens.Equal ∷ []) ++ more.terminals;
+      spelled = (a.terminals ++ Sign tokens.Equal ∷ [], more.terminals, refl, (a.terminals, refl, a.spelled), more.spelled);
+    }
+
 -- ---- statements
 
 pub record Statement (s : Stmt) : Type 0 where
   pub terminals : List Terminal
   pub spelled : Small s terminals
 
-abbrev pub assigned : {e : Expr} (y : Text) → Expression max_depth 1 e → Statement (tree.Assign (tree.Named y) e)
+abbrev pub assigned : {e : Expr} (y : Text) → Expression max_depth 1 e → Statement (tree.Assign (tree.only (tree.Named y)) e)
 assigned y e =
-    record { terminals = NAME y ∷ (Sign tokens.Equal ∷ e.terminals); spelled = (NAME y ∷ [], e.terminals, refl, inl refl, inl e.spelled) }
+    record {
+      terminals = NAME y ∷ (Sign tokens.Equal ∷ e.terminals);
+      spelled = (NAME y ∷ Sign tokens.Equal ∷ [], e.terminals, refl, (NAME y ∷ [], refl, (tree.Name y, refl, inl (inl refl))), inl e.spelled);
+    }
+
+abbrev pub assigned_to : {ts : Targets} {e : Expr} → Aims ts → Expression max_depth 1 e → Statement (tree.Assign ts e)
+assigned_to aims e = record { terminals = aims.terminals ++ e.terminals; spelled = (aims.terminals, e.terminals, refl, aims.spelled, inl e.spelled) }
+
+abbrev pub augmented : {a b e : Expr} (op : BinaryOperator) → Aim (tree.Item a b) → Expression max_depth 1 e → Statement (tree.AugmentItem a b op e)
+augmented op a e =
+    record {
+      terminals = a.terminals ++ Sign (augmented_of op) ∷ e.terminals;
+      spelled = (a.terminals, e.terminals, refl, a.spelled, inl e.spelled);
+    }
+
+abbrev pub deleted : {a b : Expr} → Expression max_depth 18 (tree.Subscript a b) → Statement (tree.Delete a b)
+deleted e = record { terminals = Word tokens.DelWord ∷ e.terminals; spelled = (e.terminals, refl, e.spelled) }
 
 abbrev pub evaluated : {e : Expr} → Expression max_depth 1 e → Statement (tree.Evaluate e)
 evaluated e = record { terminals = e.terminals; spelled = inl e.spelled }
@@ -211,6 +321,30 @@ loop {e = e} {s = s} test body =
               [],
               ap (λ l. Word tokens.WhileWord ∷ l) (sym (append-nil (test.terminals ++ body.terminals))),
               (test.terminals, body.terminals, refl, test.spelled, body.spelled),
+              inl (refl, refl),
+            ),
+          );
+    }
+
+-- a `for` over two targets with a comma between them, with no other suite
+abbrev pub over_two : {n : ℕ} {t : Target} {a b e : Expr} {s : Stmt} → target_of (tree.Tuple (exprs_of (a ∷ b ∷ []))) ≡ Some t
+    → Expression max_item_depth 18 a → Expression max_item_depth 18 b → Expression max_depth 1 e → Suited n s
+    → Nested (suc n) (tree.For t e (suite (s ∷ [])) tree.NoStmts)
+over_two {t = t} {a = a} {b = b} {e = e} {s = s} h x y gone body =
+    let r = row x (more_rest y no_rest) in
+    record {
+      terminals = Word tokens.ForWord ∷ (r.terminals ++ Word tokens.InWord ∷ ((gone.terminals ++ body.terminals) ++ []));
+      spelled =
+          inr (
+            tree.For t e (suite (s ∷ [])) tree.NoStmts,
+            refl,
+            (
+              r.terminals,
+              gone.terminals ++ body.terminals,
+              [],
+              refl,
+              (tree.Tuple (exprs_of (a ∷ b ∷ [])), h, inr (a ∷ b ∷ [], refl, lit< tt, r.spelled)),
+              (gone.terminals, body.terminals, refl, inl gone.spelled, body.spelled),
               inl (refl, refl),
             ),
           );

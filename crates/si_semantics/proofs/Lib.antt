@@ -1,4 +1,5 @@
 pub mod Growing
+pub mod Further
 pub mod Worked
 pub mod WorkedFunctions
 pub mod WorkedExceptions
@@ -8,6 +9,9 @@ pub mod WorkedBuiltIns
 pub mod WorkedSequences
 pub mod WorkedBytes
 pub mod WorkedTuples
+pub mod WorkedLists
+pub mod WorkedTargets
+pub mod WorkedDicts
 pub mod WorkedAttributes
 pub mod WorkedModule
 pub mod WorkedScope
@@ -24,4 +28,5 @@ pub mod Rows
 pub mod Journals
 pub mod Cutting
 pub mod Deriving
+pub mod NotTargets
 pub mod WorkedGrammar

@@ -2,15 +2,18 @@
 use Rattle.std.proofs.Common.{◌≡◌, ℕ, zero, suc, List, [], ◌∷◌, ◌++◌, length, Bool, true, false, ◌&&◌, Option, Some, None, refl, subst}
 use Rattle.std.specs.Prelude.{nat_eq, slice_get}
 use Rattle.si_semantics.specs.Value.{Text, Value, Nothing, Truth, Int, Str, Bytes, Provided, Function, Range, Tuple, Class, Module, Queue, Interpreter, Exec, Address}
-use Rattle.si_semantics.specs.Tree.{BooleanOperator, Expr, Exprs, Comparisons, Stmt, Stmts, Clauses, functions_of, functions_in, functions_in_clauses}
+use Rattle.si_semantics.specs.Tree.{BooleanOperator, Expr, Exprs, Comparisons, Target, Targets, count_of_targets, Stmt, Stmts, Clauses, functions_of, functions_in, functions_in_clauses}
 use Rattle.si_semantics.specs.Tree as tree
 use Rattle.si_semantics.specs.World.{Request, Answer, Replied, Got, Failed, Wants, Ran, Gave, Threw, Asked}
-use Rattle.si_semantics.specs.Operations.{exception, tuple_within, operate, operate_unary, is_true, compare, load_global, load_local, call_provided, call_by_name, not_callable, wrong_arguments, too_deep, catches, Iterator, iterator_of, Next, Item, Exhausted, Refuses, next_item}
+use Rattle.si_semantics.specs.Operations.{exception, tuple_within, list_within, operate, operate_unary, is_true, compare, load_global, load_local, call_provided, call_by_name, not_callable, wrong_arguments, too_deep, catches, Iterator, iterator_of, Next, Item, Exhausted, Refuses, next_item}
 use Rattle.si_semantics.specs.Replies.{reply}
 use Rattle.si_semantics.specs.Subscription.{subscript}
+use Rattle.si_semantics.specs.Containers.{dict_of, set_item, delete_item, augment, unpacked}
+use Rattle.si_plain.specs.declared.kind.Kind.{Kind}
+use Rattle.std.specs.Prelude as prelude
 use Rattle.si_semantics.specs.Attributes.{Method, attribute, called, method_of, call_method}
 use Rattle.si_semantics.specs.Text.{module_name}
-use Rattle.si_semantics.specs.Meaning.{State, Leave, Raises, Returns, Breaks, Continues, Result, Gives, Leaves, Asks, Cut, Meaning, Scope, behind, visit, then, raised, asked, ran, slot_at, read, assign, calls, calls_method, calls_attribute, callee, choose, decides, compared, expr, exprs, operands, chain, after_turn, turn_of, loop, for_loop, over, returning, raising, caught, active_in, finally, unassign, named, with_active, clauses, stmt, stmts, returned, fitting, run_body, call, max_calls}
+use Rattle.si_semantics.specs.Meaning.{State, Leave, Raises, Returns, Breaks, Continues, Result, Gives, Leaves, Asks, Cut, Meaning, Scope, behind, visit, then, raised, asked, ran, slot_at, read, assign, calls, calls_method, calls_attribute, callee, choose, decides, compared, expr, exprs, operands, chain, done, spread, bind, bind_each, bind_all, after_turn, turn_of, loop, for_loop, over, returning, raising, caught, active_in, finally, unassign, named, with_active, clauses, stmt, stmts, returned, fitting, run_body, call, max_calls}
 use Rattle.si_semantics.specs.Scope.{place_of, Within, InText, InFunction, in_loop, may_return, looping, finishing, stmt_scoped, stmts_scoped, clauses_scoped}
 use Rattle.si_semantics.specs.Life.{module_scope}
 use Rattle.si_semantics.specs.Laws.{LeftByExceptions}
@@ -142,6 +145,8 @@ module _ (w : Within) (e : Scope) (calling : Calls_keep e) where
     expr_keeps (tree.Subscript a b) s =
         then_keeps w (expr e a (visit s)) _ (expr_keeps a (visit s)) (λ u s1. then_keeps w (expr e b s1) _ (expr_keeps b s1) (λ v s2. ran_keeps w (subscript u v s2.world) s2))
     expr_keeps (tree.Tuple items) s = then_keeps w (exprs e items (visit s)) _ (exprs_keep items (visit s)) (λ vs s1. ran_keeps w (tuple_within vs s1.world) s1)
+    expr_keeps (tree.ListDisplay items) s = then_keeps w (exprs e items (visit s)) _ (exprs_keep items (visit s)) (λ vs s1. ran_keeps w (list_within vs s1.world) s1)
+    expr_keeps (tree.DictDisplay items) s = then_keeps w (exprs e items (visit s)) _ (exprs_keep items (visit s)) (λ vs s1. ran_keeps w (dict_of vs s1.world) s1)
     expr_keeps (tree.Boolean o a more) s = then_keeps w (expr e a (visit s)) _ (expr_keeps a (visit s)) (λ u s1. operands_keep o u more s1)
     expr_keeps (tree.Compare a cs) s = then_keeps w (expr e a (visit s)) _ (expr_keeps a (visit s)) (λ u s1. chain_keeps u cs s1)
     expr_keeps (tree.Conditional a b c) s =
@@ -161,6 +166,33 @@ module _ (w : Within) (e : Scope) (calling : Calls_keep e) where
     chain_keeps u (tree.MoreComparisons o a cs) s =
         then_keeps w (expr e a s) _ (expr_keeps a s)
         (λ v s1. then_keeps w (ran (compare o u v s1.world) s1) _ (ran_keeps w (compare o u v s1.world) s1) (λ t s2. compared_keeps w cs t (chain e v cs) (λ s3. chain_keeps v cs s3) s2))
+
+-- ---- targets
+
+done_keeps : (w : Within) (o : Ran) (s : State) → Keeps w (done o s)
+done_keeps w o s = then_keeps w (ran o s) _ (ran_keeps w o s) (λ v s1. tt)
+
+spread_keeps : (w : Within) (o : prelude.Result (List Value) Kind) (f : List Value → Meaning (Unit {0})) → ((vs : List Value) (s : State) → Keeps w (f vs s)) → (s : State) → Keeps w (spread o f s)
+spread_keeps w (prelude.Ok vs) f h s = h vs s
+spread_keeps w (prelude.Err k) f h s = tt
+
+module _ (w : Within) (e : Scope) (calling : Calls_keep e) where
+  mutual
+    bind_keeps : (t : Target) (v : Value) (s : State) → Keeps w (bind e t v s)
+    bind_keeps (tree.Named x) v s = assign_keeps w x (place_of x e.locals) v (visit s)
+    bind_keeps (tree.Item a b) v s =
+        then_keeps w (expr e a (visit s)) _ (expr_keeps w e calling a (visit s))
+        (λ u s1. then_keeps w (expr e b s1) _ (expr_keeps w e calling b s1) (λ i s2. done_keeps w (set_item u i v s2.world) s2))
+    bind_keeps (tree.Unpack ts) v s = spread_keeps w (unpacked (count_of_targets ts) v s.world) (bind_each e ts) (λ vs s1. bind_each_keeps ts vs s1) (visit s)
+
+    bind_each_keeps : (ts : Targets) (vs : List Value) (s : State) → Keeps w (bind_each e ts vs s)
+    bind_each_keeps tree.NoTargets vs s = tt
+    bind_each_keeps (tree.MoreTargets t ts) [] s = tt
+    bind_each_keeps (tree.MoreTargets t ts) (v ∷ vs) s = then_keeps w (bind e t v s) _ (bind_keeps t v s) (λ u s1. bind_each_keeps ts vs s1)
+
+  bind_all_keeps : (ts : Targets) (v : Value) (s : State) → Keeps w (bind_all e ts v s)
+  bind_all_keeps tree.NoTargets v s = tt
+  bind_all_keeps (tree.MoreTargets t ts) v s = then_keeps w (bind e t v s) _ (bind_keeps t v s) (λ u s1. bind_all_keeps ts v s1)
 
 -- ---- statements
 
@@ -260,12 +292,20 @@ both_true false b h = cc
 mutual
   stmt_keeps : (w : Within) (e : Scope) → Calls_keep e → (a : Stmt) (s : State) → stmt_scoped w a ≡ true → Keeps w (stmt e a s)
   stmt_keeps w e k (tree.Evaluate a) s h = then_keeps w (expr e a (visit s)) _ (expr_keeps w e k a (visit s)) (λ v s1. tt)
-  stmt_keeps w e k (tree.Assign (tree.Named x) a) s h =
-      then_keeps w (expr e a (visit s)) _ (expr_keeps w e k a (visit s)) (λ v s1. assign_keeps w x (place_of x e.locals) v (visit s1))
-  stmt_keeps w e k (tree.Augment (tree.Named x) o a) s h =
+  stmt_keeps w e k (tree.Assign ts a) s h = then_keeps w (expr e a (visit s)) _ (expr_keeps w e k a (visit s)) (λ v s1. bind_all_keeps w e k ts v s1)
+  stmt_keeps w e k (tree.Augment x o a) s h =
       then_keeps w (read x (place_of x e.locals) (visit (visit s))) _ (read_keeps w x (place_of x e.locals) (visit (visit s)))
       (λ u s1. then_keeps w (expr e a s1) _ (expr_keeps w e k a s1)
-      (λ v s2. then_keeps w (ran (operate o u v s2.world) s2) _ (ran_keeps w (operate o u v s2.world) s2) (λ z s3. assign_keeps w x (place_of x e.locals) z s3)))
+      (λ v s2. then_keeps w (ran (augment o u v s2.world) s2) _ (ran_keeps w (augment o u v s2.world) s2) (λ z s3. assign_keeps w x (place_of x e.locals) z s3)))
+  stmt_keeps w e k (tree.AugmentItem a b o c) s h =
+      then_keeps w (expr e a (visit (visit s))) _ (expr_keeps w e k a (visit (visit s)))
+      (λ u s1. then_keeps w (expr e b s1) _ (expr_keeps w e k b s1)
+      (λ i s2. then_keeps w (ran (subscript u i s2.world) s2) _ (ran_keeps w (subscript u i s2.world) s2)
+      (λ y s3. then_keeps w (expr e c s3) _ (expr_keeps w e k c s3)
+      (λ z s4. then_keeps w (ran (augment o y z s4.world) s4) _ (ran_keeps w (augment o y z s4.world) s4) (λ x s5. done_keeps w (set_item u i x s5.world) s5)))))
+  stmt_keeps w e k (tree.Delete a b) s h =
+      then_keeps w (expr e a (visit (visit s))) _ (expr_keeps w e k a (visit (visit s)))
+      (λ u s1. then_keeps w (expr e b s1) _ (expr_keeps w e k b s1) (λ i s2. done_keeps w (delete_item u i s2.world) s2))
   stmt_keeps w e k tree.Pass s h = tt
   stmt_keeps w e k (tree.If a b c) s h =
       let g = both_true (stmts_scoped w b) (stmts_scoped w c) h in
@@ -275,11 +315,11 @@ mutual
       let g = both_true (stmts_scoped (looping w) b) (stmts_scoped w c) h in
       loop_keeps w (expr e a) (stmts e b) (stmts (behind (functions_in b) e) c)
       (λ s1. expr_keeps w e k a s1) (λ s1. stmts_keep (looping w) e k b s1 g.0) (λ s1. stmts_keep w (behind (functions_in b) e) k c s1 g.1) e.turns (visit s)
-  stmt_keeps w e k (tree.For (tree.Named x) a b c) s h =
+  stmt_keeps w e k (tree.For t a b c) s h =
       let g = both_true (stmts_scoped (looping w) b) (stmts_scoped w c) h in
       then_keeps w (expr e a (visit s)) _ (expr_keeps w e k a (visit s))
       (λ v s1. over_keeps w (iterator_of v s1.world) _
-      (λ it s2. for_keeps w (λ u s3. assign x (place_of x e.locals) u (visit s3)) (stmts e b) (stmts (behind (functions_in b) e) c) (λ u s3. assign_keeps w x (place_of x e.locals) u (visit s3))
+      (λ it s2. for_keeps w (λ u s3. bind e t u s3) (stmts e b) (stmts (behind (functions_in b) e) c) (λ u s3. bind_keeps w e k t u s3)
       (λ s3. stmts_keep (looping w) e k b s3 g.0) (λ s3. stmts_keep w (behind (functions_in b) e) k c s3 g.1) e.turns it s2) s1)
   stmt_keeps w e k tree.Break s h = h
   stmt_keeps w e k tree.Continue s h = h

@@ -6,12 +6,14 @@ use Rattle.si_semantics.specs.Tokens as tokens
 use Rattle.si_semantics.specs.Words as words
 use Rattle.si_semantics.specs.Words.{symbols, keywords}
 use Rattle.si_semantics.specs.Layout.{Line}
-use Rattle.si_semantics.specs.Grammar.{Terminal, NAME, NUMBER, Sign, Positional, ByName}
+use Rattle.si_semantics.specs.Grammar.{Terminal, NAME, NUMBER, Sign, Positional, ByName, max_depth, primary_level}
 use Rattle.si_semantics.specs.Worked.Straight.{int, arguments, suite}
 use Rattle.si_semantics.specs.Worked.Functions.{f, x}
-use Rattle.si_semantics.specs.Worked.Grammar.{f_of_x, an_if, an_elif, a_call, a_while, difference, bracketed, negated_chain, GrammarCases}
+use Rattle.si_semantics.specs.Worked.Scripts.{a, b, c, set}
+use Rattle.si_semantics.specs.Worked.Grammar.{f_of_x, an_if, an_elif, a_call, a_while, difference, bracketed, negated_chain, two_targets, unpacked_twice, a_for, displays, GrammarCases}
 use Rattle.si_semantics.proofs.Cutting.{word_is, longest, has_tokens}
-use Rattle.si_semantics.proofs.Deriving.{name, number, in_brackets, unary, binary, Statement, assigned, evaluated, word, line, in_line, in_block, one_branch, Parsed, text, three_branches, loop, text_of_two, comparison, compares, no_more, either}
+use Rattle.si_semantics.proofs.NotTargets.{no_round_target, no_square_target, not_deleted}
+use Rattle.si_semantics.proofs.Deriving.{name, number, in_brackets, unary, binary, subscripted, no_rest, more_rest, no_row, row, list_display, one_pair, two_in_brackets, aim, two_aims, one_aim, more_aims, Statement, assigned, assigned_to, augmented, deleted, evaluated, word, line, in_line, in_block, one_branch, Parsed, text, three_branches, loop, over_two, text_of_two, comparison, compares, no_more, either}
 
 -- ---- words and lines
 
@@ -99,6 +101,60 @@ chain_lines =
     ∷ last_line []
     ∷ []
 
+-- `a, b[0] = c = x`
+abbrev two_targets_lines : List Line
+two_targets_lines =
+    full_line
+    (letters (codes "a") ∷ sign (codes ",") ∷ blank ∷ letters (codes "b") ∷ sign (codes "[") ∷ digits (codes "0") ∷ sign (codes "]") ∷ blank
+    ∷ sign (codes "=") ∷ blank ∷ letters (codes "c") ∷ blank ∷ sign (codes "=") ∷ blank ∷ letters (codes "x") ∷ [])
+    ∷ last_line []
+    ∷ []
+
+-- `[a, (b, c)] = x`
+abbrev brackets_lines : List Line
+brackets_lines =
+    full_line
+    (sign (codes "[") ∷ letters (codes "a") ∷ sign (codes ",") ∷ blank ∷ sign (codes "(") ∷ letters (codes "b") ∷ sign (codes ",") ∷ blank
+    ∷ letters (codes "c") ∷ sign (codes ")") ∷ sign (codes "]") ∷ blank ∷ sign (codes "=") ∷ blank ∷ letters (codes "x") ∷ [])
+    ∷ last_line []
+    ∷ []
+
+-- `for a, b in x: pass`
+abbrev for_lines : List Line
+for_lines =
+    full_line
+    (letters (codes "for") ∷ blank ∷ letters (codes "a") ∷ sign (codes ",") ∷ blank ∷ letters (codes "b") ∷ blank ∷ letters (codes "in") ∷ blank
+    ∷ letters (codes "x") ∷ sign (codes ":") ∷ blank ∷ letters (codes "pass") ∷ [])
+    ∷ last_line []
+    ∷ []
+
+-- `(x) = 1`
+abbrev one_target_lines : List Line
+one_target_lines =
+    full_line (sign (codes "(") ∷ letters (codes "x") ∷ sign (codes ")") ∷ blank ∷ sign (codes "=") ∷ blank ∷ digits (codes "1") ∷ [])
+    ∷ last_line []
+    ∷ []
+
+-- `x[0]`, and a line of it with `+= 1` behind it, or with `del` in front of it
+abbrev item_words : List words.Word
+item_words = letters (codes "x") ∷ sign (codes "[") ∷ digits (codes "0") ∷ sign (codes "]") ∷ []
+
+abbrev augmented_lines : List Line
+augmented_lines = full_line (item_words ++ (blank ∷ sign (codes "+=") ∷ blank ∷ digits (codes "1") ∷ [])) ∷ last_line [] ∷ []
+
+abbrev deleted_lines : List Line
+deleted_lines = full_line (letters (codes "del") ∷ blank ∷ item_words) ∷ last_line [] ∷ []
+
+-- `x = [1, {2: x,}, []]`
+abbrev display_lines : List Line
+display_lines =
+    full_line
+    (letters (codes "x") ∷ blank ∷ sign (codes "=") ∷ blank ∷ sign (codes "[") ∷ digits (codes "1") ∷ sign (codes ",") ∷ blank ∷ sign (codes "{")
+    ∷ digits (codes "2") ∷ sign (codes ":") ∷ blank ∷ letters (codes "x") ∷ sign (codes ",") ∷ sign (codes "}") ∷ sign (codes ",") ∷ blank
+    ∷ sign (codes "[") ∷ sign (codes "]") ∷ sign (codes "]") ∷ [])
+    ∷ last_line []
+    ∷ []
+
 -- ---- trees
 
 -- `f(x)`
@@ -175,7 +231,7 @@ blocks_spelled =
     (loop (name x) (in_block (one_branch (name f) (in_block (line breaks) (lit< tt))) (lit< tt)))
     (line f_is_called)
 
-abbrev levels_spelled : Parsed (suite (tree.Assign (tree.Named x) difference ∷ []))
+abbrev levels_spelled : Parsed (suite (tree.Assign (tree.only (tree.Named x)) difference ∷ []))
 levels_spelled =
     text (line (assigned x
     (binary tree.Subtract (lit≤ tt)
@@ -184,7 +240,7 @@ levels_spelled =
     (unary tree.Minus (lit≤ tt) (binary tree.Power (lit≤ tt) (number (codes "3") 3 refl) (number (codes "4") 4 refl)))
     (number (codes "5") 5 refl)))))
 
-abbrev brackets_spelled : Parsed (suite (tree.Assign (tree.Named x) bracketed ∷ []))
+abbrev brackets_spelled : Parsed (suite (tree.Assign (tree.only (tree.Named x)) bracketed ∷ []))
 brackets_spelled =
     text (line (assigned x
     (binary tree.Subtract (lit≤ tt)
@@ -199,6 +255,37 @@ words_spelled =
     (comparison (lit≤ tt) (lit< tt) (number (codes "1") 1 refl)
     (compares tree.Less refl (number (codes "2") 2 refl) (compares tree.LessEqual refl (number (codes "3") 3 refl) no_more))))
     (name x))))
+
+abbrev two_targets_spelled : Parsed (suite (two_targets ∷ []))
+two_targets_spelled =
+    text (line (assigned_to
+    (more_aims (two_aims refl (name a) (subscripted (lit≤ tt) (name b) (number (codes "0") 0 refl))) (one_aim (aim refl (name c))))
+    (name x)))
+
+abbrev unpacked_twice_spelled : Parsed (suite (unpacked_twice ∷ []))
+unpacked_twice_spelled =
+    text (line (assigned_to
+    (one_aim (aim refl (list_display {items = arguments (tree.Name a ∷ tree.Tuple (arguments (tree.Name b ∷ tree.Name c ∷ [])) ∷ [])} (row (name a) (more_rest (two_in_brackets (name b) (name c)) no_rest)))))
+    (name x)))
+
+abbrev for_spelled : Parsed (suite (a_for ∷ []))
+for_spelled = text (over_two refl (name a) (name b) (name x) (in_line passes))
+
+abbrev one_target_spelled : Parsed (suite (set x (int 1) ∷ []))
+one_target_spelled = text (line (assigned_to (one_aim (aim refl (in_brackets (name x)))) (number (codes "1") 1 refl)))
+
+abbrev augmented_spelled : Parsed (suite (tree.AugmentItem (tree.Name x) (int 0) tree.Add (int 1) ∷ []))
+augmented_spelled =
+    text (line (augmented tree.Add (aim refl (subscripted (lit≤ tt) (name x) (number (codes "0") 0 refl))) (number (codes "1") 1 refl)))
+
+abbrev deleted_spelled : Parsed (suite (tree.Delete (tree.Name x) (int 0) ∷ []))
+deleted_spelled = text (line (deleted (subscripted (lit≤ tt) (name x) (number (codes "0") 0 refl))))
+
+abbrev displays_spelled : Parsed (suite (displays ∷ []))
+displays_spelled =
+    text (line (assigned x
+    (list_display (row (number (codes "1") 1 refl)
+    (more_rest (one_pair (number (codes "2") 2 refl) (name x)) (more_rest (list_display no_row) no_rest))))))
 
 -- ---- the cases
 
@@ -221,4 +308,23 @@ worked_grammar = record {
   levels = (_, has_tokens level_lines _ refl, levels_spelled.spelled);
   brackets = (_, has_tokens bracket_lines _ refl, brackets_spelled.spelled);
   words_between_operands = (_, has_tokens chain_lines _ refl, words_spelled.spelled);
+  targets_of_an_assignment = (_, has_tokens two_targets_lines _ refl, two_targets_spelled.spelled);
+  targets_in_brackets = (_, has_tokens brackets_lines _ refl, unpacked_twice_spelled.spelled);
+  targets_of_a_for = (_, has_tokens for_lines _ refl, for_spelled.spelled);
+  one_target_in_brackets = (_, has_tokens one_target_lines _ refl, one_target_spelled.spelled);
+  item_augmented = (_, has_tokens augmented_lines _ refl, augmented_spelled.spelled);
+  item_deleted = (_, has_tokens deleted_lines _ refl, deleted_spelled.spelled);
+  displays_in_each_other = (_, has_tokens display_lines _ refl, displays_spelled.spelled);
+  empty_tuple_as_a_target = refl;
+  empty_list_as_a_target = refl;
+  literal_among_targets = refl;
+  empty_list_among_targets = refl;
+  call_as_a_target = refl;
+  attribute_as_a_target = refl;
+  negation_as_a_target = refl;
+  literal_as_a_target = refl;
+  item_of_a_call_as_a_target = refl;
+  empty_brackets_before_an_equal_sign = no_round_target;
+  empty_square_brackets_before_an_equal_sign = no_square_target;
+  name_behind_del = λ a b h. not_deleted max_depth primary_level x a b _ h.0 h.1 h.2;
 }

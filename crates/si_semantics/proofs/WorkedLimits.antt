@@ -18,4 +18,11 @@ worked_limits = record {
   if_in_a_loops_else_suite = refl;
   ifs_in_a_clause = refl;
   ifs_in_a_finally_suite = refl;
+  depth_of_an_empty_list = refl;
+  depth_of_an_empty_dict = refl;
+  depth_of_a_list = refl;
+  depth_of_a_dict = refl;
+  depth_in_a_target = refl;
+  longest_in_an_augmented_target = refl;
+  longest_in_a_deletion = refl;
 }

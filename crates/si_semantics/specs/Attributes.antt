@@ -1,19 +1,20 @@
 -- Attributes and methods (Python Language Reference 3.14, 6.3.1 and 6.3.3; Standard Library, "Built-in Types": string
--- methods, and "threading"; PEP 734). A method is no value: it can be called, and nothing else (this project's own).
-use Rattle.std.specs.Prelude.{codes, ℕ, ℤ, pos, negsuc, List, [], ◌∷◌, ◌++◌, ◌-◌, length, Bool, true, false, ◌&&◌, ◌||◌, Option, Some, None, option_map, slice_get, take, drop, if◌then◌else◌}
+-- methods, mutable sequence types and mapping types, and "threading"; PEP 734). A method is no value: it can be called, and nothing else (this project's own).
+use Rattle.std.specs.Prelude.{codes, ℕ, ℤ, pos, negsuc, List, [], ◌∷◌, ◌++◌, ◌-◌, length, map, Result, Ok, Err, Bool, ◌&&◌, ◌||◌, Option, Some, None, option_map, slice_get, take, drop, encode_utf8_all, if◌then◌else◌}
 use Rattle.si_plain.specs.declared.kind.Kind.{Kind}
-use Rattle.si_plain.specs.declared.kind.Kind.TheVariants.{AttributeError, RuntimeError, NotShareableError, InterpreterError, InterpreterNotFoundError, ExecutionFailed, QueueEmpty, QueueFull}
+use Rattle.si_plain.specs.declared.kind.Kind.TheVariants.{AttributeError, RuntimeError, TypeError, NotShareableError, InterpreterError, InterpreterNotFoundError, ExecutionFailed, QueueEmpty, QueueFull}
 use Rattle.si_plain.specs.Integers.{in_range}
 use Rattle.si_plain.specs.declared.modules.ModuleName.TheVariants.{Threading, Interpreters}
-use Rattle.si_semantics.specs.Value as value
-use Rattle.si_semantics.specs.Value.{Text, Value, Nothing, Truth, Int, Str, Tuple, Class, Module, Queue, Interpreter, Exec, Address, Object, Thread, Started, MoreValues, NoValues}
+use Rattle.si_semantics.specs.Value.{Text, Value, Nothing, Truth, Int, Str, Tuple, Class, Module, Queue, Interpreter, Exec, Address, Key, Word, Object, Items, Pairs, Thread, Started, MoreValues, NoValues, items_of}
 use Rattle.si_semantics.specs.Text.{same_text}
 use Rattle.si_semantics.specs.Parts.{begins_with}
 use Rattle.si_semantics.specs.Parcels.{Tree}
 use Rattle.si_semantics.specs.Shareable.{sent_as, is_shareable}
 use Rattle.si_semantics.specs.World as world
 use Rattle.si_semantics.specs.World.{World, Ran, Asked}
-use Rattle.si_semantics.specs.Operations.{gave, refused, refused_within, wrong_type, wrong_arguments, kind_named, integer, integer_in}
+use Rattle.si_semantics.specs.Operations.{gave, placed, refused, refused_within, within, bytes_within, wrong_type, wrong_arguments, kind_named, integer, integer_in}
+use Rattle.si_semantics.specs.Tuples.{characters_in}
+use Rattle.si_semantics.specs.Containers.{append, pop_item, get_value, pop_value}
 
 -- ---- attributes
 
@@ -50,7 +51,14 @@ attribute v x w = attribute_of x (attribute_in v x) w
 pub data Method : Type 0 where
   StartsWith : Method
   EndsWith : Method
+  JoinTexts : Method
+  Encode : Method
+  Append : Method
+  PopItem : Method
+  GetValue : Method
+  PopValue : Method
   Create : Method
+  ListAll : Method
   GetCurrent : Method
   GetMain : Method
   CreateQueue : Method
@@ -73,7 +81,14 @@ pub data Method : Type 0 where
 abbrev pub method_name : Method → Text
 method_name StartsWith = codes "startswith"
 method_name EndsWith = codes "endswith"
+method_name JoinTexts = codes "join"
+method_name Encode = codes "encode"
+method_name Append = codes "append"
+method_name PopItem = codes "pop"
+method_name GetValue = codes "get"
+method_name PopValue = codes "pop"
 method_name Create = codes "create"
+method_name ListAll = codes "list_all"
 method_name GetCurrent = codes "get_current"
 method_name GetMain = codes "get_main"
 method_name CreateQueue = codes "create_queue"
@@ -93,8 +108,11 @@ method_name PutNow = codes "put_nowait"
 method_name Get = codes "get"
 method_name GetNow = codes "get_nowait"
 
--- the methods of an object: of a thread (Standard Library, "threading")
+-- the methods of an object: of a list and a dict (Standard Library, "Built-in Types": mutable sequence types, and "dict"), of a
+-- thread ("threading")
 abbrev pub methods_of_object : Option Object → List Method
+methods_of_object (Some (Items vs)) = Append ∷ PopItem ∷ []
+methods_of_object (Some (Pairs ps)) = GetValue ∷ PopValue ∷ []
 methods_of_object (Some (Thread i text)) = Start ∷ Join ∷ []
 methods_of_object (Some (Started r)) = Start ∷ Join ∷ []
 methods_of_object _ = []
@@ -102,8 +120,8 @@ methods_of_object _ = []
 -- the methods of a value (of str: Standard Library, "Built-in Types"; of the modules, of interpreters and of queues: PEP 734,
 -- and Standard Library, "threading")
 abbrev pub methods_of : Value → World → List Method
-methods_of (Str s) w = StartsWith ∷ EndsWith ∷ []
-methods_of (Module Interpreters) w = Create ∷ GetCurrent ∷ GetMain ∷ CreateQueue ∷ IsShareable ∷ []
+methods_of (Str s) w = StartsWith ∷ EndsWith ∷ JoinTexts ∷ Encode ∷ []
+methods_of (Module Interpreters) w = Create ∷ ListAll ∷ GetCurrent ∷ GetMain ∷ CreateQueue ∷ IsShareable ∷ []
 methods_of (Module Threading) w = MakeThread ∷ []
 methods_of (Interpreter i) w = Execute ∷ IsRunning ∷ Close ∷ PrepareMain ∷ []
 methods_of (Queue q m) w = IsEmpty ∷ IsFull ∷ Size ∷ Put ∷ PutNow ∷ Get ∷ GetNow ∷ []
@@ -174,6 +192,65 @@ abbrev pub tested_texts : (Text → Text → Bool) → Value → Value → World
 tested_texts test (Str s) (Str t) w = gave (Truth (test s t)) w
 tested_texts test _ _ w = wrong_type w
 
+-- texts with a text between them, where all are texts
+abbrev pub joined_behind : Text → List Value → Option Text
+joined_behind s [] = Some []
+joined_behind s (Str t ∷ vs) = option_map (λ u. s ++ (t ++ u)) (joined_behind s vs)
+joined_behind s _ = None
+
+abbrev pub joined_texts : Text → List Value → Option Text
+joined_texts s [] = Some []
+joined_texts s (Str t ∷ vs) = option_map (λ u. t ++ u) (joined_behind s vs)
+joined_texts s _ = None
+
+-- a text that was made of texts
+abbrev pub text_made : Option Text → World → Ran
+text_made (Some s) w = within s w
+text_made None w = wrong_type w
+
+-- what may be joined: the items of a list or a tuple, or the characters of a str (this project's own)
+abbrev pub items_of_list : Option Object → Option (List Value)
+items_of_list (Some (Items vs)) = Some vs
+items_of_list _ = None
+
+abbrev pub texts_in : Value → World → Option (List Value)
+texts_in (Str s) w = Some (characters_in s)
+texts_in (Tuple vs) w = Some (items_of vs)
+texts_in (Address x) w = items_of_list (slice_get w.store x)
+texts_in _ w = None
+
+abbrev pub joins_texts : Value → Option (List Value) → World → Ran
+joins_texts (Str s) (Some vs) w = text_made (joined_texts s vs) w
+joins_texts _ _ w = wrong_type w
+
+-- the bytes of a text in UTF-8
+abbrev pub encodes : Value → World → Ran
+encodes (Str s) w = bytes_within (encode_utf8_all s) w
+encodes _ w = wrong_type w
+
+-- a method of a list or a dict
+abbrev pub appends : Value → Value → World → Ran
+appends (Address x) v w = append x (slice_get w.store x) v w
+appends _ v w = wrong_type w
+
+-- `pop(index=-1, /)`
+abbrev pub pops : Value → List Value → List Text → World → Ran
+pops (Address x) [] [] w = pop_item x (slice_get w.store x) (Some (negsuc 0)) w
+pops (Address x) (i ∷ []) [] w = pop_item x (slice_get w.store x) (integer_in i) w
+pops (Address x) vs names w = wrong_arguments w
+pops _ vs names w = wrong_type w
+
+-- `get(key, default=None, /)`
+abbrev pub gets_value : Value → List Value → List Text → World → Ran
+gets_value (Address x) (k ∷ []) [] w = get_value (slice_get w.store x) k Nothing w
+gets_value (Address x) (k ∷ other ∷ []) [] w = get_value (slice_get w.store x) k other w
+gets_value (Address x) vs names w = wrong_arguments w
+gets_value _ vs names w = wrong_type w
+
+abbrev pub pops_value : Value → Value → World → Ran
+pops_value (Address x) k w = pop_value x (slice_get w.store x) k w
+pops_value _ k w = wrong_type w
+
 -- a queue of at most so many items; 0 and below are no bound (PEP 734, "create_queue"; this project's own)
 abbrev pub queue_of : Option ℤ → World → Ran
 queue_of (Some (pos m)) w = Asked (world.CreateQueue m) w
@@ -186,19 +263,33 @@ abbrev pub shared : Option Tree → (Tree → Ran) → World → Ran
 shared (Some p) does w = does p
 shared None does w = refused NotShareableError (codes "not shareable") w
 
--- names with parcels, in order, where each value has one
-abbrev pub parcels_by_name : List (Text × Value) → Option (List (Text × Tree))
-parcels_by_name [] = Some []
-parcels_by_name (b ∷ bs) = elim (sent_as b.1) [ None ↦ None | Some p ↦ option_map (λ ps. (b.0, p) ∷ ps) (parcels_by_name bs) ]
+-- names with parcels, in order; or why there are none: pair by pair, and the key first, a key that is no str is of a wrong
+-- type, and a value without a parcel is not shareable
+abbrev pub parcels_by_name : List (Key × Value) → Result (List (Text × Tree)) Kind
+parcels_by_name [] = Ok []
+parcels_by_name ((Word x, v) ∷ bs) =
+    elim (sent_as v) [ None ↦ Err NotShareableError | Some p ↦ elim (parcels_by_name bs) [ Ok ps ↦ Ok ((x, p) ∷ ps) | Err k ↦ Err k ] ]
+parcels_by_name ((_, v) ∷ bs) = Err TypeError
 
-abbrev pub prepares : ℕ → Option (List (Text × Tree)) → World → Ran
-prepares i (Some bs) w = Asked (world.Prepare i bs) w
-prepares i None w = refused NotShareableError (codes "not shareable") w
+abbrev pub prepares : ℕ → Result (List (Text × Tree)) Kind → World → Ran
+prepares i (Ok bs) w = Asked (world.Prepare i bs) w
+prepares i (Err NotShareableError) w = refused NotShareableError (codes "not shareable") w
+prepares i (Err _) w = wrong_type w
 
--- `prepare_main(ns=None, /, **kwargs)`: what `ns` may be besides None comes with dicts
+-- names with their values, as pairs of a dict
+abbrev pub as_pairs : List (Text × Value) → List (Key × Value)
+as_pairs named = map (λ b. (Word b.0, b.1)) named
+
+-- the pairs of a dict, and then names that were passed
+abbrev pub prepare_from : ℕ → Option Object → List (Text × Value) → World → Ran
+prepare_from i (Some (Pairs ps)) named w = prepares i (parcels_by_name (ps ++ as_pairs named)) w
+prepare_from i _ named w = wrong_type w
+
+-- `prepare_main(ns=None, /, **kwargs)`
 abbrev pub prepare : ℕ → List Value → List (Text × Value) → World → Ran
-prepare i [] named w = prepares i (parcels_by_name named) w
-prepare i (Nothing ∷ []) named w = prepares i (parcels_by_name named) w
+prepare i [] named w = prepares i (parcels_by_name (as_pairs named)) w
+prepare i (Nothing ∷ []) named w = prepares i (parcels_by_name (as_pairs named)) w
+prepare i (Address x ∷ []) named w = prepare_from i (slice_get w.store x) named w
 prepare i (v ∷ []) named w = wrong_type w
 prepare i _ named w = wrong_arguments w
 
@@ -206,10 +297,6 @@ prepare i _ named w = wrong_arguments w
 abbrev pub executes : ℕ → Value → World → Ran
 executes i (Str text) w = Asked (world.Exec i text) w
 executes i _ w = wrong_type w
-
--- a new object, by its address
-abbrev pub placed : Object → World → Ran
-placed o w = gave (Address (length w.store)) (record w { store = w.store ++ o ∷ [] })
 
 -- a thread that is to run `exec` of an interpreter with one text (Standard Library, "threading"; no other target is one of
 -- this project's)
@@ -266,11 +353,19 @@ joins_at (Address x) w = joins (slice_get w.store x) w
 joins_at _ w = wrong_type w
 
 -- a call of a method of a value with arguments, of which the last ones have these names (Standard Library, "Built-in Types":
--- str.startswith, str.endswith, of one str; "threading"; PEP 734)
+-- str.startswith, str.endswith, of one str, str.join, str.encode, of none, list.append, list.pop, dict.get, dict.pop, of one key;
+-- "threading"; PEP 734)
 abbrev pub call_method : Method → Value → List Value → List Text → World → Ran
 call_method StartsWith v vs names w = only_argument vs names (λ u. tested_texts begins_with v u w) w
 call_method EndsWith v vs names w = only_argument vs names (λ u. tested_texts ends_with v u w) w
+call_method JoinTexts v vs names w = only_argument vs names (λ u. joins_texts v (texts_in u w) w) w
+call_method Encode v vs names w = alone vs (encodes v w) w
+call_method Append v vs names w = only_argument vs names (λ u. appends v u w) w
+call_method PopItem v vs names w = pops v vs names w
+call_method GetValue v vs names w = gets_value v vs names w
+call_method PopValue v vs names w = only_argument vs names (λ u. pops_value v u w) w
 call_method Create v vs names w = alone vs (Asked world.Create w) w
+call_method ListAll v vs names w = alone vs (Asked world.ListAll w) w
 call_method GetCurrent v vs names w = alone vs (gave (Interpreter w.own) w) w
 call_method GetMain v vs names w = alone vs (gave (Interpreter 0) w) w
 call_method CreateQueue v vs names w = optional_argument (codes "maxsize") (Int (pos 0)) vs names (λ u. queue_of (integer_in u) w) w

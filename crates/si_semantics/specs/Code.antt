@@ -9,7 +9,7 @@ use Rattle.std.specs.Coded.{Coded, code_by, coded×, coded_ℕ, coded_ℤ, coded
 use Rattle.si_plain.specs.declared.kind.Kind.{Kind}
 use Rattle.si_plain.specs.contracts.kind.Kind as kind
 use Rattle.si_plain.specs.declared.modules.ModuleName.TheVariants.{Threading, Interpreters}
-use Rattle.si_semantics.specs.Value.{Text, BuiltIn, Print, MakeRange, MakeStr, Repr, Len, MakeBool, Abs, MakeInt, Ord, Chr, Min, Max, MakeBytes, MakeTuple, Value, Values, Nothing, Truth, Int, Str, Bytes, Provided, Function, Range, Tuple, Class, Module, Queue, Interpreter, Exec, Address, NoValues, MoreValues}
+use Rattle.si_semantics.specs.Value.{Text, BuiltIn, Print, MakeRange, MakeStr, Repr, Len, MakeBool, Abs, MakeInt, Ord, Chr, Min, Max, MakeBytes, MakeTuple, MakeList, Value, Values, Nothing, Truth, Int, Str, Bytes, Provided, Function, Range, Tuple, Class, Module, Queue, Interpreter, Exec, Address, NoValues, MoreValues}
 use Rattle.si_semantics.specs.Text.{built_in_name}
 use Rattle.si_semantics.specs.Operations.{built_ins, built_in_named}
 use mathlib.Core.Path.{refl, ◌∙◌, ap}
@@ -118,6 +118,7 @@ named_again Min = refl
 named_again Max = refl
 named_again MakeBytes = refl
 named_again MakeTuple = refl
+named_again MakeList = refl
 
 -- to read the words of a value gives the value
 mutual

@@ -4,7 +4,7 @@ use Rattle.std.specs.Prelude.{codes, ◌≡◌, ℕ, zero, suc, ◌<◌, ◌≤�
 use Rattle.si_plain.specs.declared.modules.ModuleName.{ModuleName}
 use Rattle.si_plain.specs.declared.modules.ModuleName.TheVariants.{Threading, Interpreters}
 use Rattle.si_semantics.specs.Value.{Text, Nothing, Truth, Int, Str, Bytes, Provided, Function, Range, Tuple, Class, Module, Queue, Interpreter, Exec, Address}
-use Rattle.si_semantics.specs.Tree.{BinaryOperator, UnaryOperator, ComparisonOperator, BooleanOperator, Expr, Exprs, Comparisons, Stmt, Target, Stmts, Clauses}
+use Rattle.si_semantics.specs.Tree.{BinaryOperator, UnaryOperator, ComparisonOperator, BooleanOperator, Expr, Exprs, Comparisons, Stmt, Target, Targets, Stmts, Clauses}
 use Rattle.si_semantics.specs.Tree as tree
 use Rattle.si_semantics.specs.Scope.{are_distinct}
 use Rattle.si_semantics.specs.Text.{max_length}
@@ -202,6 +202,10 @@ Many I (x ∷ xs) ts = (f : List Terminal) × (g : List Terminal) × (ts ≡ f +
 abbrev pub Behind : {A : Type 0} → Terminal → (A → List Terminal → Type 0) → A → List Terminal → Type 0
 Behind t I x ts = (f : List Terminal) × (ts ≡ t ∷ f) × I x f
 
+-- an item in front of a terminal
+abbrev pub Ahead : {A : Type 0} → (A → List Terminal → Type 0) → Terminal → A → List Terminal → Type 0
+Ahead I t x ts = (f : List Terminal) × (ts ≡ f ++ t ∷ []) × I x f
+
 -- { separator item } [separator]
 abbrev pub Following : {A : Type 0} → (A → List Terminal → Type 0) → Symbol → List A → List Terminal → Type 0
 Following I s [] ts = (ts ≡ []) ⊎ (ts ≡ Sign s ∷ [])
@@ -261,6 +265,10 @@ abbrev pub Octets : List ℕ → List Terminal → Type 0
 Octets bs [] = bs ≡ []
 Octets bs (BYTES literal ∷ ts) = (a : List ℕ) × (b : List ℕ) × (bs ≡ a ++ b) × (value_of_bytes literal ≡ Some a) × Octets b ts
 Octets bs (_ ∷ ts) = ⊥
+
+-- pair: expression ':' expression
+abbrev pub PairsOf : Language → Expr × Expr → List Terminal → Type 0
+PairsOf E p ts = (f : List Terminal) × (g : List Terminal) × (ts ≡ f ++ Sign token.Colon ∷ g) × E expression_level p.0 f × E expression_level p.1 g
 
 -- an argument of a call: an expression, or a name and the expression that is passed by it
 pub data Argument : Type 0 where
@@ -322,6 +330,13 @@ Produces E l (tree.Call a x args names) ts =
 Produces E l (tree.Subscript a b) ts =
     (f : List Terminal) × (g : List Terminal)
     × (ts ≡ f ++ Sign token.LeftBracket ∷ (g ++ Sign token.RightBracket ∷ [])) × (l ≤ primary_level) × E primary_level a f × E expression_level b g
+-- atom: '[' [ expression { ',' expression } [','] ] ']'
+Produces E l (tree.ListDisplay items) ts =
+    (f : List Terminal) × (ts ≡ Sign token.LeftBracket ∷ (f ++ Sign token.RightBracket ∷ [])) × Separated (E expression_level) token.Comma (items_of items) f
+-- atom: '{' [ pair { ',' pair } [','] ] '}'
+Produces E l (tree.DictDisplay items) ts =
+    (pairs : List (Expr × Expr)) × (f : List Terminal) × (ts ≡ Sign token.LeftBrace ∷ (f ++ Sign token.RightBrace ∷ []))
+    × (items_of items ≡ flat_map (λ p. p.0 ∷ p.1 ∷ []) pairs) × Separated (PairsOf E) token.Comma pairs f
 -- atom: '(' [ expression ',' | expression ',' expression { ',' expression } [','] ] ')'
 Produces E l (tree.Tuple items) ts =
     (f : List Terminal) × (ts ≡ Sign token.LeftParenthesis ∷ (f ++ Sign token.RightParenthesis ∷ [])) × Ended (E expression_level) token.Comma (items_of items) f
@@ -365,6 +380,16 @@ IsExpressions e ts =
 
 -- ---- statements
 
+-- targets that are unpacked: one at least
+abbrev pub unpack_of : Option Targets → Option Target
+unpack_of (Some (tree.MoreTargets t ts)) = Some (tree.Unpack (tree.MoreTargets t ts))
+unpack_of _ = None
+
+-- a target and those after it, where all are targets
+abbrev pub more_targets : Option Target → Option Targets → Option Targets
+more_targets (Some t) (Some ts) = Some (tree.MoreTargets t ts)
+more_targets _ _ = None
+
 -- the sign of an augmented assignment
 abbrev pub augmented_of : BinaryOperator → Symbol
 augmented_of tree.BitOr = token.BarEqual
@@ -383,9 +408,38 @@ augmented_of tree.Power = token.DoubleStarEqual
 abbrev pub IsName : Text → List Terminal → Type 0
 IsName x ts = ts ≡ NAME x ∷ []
 
--- target: NAME, round which brackets may stand
+abbrev mutual
+  -- which expression is which target: a name, a subscription, and a tuple or a list of targets that has one at least, which is
+  -- unpacked (7.2; that `()` and `[]` are none is this project's own)
+  pub target_of : Expr → Option Target
+  target_of (tree.Name x) = Some (tree.Named x)
+  target_of (tree.Subscript a b) = Some (tree.Item a b)
+  target_of (tree.Tuple items) = unpack_of (targets_of items)
+  target_of (tree.ListDisplay items) = unpack_of (targets_of items)
+  target_of _ = None
+
+  -- those of expressions in a row, where each is a target
+  pub targets_of : Exprs → Option Targets
+  targets_of tree.NoExprs = Some tree.NoTargets
+  targets_of (tree.MoreExprs e es) = more_targets (target_of e) (targets_of es)
+
+-- target: expressions, where they are a target; brackets round it make no node
 abbrev pub IsTarget : Target → List Terminal → Type 0
-IsTarget (tree.Named x) ts = IsExpression (tree.Name x) ts
+IsTarget t ts = (e : Expr) × (target_of e ≡ Some t) × IsExpressions e ts
+
+-- target of a `for`: primary | primary ',' | primary ',' primary { ',' primary } [',']
+abbrev pub IsForTarget : Target → List Terminal → Type 0
+IsForTarget t ts =
+    (e : Expr) × (target_of e ≡ Some t)
+    × (Spells max_depth primary_level e ts
+    ⊎ ((items : List Expr) × (e ≡ tree.Tuple (exprs_of items)) × (0 < length items) × Ended (Spells max_item_depth primary_level) token.Comma items ts))
+
+-- { target '=' }, of one target at least
+abbrev pub Targeted : Targets → List Terminal → Type 0
+Targeted tree.NoTargets ts = ⊥
+Targeted (tree.MoreTargets t tree.NoTargets) ts = Ahead IsTarget (Sign token.Equal) t ts
+Targeted (tree.MoreTargets t (tree.MoreTargets u us)) ts =
+    (f : List Terminal) × (g : List Terminal) × (ts ≡ f ++ g) × Ahead IsTarget (Sign token.Equal) t f × Targeted (tree.MoreTargets u us) g
 
 -- NAME { ',' NAME }
 abbrev pub Names : List Text → List Terminal → Type 0
@@ -397,13 +451,17 @@ abbrev pub import_of : ModuleName → List Terminal
 import_of Threading = Word token.ImportWord ∷ (NAME (codes "threading") ∷ [])
 import_of Interpreters = Word token.FromWord ∷ (NAME (codes "concurrent") ∷ (Word token.ImportWord ∷ (NAME (codes "interpreters") ∷ [])))
 
--- small: expressions | target '=' expressions | target augmented expressions | 'pass' | 'break' | 'continue'
--- | 'return' [expressions] | 'global' NAME { ',' NAME } | 'raise' [expression] | import
+-- small: expressions | target '=' { target '=' } expressions | target augmented expressions, where the target is a name or a
+-- subscription | 'del' primary, which is a subscription | 'pass' | 'break' | 'continue' | 'return' [expressions]
+-- | 'global' NAME { ',' NAME } | 'raise' [expression] | import
 abbrev pub Small : Stmt → List Terminal → Type 0
 Small (tree.Evaluate e) ts = IsExpressions e ts
-Small (tree.Assign t e) ts = (f : List Terminal) × (g : List Terminal) × (ts ≡ f ++ Sign token.Equal ∷ g) × IsTarget t f × IsExpressions e g
-Small (tree.Augment t op e) ts =
-    (f : List Terminal) × (g : List Terminal) × (ts ≡ f ++ Sign (augmented_of op) ∷ g) × IsTarget t f × IsExpressions e g
+Small (tree.Assign targets e) ts = (f : List Terminal) × (g : List Terminal) × (ts ≡ f ++ g) × Targeted targets f × IsExpressions e g
+Small (tree.Augment x op e) ts =
+    (f : List Terminal) × (g : List Terminal) × (ts ≡ f ++ Sign (augmented_of op) ∷ g) × IsTarget (tree.Named x) f × IsExpressions e g
+Small (tree.AugmentItem a b op e) ts =
+    (f : List Terminal) × (g : List Terminal) × (ts ≡ f ++ Sign (augmented_of op) ∷ g) × IsTarget (tree.Item a b) f × IsExpressions e g
+Small (tree.Delete a b) ts = Behind (Word token.DelWord) (Spells max_depth primary_level) (tree.Subscript a b) ts
 Small tree.Pass ts = ts ≡ Word token.PassWord ∷ []
 Small tree.Break ts = ts ≡ Word token.BreakWord ∷ []
 Small tree.Continue ts = ts ≡ Word token.ContinueWord ∷ []
@@ -509,10 +567,10 @@ Compound L (tree.If test body other) ts =
 -- while: 'while' expression suite ['else' suite]
 Compound L (tree.While test body other) ts =
     (f : List Terminal) × (g : List Terminal) × (ts ≡ Word token.WhileWord ∷ (f ++ g)) × Tested L (test, body) f × Otherwise L other g
--- for: 'for' target 'in' expressions suite ['else' suite]
+-- for: 'for' targets 'in' expressions suite ['else' suite]
 Compound L (tree.For t over body other) ts =
     (f : List Terminal) × (g : List Terminal) × (h : List Terminal)
-    × (ts ≡ Word token.ForWord ∷ (f ++ Word token.InWord ∷ (g ++ h))) × IsTarget t f × Over L (over, body) g × Otherwise L other h
+    × (ts ≡ Word token.ForWord ∷ (f ++ Word token.InWord ∷ (g ++ h))) × IsForTarget t f × Over L (over, body) g × Otherwise L other h
 -- try: 'try' suite except { except } ['else' suite]
 Compound L (tree.Try body cs other) ts =
     (f : List Terminal) × (g : List Terminal)

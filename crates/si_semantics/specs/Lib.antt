@@ -1,6 +1,8 @@
 pub mod Value
 pub mod Opened
 pub mod Tuples
+pub mod Dicts
+pub mod Containers
 pub mod Code
 pub mod Tree
 pub mod Tokens

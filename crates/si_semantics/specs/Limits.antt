@@ -3,7 +3,7 @@
 use Rattle.std.specs.Prelude.{ℕ, ◌+◌, ◌≤◌, max, Bool, true, false, length, Option, Some, None, if◌then◌else◌}
 use Rattle.si_semantics.specs.Value.{Text, Str, Bytes}
 use Rattle.si_semantics.specs.Tree as tree
-use Rattle.si_semantics.specs.Tree.{Expr, Exprs, Comparisons, Stmt, Stmts, Clauses}
+use Rattle.si_semantics.specs.Tree.{Expr, Exprs, Comparisons, Stmt, Target, Targets, Stmts, Clauses}
 use Rattle.si_semantics.specs.Text.{max_length}
 use Rattle.si_semantics.specs.Grammar.{max_depth, max_parameters, max_nesting}
 
@@ -25,6 +25,8 @@ abbrev mutual
   depth_of (tree.Call a x args names) = max (depth_called x (depth_of a)) (depth_of_all args) + 1
   depth_of (tree.Subscript a b) = max (depth_of a) (depth_of b) + 1
   depth_of (tree.Tuple items) = depth_of_all items + 1
+  depth_of (tree.ListDisplay items) = depth_of_all items + 1
+  depth_of (tree.DictDisplay items) = depth_of_all items + 1
   depth_of (tree.Boolean o a more) = max (depth_of a) (depth_of_all more) + 1
   depth_of (tree.Compare a cs) = max (depth_of a) (depth_of_chain cs) + 1
   depth_of (tree.Conditional a b c) = max (depth_of a) (max (depth_of b) (depth_of c)) + 1
@@ -50,6 +52,8 @@ abbrev mutual
   longest_literal (tree.Call a x args names) = max (longest_literal a) (longest_literal_of_all args)
   longest_literal (tree.Subscript a b) = max (longest_literal a) (longest_literal b)
   longest_literal (tree.Tuple items) = longest_literal_of_all items
+  longest_literal (tree.ListDisplay items) = longest_literal_of_all items
+  longest_literal (tree.DictDisplay items) = longest_literal_of_all items
   longest_literal (tree.Boolean o a more) = max (longest_literal a) (longest_literal_of_all more)
   longest_literal (tree.Compare a cs) = max (longest_literal a) (longest_literal_of_chain cs)
   longest_literal (tree.Conditional a b c) = max (longest_literal a) (max (longest_literal b) (longest_literal c))
@@ -69,15 +73,28 @@ abbrev pub greatest_of_value : (Expr → ℕ) → Option Expr → ℕ
 greatest_of_value m None = 0
 greatest_of_value m (Some e) = m e
 
+-- the greatest measure of an expression that stands in a target; 0 where none does
+abbrev mutual
+  pub greatest_of_target : (Expr → ℕ) → Target → ℕ
+  greatest_of_target m (tree.Named x) = 0
+  greatest_of_target m (tree.Item a b) = max (m a) (m b)
+  greatest_of_target m (tree.Unpack ts) = greatest_of_targets m ts
+
+  pub greatest_of_targets : (Expr → ℕ) → Targets → ℕ
+  greatest_of_targets m tree.NoTargets = 0
+  greatest_of_targets m (tree.MoreTargets t ts) = max (greatest_of_target m t) (greatest_of_targets m ts)
+
 -- the greatest measure of an expression that stands in a statement; 0 where none does
 abbrev mutual
   pub greatest_of : (Expr → ℕ) → Stmt → ℕ
   greatest_of m (tree.Evaluate e) = m e
-  greatest_of m (tree.Assign t e) = m e
-  greatest_of m (tree.Augment t op e) = m e
+  greatest_of m (tree.Assign ts e) = max (greatest_of_targets m ts) (m e)
+  greatest_of m (tree.Augment x op e) = m e
+  greatest_of m (tree.AugmentItem a b op e) = max (m a) (max (m b) (m e))
+  greatest_of m (tree.Delete a b) = max (m a) (m b)
   greatest_of m (tree.If test body other) = max (m test) (max (greatest_in m body) (greatest_in m other))
   greatest_of m (tree.While test body other) = max (m test) (max (greatest_in m body) (greatest_in m other))
-  greatest_of m (tree.For t over body other) = max (m over) (max (greatest_in m body) (greatest_in m other))
+  greatest_of m (tree.For t over body other) = max (greatest_of_target m t) (max (m over) (max (greatest_in m body) (greatest_in m other)))
   greatest_of m (tree.Define x ps body) = greatest_in m body
   greatest_of m (tree.Return a) = greatest_of_value m a
   greatest_of m (tree.Raise a) = greatest_of_value m a

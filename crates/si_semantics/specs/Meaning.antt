@@ -1,13 +1,16 @@
 -- What a tree means (Python Language Reference 3.14, 6 to 8): no program counter, no frame, no stack.
 use Rattle.std.specs.Prelude.{ℕ, zero, suc, ◌+◌, List, [], ◌∷◌, ◌++◌, ◌-◌, length, Bool, true, false, not, Option, Some, None, nat_eq, slice_get, slice_set}
 use Rattle.si_semantics.specs.Value.{Text, Value, Nothing, Str, Function, Module, Address}
-use Rattle.si_semantics.specs.Tree.{BooleanOperator, Expr, Exprs, Comparisons, Stmt, Target, Stmts, Clauses, functions_of, functions_in, functions_in_clauses}
+use Rattle.si_semantics.specs.Tree.{BooleanOperator, Expr, Exprs, Comparisons, Stmt, Target, Targets, count_of_targets, Stmts, Clauses, functions_of, functions_in, functions_in_clauses}
 use Rattle.si_semantics.specs.Tree as tree
 use Rattle.si_semantics.specs.Scope.{place_of, locals_of}
 use Rattle.si_semantics.specs.World.{World, Request, Answer, Got, Failed, Wants, Ran, Gave, Threw, Asked, set_global, unset_global}
-use Rattle.si_semantics.specs.Operations.{exception, tuple_within, operate, operate_unary, is_true, compare, load_global, load_local, call_provided, call_by_name, not_callable, wrong_arguments, too_deep, type_error, raised_by, raised_again, catches, Iterator, iterator_of, Next, Item, Exhausted, Refuses, next_item}
+use Rattle.si_semantics.specs.Operations.{exception, tuple_within, list_within, comparison_message, operate, operate_unary, is_true, compare, load_global, load_local, call_provided, call_by_name, not_callable, wrong_arguments, too_deep, type_error, raised_by, raised_again, catches, Iterator, iterator_of, Next, Item, Exhausted, Refuses, next_item}
 use Rattle.si_semantics.specs.Replies.{reply}
 use Rattle.si_semantics.specs.Subscription.{subscript}
+use Rattle.si_semantics.specs.Containers.{dict_of, set_item, delete_item, augment, unpacked}
+use Rattle.std.specs.Prelude as prelude
+use Rattle.si_plain.specs.declared.kind.Kind.{Kind}
 use Rattle.si_semantics.specs.Attributes.{Method, attribute, called, method_of, call_method}
 use Rattle.si_semantics.specs.Text.{module_name}
 
@@ -111,14 +114,6 @@ abbrev pub assign : Text → Option ℕ → Value → Meaning (Unit {0})
 assign x None v s = Gives tt (record s { world = set_global x v s.world })
 assign x (Some k) v s = Gives tt (record s { slots = slice_set s.slots k (Some v) })
 
--- a target is bound to a value (Language Reference, 7.2)
-abbrev pub bind : Scope → Target → Value → Meaning (Unit {0})
-bind e (tree.Named x) v s = assign x (place_of x e.locals) v s
-
--- the value that a target has (Language Reference, 7.2.1)
-abbrev pub target_value : Scope → Target → Meaning Value
-target_value e (tree.Named x) s = read x (place_of x e.locals) s
-
 -- a name is unbound, where it is bound (Language Reference, 8.4.1)
 abbrev pub unassign : Text → Option ℕ → Meaning (Unit {0})
 unassign x None s = Gives tt (record s { world = unset_global x s.world })
@@ -174,6 +169,8 @@ abbrev mutual
   expr e (tree.Call f x args names) s = then (callee x (expr e f) (visit s)) (λ g s1. then (exprs e args s1) (λ vs s2. calls_attribute e x g vs names s2))
   expr e (tree.Subscript a b) s = then (expr e a (visit s)) (λ u s1. then (expr e b s1) (λ v s2. ran (subscript u v s2.world) s2))
   expr e (tree.Tuple items) s = then (exprs e items (visit s)) (λ vs s1. ran (tuple_within vs s1.world) s1)
+  expr e (tree.ListDisplay items) s = then (exprs e items (visit s)) (λ vs s1. ran (list_within vs s1.world) s1)
+  expr e (tree.DictDisplay items) s = then (exprs e items (visit s)) (λ vs s1. ran (dict_of vs s1.world) s1)
   expr e (tree.Boolean o a more) s = then (expr e a (visit s)) (λ u s1. operands e o u more s1)
   expr e (tree.Compare a cs) s = then (expr e a (visit s)) (λ u s1. chain e u cs s1)
   expr e (tree.Conditional a b c) s = then (expr e a (visit s)) (λ t s1. choose (is_true t s1.world) (expr e b s1) (expr e c s1))
@@ -193,6 +190,33 @@ abbrev mutual
   chain e u tree.NoComparisons s = Gives u s
   chain e u (tree.MoreComparisons o a cs) s =
       then (expr e a s) (λ v s1. then (ran (compare o u v s1.world) s1) (λ t s2. compared cs t (chain e v cs) s2))
+
+-- an operation that has no value
+abbrev pub done : Ran → Meaning (Unit {0})
+done r s = then (ran r s) (λ v s1. Gives tt s1)
+
+-- what was unpacked goes on to the targets, or an exception is raised (the messages are this project's own)
+abbrev pub spread : prelude.Result (List Value) Kind → (List Value → Meaning (Unit {0})) → Meaning (Unit {0})
+spread (prelude.Ok vs) f s = f vs s
+spread (prelude.Err k) f s = raised (exception k (Some (Str (comparison_message k))) s.world) s
+
+abbrev mutual
+  -- a target is bound to a value: a name; of a subscription first the object and then the index is evaluated, and that item is
+  -- set; and targets in a row are bound to the items of the value, of which there are as many (Language Reference, 7.2)
+  pub bind : Scope → Target → Value → Meaning (Unit {0})
+  bind e (tree.Named x) v s = assign x (place_of x e.locals) v (visit s)
+  bind e (tree.Item a b) v s = then (expr e a (visit s)) (λ u s1. then (expr e b s1) (λ i s2. done (set_item u i v s2.world) s2))
+  bind e (tree.Unpack ts) v s = spread (unpacked (count_of_targets ts) v s.world) (λ vs s1. bind_each e ts vs s1) (visit s)
+
+  -- targets are bound to values from the left
+  pub bind_each : Scope → Targets → List Value → Meaning (Unit {0})
+  bind_each e (tree.MoreTargets t ts) (v ∷ vs) s = then (bind e t v s) (λ u s1. bind_each e ts vs s1)
+  bind_each e _ _ s = Gives tt s
+
+-- each of the targets is bound to the one value, from the left (Language Reference, 7.2)
+abbrev pub bind_all : Scope → Targets → Value → Meaning (Unit {0})
+bind_all e tree.NoTargets v s = Gives tt s
+bind_all e (tree.MoreTargets t ts) v s = then (bind e t v s) (λ u s1. bind_all e ts v s1)
 
 -- after the body of a turn there is another turn, unless the body was left by `break`, which ends the loop without its
 -- else suite (Language Reference, 7.9 and 7.10), or by `return` or an exception
@@ -271,19 +295,27 @@ named e (Some y) x suite s =
     then (assign y (place_of y e.locals) (Address x) s) (λ u s1. finally e.active (suite s1) (λ active s2. unassign y (place_of y e.locals) s2))
 
 abbrev mutual
-  -- a statement (Language Reference, 7 and 8): of an assignment the right side first, then its target; of an augmented
-  -- one the target, its value, the right side, the operation, and then the target is bound (7.2.1); `def` binds its name
+  -- a statement (Language Reference, 7 and 8): of an assignment the right side first, then its targets; of an augmented
+  -- one the target, its value, the right side, the operation, and then the target is bound, and a subscription's object and index
+  -- are evaluated once (7.2.1); `del` deletes an item, whose target counts a visit (7.5); `def` binds its name
   -- to the function (8.7), `global` does nothing (7.12), an import binds the module's name to the module (7.11)
   pub stmt : Scope → Stmt → Meaning (Unit {0})
   stmt e (tree.Evaluate a) s = then (expr e a (visit s)) (λ v s1. Gives tt s1)
-  stmt e (tree.Assign t a) s = then (expr e a (visit s)) (λ v s1. bind e t v (visit s1))
-  stmt e (tree.Augment t o a) s =
-      then (target_value e t (visit (visit s))) (λ u s1. then (expr e a s1) (λ v s2. then (ran (operate o u v s2.world) s2) (λ z s3. bind e t z s3)))
+  stmt e (tree.Assign ts a) s = then (expr e a (visit s)) (λ v s1. bind_all e ts v s1)
+  stmt e (tree.Augment x o a) s =
+      then (read x (place_of x e.locals) (visit (visit s)))
+      (λ u s1. then (expr e a s1) (λ v s2. then (ran (augment o u v s2.world) s2) (λ z s3. assign x (place_of x e.locals) z s3)))
+  stmt e (tree.AugmentItem a b o c) s =
+      then (expr e a (visit (visit s)))
+      (λ u s1. then (expr e b s1)
+      (λ i s2. then (ran (subscript u i s2.world) s2)
+      (λ y s3. then (expr e c s3) (λ z s4. then (ran (augment o y z s4.world) s4) (λ x s5. done (set_item u i x s5.world) s5)))))
+  stmt e (tree.Delete a b) s = then (expr e a (visit (visit s))) (λ u s1. then (expr e b s1) (λ i s2. done (delete_item u i s2.world) s2))
   stmt e tree.Pass s = Gives tt (visit s)
   stmt e (tree.If a b c) s = then (expr e a (visit s)) (λ t s1. choose (is_true t s1.world) (stmts e b s1) (stmts (behind (functions_in b) e) c s1))
   stmt e (tree.While a b c) s = loop e.turns (expr e a) (stmts e b) (stmts (behind (functions_in b) e) c) (visit s)
   stmt e (tree.For t a b c) s =
-      then (expr e a (visit s)) (λ v s1. over (iterator_of v s1.world) (for_loop e.turns (λ u s2. bind e t u (visit s2)) (stmts e b) (stmts (behind (functions_in b) e) c)) s1)
+      then (expr e a (visit s)) (λ v s1. over (iterator_of v s1.world) (for_loop e.turns (λ u s2. bind e t u s2) (stmts e b) (stmts (behind (functions_in b) e) c)) s1)
   stmt e tree.Break s = Leaves Breaks (visit s)
   stmt e tree.Continue s = Leaves Continues (visit s)
   stmt e (tree.Define f ps b) s = assign f (place_of f e.locals) (Function f e.first) (visit s)

@@ -1,17 +1,18 @@
 -- What operations on values do (Python Language Reference 3.14, 6.5 to 6.10, 7.8, 8.3 and 8.4). They never see answers.
-use Rattle.std.specs.Prelude.{codes, ℕ, zero, suc, ◌+◌, ◌-◌, ◌*◌, ◌/◌, ◌%◌, ◌-ℤ◌, ◌+ℤ◌, ℤ, pos, negsuc, unsigned_abs, int_lt, List, [], ◌∷◌, ◌++◌, length, Bool, true, false, not, ◌&&◌, ◌||◌, Option, Some, None, option_map, Result, Ok, Err, nat_lt, nat_eq, slice_get, if◌then◌else◌}
+use Rattle.std.specs.Prelude.{codes, ℕ, zero, suc, ◌+◌, ◌-◌, ◌*◌, ◌/◌, ◌%◌, ◌-ℤ◌, ◌+ℤ◌, ℤ, pos, negsuc, unsigned_abs, int_lt, List, [], ◌∷◌, ◌++◌, length, Bool, true, false, not, ◌&&◌, ◌||◌, Option, Some, None, option_map, is_some, Result, Ok, Err, nat_lt, nat_eq, slice_get, if◌then◌else◌}
 use Rattle.si_plain.specs.declared.kind.Kind.{Kind}
 use Rattle.si_plain.specs.declared.kind.Kind.TheVariants.{BaseException, Exception, ArithmeticError, OverflowError, ZeroDivisionError, AttributeError, LookupError, IndexError, KeyError, NameError, UnboundLocalError, RuntimeError, RecursionError, SyntaxError, TypeError, ValueError}
 use Rattle.si_plain.specs.Kinds.{name_of, same_kind, is_a}
 use Rattle.si_plain.specs.declared.modules.ModuleName.{ModuleName}
 use Rattle.si_plain.specs.declared.modules.ModuleName.TheVariants.{Threading, Interpreters}
 use Rattle.si_plain.specs.Integers.{in_range, sum_of, difference_of, product_of, floor_quotient, floor_remainder, power_result, negative_of, shifted_left, shifted_right, inverted, bits_and, bits_or, bits_xor}
-use Rattle.si_semantics.specs.Value.{Text, Value, NoValues, Nothing, Truth, Int, Str, Bytes, Provided, Function, Range, Tuple, Class, Module, Queue, Interpreter, Exec, Address, BuiltIn, Print, MakeRange, MakeStr, Repr, Len, MakeBool, Abs, MakeInt, Ord, Chr, Min, Max, MakeTuple, MakeBytes, Object, items_of, tuple_of}
+use Rattle.si_semantics.specs.Value.{Text, Value, NoValues, Nothing, Truth, Int, Str, Bytes, Provided, Function, Range, Tuple, Class, Module, Queue, Interpreter, Exec, Address, BuiltIn, Print, MakeRange, MakeStr, Repr, Len, MakeBool, Abs, MakeInt, Ord, Chr, Min, Max, MakeTuple, MakeBytes, MakeList, Key, Object, items_of, tuple_of}
 use Rattle.si_semantics.specs.Value as value
 use Rattle.si_semantics.specs.Tree as tree
 use Rattle.si_semantics.specs.Tree.{BinaryOperator, UnaryOperator, ComparisonOperator}
 use Rattle.si_semantics.specs.Text.{max_length, max_nested, built_in_name, same_text, same_int, str_in, repr_in, line_of}
-use Rattle.si_semantics.specs.Tuples.{is_too_large, characters_in, numbers_in, integers_in, repeated_items}
+use Rattle.si_semantics.specs.Tuples.{is_too_large, characters_in, numbers_in, integers_in, copies, repeated_items}
+use Rattle.si_semantics.specs.Dicts.{key_of, value_at, keys_in}
 use Rattle.si_semantics.specs.Numerals.{read_integer}
 use Rattle.si_semantics.specs.Literals.{is_character}
 use Rattle.si_semantics.specs.Parts.{is_part}
@@ -24,6 +25,10 @@ exception k a w = (length w.store, record w { store = w.store ++ value.Exception
 -- a value, and nothing is printed
 abbrev pub gave : Value → World → Ran
 gave v w = Gave v None w
+
+-- a new object, by its address
+abbrev pub placed : Object → World → Ran
+placed o w = gave (Address (length w.store)) (record w { store = w.store ++ o ∷ [] })
 
 -- an exception with a message
 abbrev pub refused : Kind → Text → World → Ran
@@ -111,6 +116,25 @@ operate_truths o a b w = integer (operate_integers o (int_of_truth a) (int_of_tr
 abbrev pub tuple_within : List Value → World → Ran
 tuple_within vs w = if is_too_large (tuple_of vs) then too_long w else gave (tuple_of vs) w
 
+-- a new list of these items, where they are not too many (this project's own)
+abbrev pub list_within : List Value → World → Ran
+list_within vs w = if nat_lt max_length (length vs) then too_long w else placed (value.Items vs) w
+
+-- two objects joined: two lists in a new one
+abbrev pub joined_objects : Option Object → Option Object → World → Ran
+joined_objects (Some (value.Items us)) (Some (value.Items vs)) w = list_within (us ++ vs) w
+joined_objects _ _ w = wrong_type w
+
+-- items so many times in a new list, below 0 as none
+abbrev pub list_repeated : List Value → ℤ → World → Ran
+list_repeated vs (pos n) w = elim (nat_lt max_length (n * length vs)) [ true ↦ too_long w | false ↦ placed (value.Items (copies n vs)) w ]
+list_repeated vs (negsuc n) w = placed (value.Items []) w
+
+-- an object repeated: a list in a new one
+abbrev pub repeated_object : Option Object → ℤ → World → Ran
+repeated_object (Some (value.Items vs)) i w = list_repeated vs i w
+repeated_object _ i w = wrong_type w
+
 -- an operator between two values (Language Reference, 6.5 and 6.7 to 6.9)
 abbrev pub operate : BinaryOperator → Value → Value → World → Ran
 operate o (Int i) (Int j) w = integer (operate_integers o i j) w
@@ -132,6 +156,11 @@ operate tree.Multiply (Tuple us) (Int j) w = tuple_within (repeated_items (items
 operate tree.Multiply (Tuple us) (Truth b) w = tuple_within (repeated_items (items_of us) (int_of_truth b)) w
 operate tree.Multiply (Int i) (Tuple vs) w = tuple_within (repeated_items (items_of vs) i) w
 operate tree.Multiply (Truth a) (Tuple vs) w = tuple_within (repeated_items (items_of vs) (int_of_truth a)) w
+operate tree.Add (Address x) (Address y) w = joined_objects (slice_get w.store x) (slice_get w.store y) w
+operate tree.Multiply (Address x) (Int j) w = repeated_object (slice_get w.store x) j w
+operate tree.Multiply (Address x) (Truth b) w = repeated_object (slice_get w.store x) (int_of_truth b) w
+operate tree.Multiply (Int i) (Address y) w = repeated_object (slice_get w.store y) i w
+operate tree.Multiply (Truth a) (Address y) w = repeated_object (slice_get w.store y) (int_of_truth a) w
 operate _ _ _ w = wrong_type w
 
 -- an item of a range lies before its stop, the way that the step goes (Standard Library, "Built-in Types": ranges)
@@ -149,6 +178,12 @@ range_length a b (negsuc c) = if int_lt b a then (unsigned_abs (a -ℤ b) - 1) /
 abbrev pub is_among : (at start stop step : ℤ) → Bool
 is_among i a b c = not (is_item i a c) && (is_item i b c && nat_eq (unsigned_abs (i -ℤ a) % unsigned_abs c) 0)
 
+-- an object counts as true: not a list without items, nor a dict without keys
+abbrev pub is_true_object : Option Object → Bool
+is_true_object (Some (value.Items [])) = false
+is_true_object (Some (value.Pairs [])) = false
+is_true_object _ = true
+
 -- whether a value counts as true in a world (Standard Library, "Built-in Types": truth value testing)
 abbrev pub is_true : Value → World → Bool
 is_true Nothing w = false
@@ -158,6 +193,7 @@ is_true (Str []) w = false
 is_true (Bytes []) w = false
 is_true (Range a b c) w = is_item a b c
 is_true (Tuple NoValues) w = false
+is_true (Address x) w = is_true_object (slice_get w.store x)
 is_true _ w = true
 
 -- an operator before a value (Language Reference, 6.6; `not`: 6.11)
@@ -194,6 +230,7 @@ same_built_in Min Min = true
 same_built_in Max Max = true
 same_built_in MakeBytes MakeBytes = true
 same_built_in MakeTuple MakeTuple = true
+same_built_in MakeList MakeList = true
 same_built_in _ _ = false
 
 -- two modules have one name
@@ -207,30 +244,41 @@ abbrev pub same_range : (a b c d e f : ℤ) → Bool
 same_range a b c d e f =
     let n = range_length a b c in nat_eq n (range_length d e f) && (nat_eq n 0 || (same_int a d && (nat_eq n 1 || same_int c f)))
 
--- `==` of two values, by that of the items of two tuples: integers, True and False by their values, str by their
--- characters, bytes by theirs, ranges by their items, built-ins, kinds and modules by name, queues, interpreters and their `exec` by number,
--- exceptions and threads by address, None is equal to
--- itself; what is of different kinds is unequal (Language Reference, 6.10.1); two functions are not compared (this
--- project's own)
-abbrev pub equal_by : (List Value → List Value → Result Bool Kind) → Value → Value → World → Result Bool Kind
-equal_by items Nothing Nothing w = Ok true
-equal_by items (Int i) (Int j) w = Ok (same_int i j)
-equal_by items (Int i) (Truth b) w = Ok (same_int i (int_of_truth b))
-equal_by items (Truth a) (Int j) w = Ok (same_int (int_of_truth a) j)
-equal_by items (Truth a) (Truth b) w = Ok (not (differ a b))
-equal_by items (Str s) (Str t) w = Ok (same_text s t)
-equal_by items (Bytes s) (Bytes t) w = Ok (same_text s t)
-equal_by items (Provided f) (Provided g) w = Ok (same_built_in f g)
-equal_by items (Function f k) (Function g l) w = Err TypeError
-equal_by items (Range a b c) (Range d e f) w = Ok (same_range a b c d e f)
-equal_by items (Tuple us) (Tuple vs) w = items (items_of us) (items_of vs)
-equal_by items (Class k) (Class l) w = Ok (same_kind k l)
-equal_by items (Module m) (Module n) w = Ok (same_module m n)
-equal_by items (Queue q m) (Queue r n) w = Ok (nat_eq q r)
-equal_by items (Interpreter i) (Interpreter j) w = Ok (nat_eq i j)
-equal_by items (Exec i) (Exec j) w = Ok (nat_eq i j)
-equal_by items (Address x) (Address y) w = Ok (nat_eq x y)
-equal_by items _ _ w = Ok false
+-- How the parts of two values are compared: the items of two sequences, and the pairs of two dicts.
+pub record Compared : Type 0 where
+  pub items : List Value → List Value → Result Bool Kind
+  pub pairs : List (Key × Value) → List (Key × Value) → Result Bool Kind
+
+-- `==` of two objects at different addresses: two lists by their items, two dicts by their pairs; others are unequal
+abbrev pub equal_objects : Compared → Option Object → Option Object → Result Bool Kind
+equal_objects parts (Some (value.Items us)) (Some (value.Items vs)) = parts.items us vs
+equal_objects parts (Some (value.Pairs ps)) (Some (value.Pairs qs)) = parts.pairs ps qs
+equal_objects parts _ _ = Ok false
+
+-- `==` of two values, by that of their parts: integers, True and False by their values, str by their
+-- characters, bytes by theirs, ranges by their items, tuples and lists by their items, dicts by their pairs, built-ins, kinds and
+-- modules by name, queues, interpreters and their `exec` by number, exceptions and threads by address, None is equal to
+-- itself, and so is what has one address; what is of different kinds is unequal (Language Reference, 6.10.1); two functions
+-- are not compared (this project's own)
+abbrev pub equal_by : Compared → Value → Value → World → Result Bool Kind
+equal_by parts Nothing Nothing w = Ok true
+equal_by parts (Int i) (Int j) w = Ok (same_int i j)
+equal_by parts (Int i) (Truth b) w = Ok (same_int i (int_of_truth b))
+equal_by parts (Truth a) (Int j) w = Ok (same_int (int_of_truth a) j)
+equal_by parts (Truth a) (Truth b) w = Ok (not (differ a b))
+equal_by parts (Str s) (Str t) w = Ok (same_text s t)
+equal_by parts (Bytes s) (Bytes t) w = Ok (same_text s t)
+equal_by parts (Provided f) (Provided g) w = Ok (same_built_in f g)
+equal_by parts (Function f k) (Function g l) w = Err TypeError
+equal_by parts (Range a b c) (Range d e f) w = Ok (same_range a b c d e f)
+equal_by parts (Tuple us) (Tuple vs) w = parts.items (items_of us) (items_of vs)
+equal_by parts (Class k) (Class l) w = Ok (same_kind k l)
+equal_by parts (Module m) (Module n) w = Ok (same_module m n)
+equal_by parts (Queue q m) (Queue r n) w = Ok (nat_eq q r)
+equal_by parts (Interpreter i) (Interpreter j) w = Ok (nat_eq i j)
+equal_by parts (Exec i) (Exec j) w = Ok (nat_eq i j)
+equal_by parts (Address x) (Address y) w = if nat_eq x y then Ok true else equal_objects parts (slice_get w.store x) (slice_get w.store y)
+equal_by parts _ _ w = Ok false
 
 -- where what came first is equal, what comes after it decides
 abbrev pub and_then : Result Bool Kind → Result Bool Kind → Result Bool Kind
@@ -247,10 +295,32 @@ each_equal equal _ _ = Ok false
 abbrev pub items_equal : (Value → Value → Result Bool Kind) → List Value → List Value → Result Bool Kind
 items_equal equal us vs = if nat_eq (length us) (length vs) then each_equal equal us vs else Ok false
 
--- `==`, where tuples are within each other at most so deep (this project's own)
+-- a value is equal to that of a key, where the key is there
+abbrev pub equal_found : (Value → Value → Result Bool Kind) → Value → Option Value → Result Bool Kind
+equal_found equal u (Some v) = equal u v
+equal_found equal u None = Ok false
+
+-- each key of the first is in the second, with an equal value, up to the first of which that is not so
+abbrev pub each_found : (Value → Value → Result Bool Kind) → List (Key × Value) → List (Key × Value) → Result Bool Kind
+each_found equal [] qs = Ok true
+each_found equal (p ∷ ps) qs = and_then (equal_found equal p.1 (value_at p.0 qs)) (each_found equal ps qs)
+
+-- the pairs of two dicts: those of different lengths are not compared (Language Reference, 6.10.1)
+abbrev pub pairs_equal : (Value → Value → Result Bool Kind) → List (Key × Value) → List (Key × Value) → Result Bool Kind
+pairs_equal equal ps qs = if nat_eq (length ps) (length qs) then each_found equal ps qs else Ok false
+
+-- parts that are too deep to be compared
+abbrev pub not_compared : Compared
+not_compared = record { items = λ us vs. Err RecursionError; pairs = λ ps qs. Err RecursionError }
+
+-- parts that are compared by `==` of two values
+abbrev pub compared_by : (Value → Value → Result Bool Kind) → Compared
+compared_by equal = record { items = items_equal equal; pairs = pairs_equal equal }
+
+-- `==`, where tuples, lists and dicts are within each other at most so deep (this project's own)
 abbrev pub equal_within : ℕ → Value → Value → World → Result Bool Kind
-equal_within zero u v w = equal_by (λ us vs. Err RecursionError) u v w
-equal_within (suc n) u v w = equal_by (items_equal (λ a b. equal_within n a b w)) u v w
+equal_within zero u v w = equal_by not_compared u v w
+equal_within (suc n) u v w = equal_by (compared_by (λ a b. equal_within n a b w)) u v w
 
 -- `==` (Language Reference, 6.10.1)
 abbrev pub are_equal : Value → Value → World → Result Bool Kind
@@ -284,14 +354,25 @@ abbrev pub or_later : Result Bool Kind → Result Bool Kind → Result Bool Kind
 or_later (Ok false) rest = rest
 or_later decided rest = decided
 
--- a value is equal to one of these, asked from the left
+-- a value is equal to one of these: it is asked whether it is equal to each, from the left
 abbrev pub is_any_of : List Value → Value → World → Result Bool Kind
 is_any_of [] v w = Ok false
-is_any_of (u ∷ us) v w = or_later (are_equal u v w) (is_any_of us v w)
+is_any_of (u ∷ us) v w = or_later (are_equal v u w) (is_any_of us v w)
 
--- `v in u`: of a str its parts, which are str; of bytes their parts, which are bytes, and each of them; of a range its
--- items; of a tuple its items. True and False count as 1 and 0, and what is no integer is no item of a range. No other
--- value has any yet (Language Reference, 6.10.2)
+-- a value is a key of a dict, where it can be one
+abbrev pub is_key : Option Key → List (Key × Value) → Result Bool Kind
+is_key (Some k) ps = Ok (is_some (value_at k ps))
+is_key None ps = Err TypeError
+
+-- an object contains a value: a list its items, a dict its keys
+abbrev pub object_contains : Option Object → Value → World → Result Bool Kind
+object_contains (Some (value.Items us)) v w = is_any_of us v w
+object_contains (Some (value.Pairs ps)) v w = is_key (key_of v) ps
+object_contains _ v w = Err TypeError
+
+-- `v in u`: of a str its parts, which are str; of bytes their parts, which are bytes, and each of them; of a range, a tuple and
+-- a list their items; of a dict its keys. True and False count as 1 and 0, and what is no integer is no item of a range. No
+-- other value has any (Language Reference, 6.10.2)
 abbrev pub contains : (whole : Value) → Value → World → Result Bool Kind
 contains (Str s) (Str t) w = Ok (is_part s t)
 contains (Bytes s) (Bytes t) w = Ok (is_part s t)
@@ -301,6 +382,7 @@ contains (Range a b c) (Int i) w = Ok (is_among i a b c)
 contains (Range a b c) (Truth t) w = Ok (is_among (int_of_truth t) a b c)
 contains (Range a b c) _ w = Ok false
 contains (Tuple us) v w = is_any_of (items_of us) v w
+contains (Address x) v w = object_contains (slice_get w.store x) v w
 contains _ _ w = Err TypeError
 
 -- the message with which a comparison refuses (this project's own)
@@ -346,7 +428,7 @@ kind_named x (k ∷ ks) = if same_text x (name_of k) then Some k else kind_named
 -- the built-ins that are no kinds (Standard Library, "Built-in Functions"), this project's own choice among them
 abbrev pub built_ins : List BuiltIn
 built_ins =
-    Print ∷ MakeRange ∷ MakeStr ∷ Repr ∷ Len ∷ MakeBool ∷ Abs ∷ MakeInt ∷ Ord ∷ Chr ∷ Min ∷ Max ∷ MakeBytes ∷ MakeTuple ∷ []
+    Print ∷ MakeRange ∷ MakeStr ∷ Repr ∷ Len ∷ MakeBool ∷ Abs ∷ MakeInt ∷ Ord ∷ Chr ∷ Min ∷ Max ∷ MakeBytes ∷ MakeTuple ∷ MakeList ∷ []
 
 -- the built-in of a name among these
 abbrev pub built_in_named : Text → List BuiltIn → Option BuiltIn
@@ -416,13 +498,20 @@ range_of (Some a) (Some b) (Some (pos zero)) w = refused ValueError (codes "wron
 range_of (Some a) (Some b) (Some c) w = gave (Range a b c) w
 range_of _ _ _ w = wrong_type w
 
--- how many characters, bytes or items a value has: a str, bytes, a range and a tuple have them (Standard Library,
--- "Built-in Functions": len); past the integers an OverflowError (this project's own)
+-- how many items or keys an object has: a list, a dict
+abbrev pub length_of_object : Option Object → World → Ran
+length_of_object (Some (value.Items vs)) w = gave (Int (pos (length vs))) w
+length_of_object (Some (value.Pairs ps)) w = integer (in_range (pos (length ps))) w
+length_of_object _ w = wrong_type w
+
+-- how many characters, bytes, items or keys a value has: a str, bytes, a range, a tuple, a list and a dict have them (Standard
+-- Library, "Built-in Functions": len); past the integers an OverflowError (this project's own)
 abbrev pub length_of : Value → World → Ran
 length_of (Str s) w = gave (Int (pos (length s))) w
 length_of (Bytes bs) w = gave (Int (pos (length bs))) w
 length_of (Range a b c) w = integer (in_range (pos (range_length a b c))) w
 length_of (Tuple vs) w = gave (Int (pos (length (items_of vs)))) w
+length_of (Address x) w = length_of_object (slice_get w.store x) w
 length_of _ w = wrong_type w
 
 -- an integer without its sign (Standard Library, "Built-in Functions": abs)
@@ -494,22 +583,55 @@ abbrev pub bytes_made : Option (List ℕ) → World → Ran
 bytes_made (Some bs) w = bytes_within bs w
 bytes_made None w = refused ValueError (codes "wrong value") w
 
--- the bytes of the items of a value (Standard Library, "Built-in Functions": bytes), of a range or a tuple
+-- the bytes of the items of an object, a list
+abbrev pub bytes_of_object : Option Object → World → Ran
+bytes_of_object (Some (value.Items vs)) w = bytes_made (bytes_in vs) w
+bytes_of_object _ w = wrong_type w
+
+-- the bytes of the items of a value (Standard Library, "Built-in Functions": bytes), of a range, a tuple or a list
 abbrev pub bytes_of : Value → World → Ran
 bytes_of (Range a b c) w = bytes_made (bytes_from (range_items a b c)) w
 bytes_of (Tuple vs) w = bytes_made (bytes_in (items_of vs)) w
+bytes_of (Address x) w = bytes_of_object (slice_get w.store x) w
 bytes_of _ w = wrong_type w
+
+-- the items of an object that can be gone over: those of a list, the keys of a dict
+abbrev pub items_of_object : Option Object → Option (List Value)
+items_of_object (Some (value.Items vs)) = Some vs
+items_of_object (Some (value.Pairs ps)) = Some (keys_in ps)
+items_of_object _ = None
+
+-- all items of a value that can be gone over: the characters of a str, bytes as integers, the items of a range, a tuple and a
+-- list, the keys of a dict
+abbrev pub items_from : Value → World → Option (List Value)
+items_from (Str s) w = Some (characters_in s)
+items_from (Bytes bs) w = Some (numbers_in bs)
+items_from (Range a b c) w = Some (integers_in (range_items a b c))
+items_from (Tuple vs) w = Some (items_of vs)
+items_from (Address x) w = items_of_object (slice_get w.store x)
+items_from _ w = None
+
+-- items, where there are any, in a tuple
+abbrev pub tuple_made : Option (List Value) → World → Ran
+tuple_made (Some vs) w = tuple_within vs w
+tuple_made None w = wrong_type w
 
 -- the tuple of a value's items; a tuple is its own (Standard Library, "Built-in Types": tuple)
 abbrev pub tuple_from : Value → World → Ran
-tuple_from (Str s) w = tuple_within (characters_in s) w
-tuple_from (Bytes bs) w = tuple_within (numbers_in bs) w
-tuple_from (Range a b c) w = tuple_within (integers_in (range_items a b c)) w
 tuple_from (Tuple vs) w = gave (Tuple vs) w
-tuple_from _ w = wrong_type w
+tuple_from v w = tuple_made (items_from v w) w
+
+-- items, where there are any, in a new list
+abbrev pub list_made : Option (List Value) → World → Ran
+list_made (Some vs) w = list_within vs w
+list_made None w = wrong_type w
+
+-- the new list of a value's items (Standard Library, "Built-in Types": list)
+abbrev pub list_from : Value → World → Ran
+list_from v w = list_made (items_from v w) w
 
 -- a call of a built-in (Standard Library, "Built-in Functions": print, range, str, repr, len, bool, abs, int, ord, chr,
--- min, max, bytes, tuple); min and max take two values or more (this project's own)
+-- min, max, bytes, tuple, list); min and max take two values or more (this project's own)
 abbrev pub call_built_in : BuiltIn → List Value → World → Ran
 call_built_in Print vs w = printing (line_of w.store vs) w
 call_built_in MakeRange (b ∷ []) w = range_of (Some (pos 0)) (integer_in b) (Some (pos 1)) w
@@ -527,6 +649,7 @@ call_built_in Min (u ∷ v ∷ vs) w = least u (v ∷ vs) w
 call_built_in Max (u ∷ v ∷ vs) w = greatest u (v ∷ vs) w
 call_built_in MakeBytes (v ∷ []) w = bytes_of v w
 call_built_in MakeTuple (v ∷ []) w = tuple_from v w
+call_built_in MakeList (v ∷ []) w = list_from v w
 call_built_in _ _ w = wrong_arguments w
 
 -- a new exception as a value
@@ -576,10 +699,8 @@ raised_again None w = exception RuntimeError (Some (Str (codes "no active except
 
 -- an object is an exception of a kind, or of one under it
 abbrev pub is_of : Kind → Option Object → Bool
-is_of top None = false
 is_of top (Some (value.Exception k a)) = is_a k top
-is_of top (Some (value.Thread i text)) = false
-is_of top (Some (value.Started r)) = false
+is_of top _ = false
 
 -- an object is an exception of one of these kinds, or of one under it; values that are no kinds have no answer, whatever
 -- stands before them (this project's own)
@@ -611,7 +732,17 @@ pub data Iterator : Type 0 where
   Octets : List ℕ → Iterator
   -- the items of a tuple
   Items : List Value → Iterator
+  -- the items of a list, by its address, from a position on: it is looked at as it is at that turn
+  Listed : (address at : ℕ) → Iterator
+  -- the keys of a dict, by its address, from a position on, and how many it had at first
+  Keys : (address at count : ℕ) → Iterator
   NoMore : Iterator
+
+-- what an object gives, where it can be gone over
+abbrev pub iterator_at : ℕ → Option Object → Option Iterator
+iterator_at x (Some (value.Items vs)) = Some (Listed x 0)
+iterator_at x (Some (value.Pairs ps)) = Some (Keys x 0 (length ps))
+iterator_at x _ = None
 
 -- what a value gives in a world, where it can be gone over
 abbrev pub iterator_of : Value → World → Option Iterator
@@ -619,6 +750,7 @@ iterator_of (Range a b c) w = Some (Numbers a b c)
 iterator_of (Str s) w = Some (Characters s)
 iterator_of (Bytes bs) w = Some (Octets bs)
 iterator_of (Tuple vs) w = Some (Items (items_of vs))
+iterator_of (Address x) w = iterator_at x (slice_get w.store x)
 iterator_of _ w = None
 
 -- the items of a range after one: what lies past the integers lies past the stop
@@ -626,12 +758,28 @@ abbrev pub numbers_from : Result ℤ Kind → (stop step : ℤ) → Iterator
 numbers_from (Ok at) stop step = Numbers at stop step
 numbers_from (Err k) stop step = NoMore
 
--- what comes of the wish for a next item: one, and what is left; none; or an exception with a message, which nothing that
--- can be gone over raises so far
+-- what comes of the wish for a next item: one, and what is left; none; or an exception with a message
 pub data Next : Type 0 where
   Item : Value → Iterator → Next
   Exhausted : Next
   Refuses : Kind → Text → Next
+
+-- an item that was found, and what is left after it, or none
+abbrev pub item_or_end : Option Value → Iterator → Next
+item_or_end (Some v) more = Item v more
+item_or_end None more = Exhausted
+
+-- the next item of an object, a list
+abbrev pub next_of_list : (address at : ℕ) → Option Object → Next
+next_of_list x k (Some (value.Items vs)) = item_or_end (slice_get vs k) (Listed x (k + 1))
+next_of_list x k _ = Exhausted
+
+-- the next key of an object, a dict, which has as many as it had at first (Standard Library, "dict"; the message is this
+-- project's own)
+abbrev pub next_of_dict : (address at count : ℕ) → Option Object → Next
+next_of_dict x k n (Some (value.Pairs ps)) =
+    if nat_eq (length ps) n then item_or_end (slice_get (keys_in ps) k) (Keys x (k + 1) n) else Refuses RuntimeError (codes "dictionary changed size")
+next_of_dict x k n _ = Exhausted
 
 -- the next item in a world
 abbrev pub next_item : Iterator → World → Next
@@ -642,4 +790,6 @@ next_item (Octets []) w = Exhausted
 next_item (Octets (b ∷ bs)) w = Item (Int (pos b)) (Octets bs)
 next_item (Items []) w = Exhausted
 next_item (Items (v ∷ vs)) w = Item v (Items vs)
+next_item (Listed x k) w = next_of_list x k (slice_get w.store x)
+next_item (Keys x k n) w = next_of_dict x k n (slice_get w.store x)
 next_item NoMore w = Exhausted

@@ -1,12 +1,12 @@
 -- What an answer makes of a request (PEP 734, "Interpreter Objects" and "Queue Objects"; which kind is raised, and its message,
 -- is this project's own).
-use Rattle.std.specs.Prelude.{codes, ℕ, ℤ, pos, Result, Ok, Err, List, [], ◌∷◌, ◌++◌, length, Bool, true, false, not, ◌&&◌, Option, Some, None, nat_eq, nat_le, nat_lt, slice_set, if◌then◌else◌}
+use Rattle.std.specs.Prelude.{codes, ℕ, ℤ, pos, Result, Ok, Err, List, [], ◌∷◌, ◌++◌, length, map, Bool, not, ◌&&◌, Some, nat_eq, nat_le, nat_lt, slice_set, if◌then◌else◌}
 use Rattle.si_plain.specs.declared.kind.Kind.{Kind}
 use Rattle.si_plain.specs.declared.kind.Kind.TheVariants.{OverflowError, RuntimeError, InterpreterError, InterpreterNotFoundError, ExecutionFailed, QueueEmpty, QueueFull}
 use Rattle.si_plain.specs.Integers.{in_range}
 use Rattle.si_semantics.specs.Operations.{arithmetic_message}
 use Rattle.si_semantics.specs.Value as value
-use Rattle.si_semantics.specs.Value.{Text, Value, Nothing, Int, Str, Queue, Interpreter, Started}
+use Rattle.si_semantics.specs.Value.{Text, Value, Nothing, Int, Str, Queue, Interpreter, Address, Items, Started}
 use Rattle.si_semantics.specs.Text.{decimal, max_length, kind_and_message}
 use Rattle.si_semantics.specs.World as world
 use Rattle.si_semantics.specs.World.{World, Outcome, Returned, Raised, Request, Answer, Replied, Got, Failed, Wants}
@@ -40,6 +40,10 @@ counted (Err k) w = failed k (arithmetic_message k) w
 abbrev pub with_run : (thread run : ℕ) → World → World
 with_run x r w = record w { store = slice_set w.store x (Started r) }
 
+-- a new list of interpreters
+abbrev pub listed : List ℕ → World → Replied
+listed ids w = Got (Address (length w.store)) (record w { store = w.store ++ Items (map Interpreter ids) ∷ [] })
+
 -- what an answer makes of a request; one that does not fit is never given, and would make None
 abbrev pub reply : Request → Answer → World → Replied
 reply world.Create (world.Created i) w = Got (Interpreter i) w
@@ -66,6 +70,7 @@ reply (world.StartThread x i text) (world.Started r) w = Got Nothing (with_run x
 reply (world.StartThread x i text) world.NotFound w = not_found i w
 reply (world.StartThread x i text) world.Running w = is_running i w
 reply (world.JoinThread r) (world.Ended o) w = Got Nothing w
+reply world.ListAll (world.Ids ids) w = listed ids w
 reply (world.IsRunning i) (world.Truth b) w = Got (value.Truth b) w
 reply (world.IsRunning i) world.NotFound w = not_found i w
 reply (world.Close i) world.Done w = Got Nothing w

@@ -4,7 +4,7 @@ use Rattle.std.specs.Prelude.{ℕ, ◌+◌, List, [], ◌∷◌, ◌++◌, Bool,
 use Rattle.si_semantics.specs.Value.{Text}
 use Rattle.si_semantics.specs.Text.{same_text, module_name}
 use Rattle.si_semantics.specs.Tree as tree
-use Rattle.si_semantics.specs.Tree.{Expr, Exprs, Comparisons, Stmt, Target, Stmts, Clauses, Function}
+use Rattle.si_semantics.specs.Tree.{Expr, Exprs, Comparisons, Stmt, Target, Targets, Stmts, Clauses, Function}
 
 -- ---- lists of names
 
@@ -46,6 +46,8 @@ abbrev mutual
   names_of (tree.Call f x args keywords) = names_of f ++ names_of_all args
   names_of (tree.Subscript a b) = names_of a ++ names_of b
   names_of (tree.Tuple items) = names_of_all items
+  names_of (tree.ListDisplay items) = names_of_all items
+  names_of (tree.DictDisplay items) = names_of_all items
   names_of (tree.Boolean o a more) = names_of a ++ names_of_all more
   names_of (tree.Compare a cs) = names_of a ++ names_of_chain cs
   names_of (tree.Conditional a b c) = names_of a ++ names_of b ++ names_of c
@@ -63,13 +65,27 @@ abbrev pub names_of_value : Option Expr → List Text
 names_of_value None = []
 names_of_value (Some a) = names_of a
 
--- the names that a target binds (4.2.1)
-abbrev pub bound_by_target : Target → List Text
-bound_by_target (tree.Named x) = x ∷ []
+abbrev mutual
+  -- the names that a target binds (4.2.1)
+  pub bound_by_target : Target → List Text
+  bound_by_target (tree.Named x) = x ∷ []
+  bound_by_target (tree.Item a b) = []
+  bound_by_target (tree.Unpack ts) = bound_by_targets ts
 
--- the names that a target uses or binds
-abbrev pub used_by_target : Target → List Text
-used_by_target (tree.Named x) = x ∷ []
+  pub bound_by_targets : Targets → List Text
+  bound_by_targets tree.NoTargets = []
+  bound_by_targets (tree.MoreTargets t ts) = bound_by_target t ++ bound_by_targets ts
+
+abbrev mutual
+  -- the names that a target uses or binds
+  pub used_by_target : Target → List Text
+  used_by_target (tree.Named x) = x ∷ []
+  used_by_target (tree.Item a b) = names_of a ++ names_of b
+  used_by_target (tree.Unpack ts) = used_by_targets ts
+
+  pub used_by_targets : Targets → List Text
+  used_by_targets tree.NoTargets = []
+  used_by_targets (tree.MoreTargets t ts) = used_by_target t ++ used_by_targets ts
 
 -- a name that may be left out
 abbrev pub name_in : Option Text → List Text
@@ -79,8 +95,8 @@ name_in (Some y) = y ∷ []
 abbrev mutual
   -- the names that a statement binds (4.2.1): a `for` its target, an `except` clause the name after `as`
   pub bound_by : Stmt → List Text
-  bound_by (tree.Assign t a) = bound_by_target t
-  bound_by (tree.Augment t o a) = bound_by_target t
+  bound_by (tree.Assign ts a) = bound_by_targets ts
+  bound_by (tree.Augment x o a) = x ∷ []
   bound_by (tree.If a b c) = bound_in b ++ bound_in c
   bound_by (tree.While a b c) = bound_in b ++ bound_in c
   bound_by (tree.For t a b c) = bound_by_target t ++ (bound_in b ++ bound_in c)
@@ -121,8 +137,10 @@ abbrev mutual
   -- the names that a statement uses or binds; a declaration is no use
   pub used_by : Stmt → List Text
   used_by (tree.Evaluate a) = names_of a
-  used_by (tree.Assign t a) = used_by_target t ++ names_of a
-  used_by (tree.Augment t o a) = used_by_target t ++ names_of a
+  used_by (tree.Assign ts a) = used_by_targets ts ++ names_of a
+  used_by (tree.Augment x o a) = x ∷ names_of a
+  used_by (tree.AugmentItem a b o c) = names_of a ++ (names_of b ++ names_of c)
+  used_by (tree.Delete a b) = names_of a ++ names_of b
   used_by tree.Pass = []
   used_by (tree.If a b c) = names_of a ++ used_in b ++ used_in c
   used_by (tree.While a b c) = names_of a ++ used_in b ++ used_in c
@@ -217,8 +235,10 @@ abbrev mutual
   -- a statement stands where it may; a loop's else suite is no part of its body
   pub stmt_scoped : Within → Stmt → Bool
   stmt_scoped w (tree.Evaluate a) = true
-  stmt_scoped w (tree.Assign t a) = true
-  stmt_scoped w (tree.Augment t o a) = true
+  stmt_scoped w (tree.Assign ts a) = true
+  stmt_scoped w (tree.Augment x o a) = true
+  stmt_scoped w (tree.AugmentItem a b o c) = true
+  stmt_scoped w (tree.Delete a b) = true
   stmt_scoped w tree.Pass = true
   stmt_scoped w (tree.If a b c) = stmts_scoped w b && stmts_scoped w c
   stmt_scoped w (tree.While a b c) = stmts_scoped (looping w) b && stmts_scoped w c

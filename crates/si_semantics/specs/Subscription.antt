@@ -1,8 +1,9 @@
 -- Subscriptions (Python Language Reference 3.14, 6.3.2; Standard Library, "Built-in Types": common sequence operations).
 use Rattle.std.specs.Prelude.{codes, ℕ, ◌+◌, ◌-◌, ◌+ℤ◌, ◌*ℤ◌, ℤ, pos, negsuc, List, [], ◌∷◌, length, Option, Some, None, nat_lt, slice_get, if◌then◌else◌}
-use Rattle.si_plain.specs.declared.kind.Kind.TheVariants.{IndexError}
-use Rattle.si_semantics.specs.Value.{Text, Value, Int, Str, Bytes, Range, Tuple, items_of}
-use Rattle.si_semantics.specs.World.{World, Ran}
+use Rattle.si_plain.specs.declared.kind.Kind.TheVariants.{IndexError, KeyError}
+use Rattle.si_semantics.specs.Value.{Text, Value, Int, Str, Bytes, Range, Tuple, Address, Key, Object, Items, Pairs, items_of}
+use Rattle.si_semantics.specs.Dicts.{key_of, value_at}
+use Rattle.si_semantics.specs.World.{World, Ran, Threw}
 use Rattle.si_semantics.specs.Operations.{gave, refused, wrong_type, integer_in, range_length}
 
 -- which of so many items an index means, counted from 0: the first is 0, and the last is -1 too; an index that means none
@@ -59,6 +60,28 @@ item_at (Tuple vs) (Some i) w = item_of (items_of vs) (item_meant (length (items
 item_at (Range a b c) (Some i) w = number_at a c (item_meant (range_length a b c) i) w
 item_at _ _ w = wrong_type w
 
--- `u[v]`: True and False count as 1 and 0
+-- the item of a list
+abbrev pub item_in_list : List Value → Option ℤ → World → Ran
+item_in_list vs (Some i) w = item_of vs (item_meant (length vs) i) w
+item_in_list vs None w = wrong_type w
+
+-- the value of a key; a key that is not there is the exception's argument
+abbrev pub value_found : (index : Value) → Option Value → World → Ran
+value_found v (Some u) w = gave u w
+value_found v None w = Threw KeyError (Some v) w
+
+-- the value of what is to be a key of a dict
+abbrev pub value_in_dict : List (Key × Value) → (index : Value) → Option Key → World → Ran
+value_in_dict ps v (Some k) w = value_found v (value_at k ps) w
+value_in_dict ps v None w = wrong_type w
+
+-- of an object: a list has items, a dict values of keys
+abbrev pub object_item : Option Object → (index : Value) → World → Ran
+object_item (Some (Items vs)) v w = item_in_list vs (integer_in v) w
+object_item (Some (Pairs ps)) v w = value_in_dict ps v (key_of v) w
+object_item _ v w = wrong_type w
+
+-- `u[v]`: an item at an index, where True and False count as 1 and 0, or the value of a key of a dict
 abbrev pub subscript : (object index : Value) → World → Ran
+subscript (Address x) v w = object_item (slice_get w.store x) v w
 subscript u v w = item_at u (integer_in v) w

@@ -1,5 +1,5 @@
 -- How values are written as text (Python Standard Library 3.14, "Built-in Functions": str and repr).
-use Rattle.std.specs.Prelude.{codes, ℕ, zero, suc, ℤ, pos, List, [], ◌∷◌, ◌++◌, length, Bool, true, false, ◌&&◌, Option, Some, None, Result, Ok, Err, nat_eq, nat_lt, int_le, if◌then◌else◌}
+use Rattle.std.specs.Prelude.{codes, ℕ, zero, suc, ℤ, pos, List, [], ◌∷◌, ◌++◌, length, Bool, true, false, ◌&&◌, ◌||◌, Option, Some, None, Result, Ok, Err, nat_eq, nat_lt, int_le, if◌then◌else◌}
 use Rattle.si_plain.specs.declared.kind.Kind.{Kind}
 use Rattle.si_plain.specs.declared.kind.Kind.TheVariants.{KeyError, RecursionError, OverflowError}
 use Rattle.si_plain.specs.Kinds.{name_of}
@@ -7,8 +7,8 @@ use Rattle.si_plain.specs.declared.modules.ModuleName.{ModuleName}
 use Rattle.si_plain.specs.declared.modules.ModuleName.TheVariants.{Threading, Interpreters}
 use Rattle.si_plain.specs.Repr as plain
 use Rattle.std.specs.Fmt.{signed_decimal}
-use Rattle.si_semantics.specs.Opened.{Opened, Atom, InTuple, InException, InThread, Nowhere, opened}
-use Rattle.si_semantics.specs.Value.{Text, Value, Nothing, Truth, Int, Str, Bytes, Provided, Function, Range, Tuple, Class, Module, Queue, Interpreter, Exec, Address, BuiltIn, Print, MakeRange, MakeStr, Repr, Len, MakeBool, Abs, MakeInt, Ord, Chr, Min, Max, MakeBytes, MakeTuple, Object}
+use Rattle.si_semantics.specs.Opened.{Opened, Atom, InTuple, InList, InDict, InException, InThread, Nowhere, opened}
+use Rattle.si_semantics.specs.Value.{Text, Value, Key, value_of_key, Nothing, Truth, Int, Str, Bytes, Provided, Function, Range, Tuple, Class, Module, Queue, Interpreter, Exec, Address, BuiltIn, Print, MakeRange, MakeStr, Repr, Len, MakeBool, Abs, MakeInt, Ord, Chr, Min, Max, MakeBytes, MakeTuple, MakeList, Object}
 
 -- the most characters of a str, and the most bytes of bytes (this project's own)
 abbrev pub max_length : ℕ
@@ -49,6 +49,7 @@ built_in_name Min = codes "min"
 built_in_name Max = codes "max"
 built_in_name MakeBytes = codes "bytes"
 built_in_name MakeTuple = codes "tuple"
+built_in_name MakeList = codes "list"
 
 -- the name to which an import binds a module (Language Reference, 7.11)
 abbrev pub module_name : ModuleName → Text
@@ -108,13 +109,13 @@ followed (Broken t) w = Broken t
 abbrev pub between : Text → Written → Text → Written
 between opening w closing = behind opening (followed w (Whole closing))
 
--- values, each with a comma and a space before it
-abbrev pub rest_by : (Value → Written) → List Value → Written
+-- items, each with a comma and a space before it
+abbrev pub rest_by : {A : Type 0} → (A → Written) → List A → Written
 rest_by repr [] = Whole []
 rest_by repr (v ∷ vs) = behind (codes ", ") (followed (repr v) (rest_by repr vs))
 
--- values, with a comma and a space between them
-abbrev pub items_by : (Value → Written) → List Value → Written
+-- items, with a comma and a space between them
+abbrev pub items_by : {A : Type 0} → (A → Written) → List A → Written
 items_by repr [] = Whole []
 items_by repr (v ∷ vs) = followed (repr v) (rest_by repr vs)
 
@@ -128,19 +129,52 @@ abbrev pub argument_of : Option Value → List Value
 argument_of None = []
 argument_of (Some v) = v ∷ []
 
--- the repr of an opened value, by that of a row of values between two texts: of a tuple its items in brackets (Language
--- Reference, 6.2.4), of an exception its kind, and its argument in brackets (Standard Library, "Built-in Exceptions")
-abbrev pub repr_opened : (Text → List Value → Text → Written) → Opened → Written
-repr_opened row (Atom v) = Whole (repr_atom v)
-repr_opened row (InTuple vs) = row (codes "(") vs (tuple_end vs)
-repr_opened row (InException x k a) = row (name_of k ++ codes "(") (argument_of a) (codes ")")
-repr_opened row (InThread x) = Whole (codes "<Thread>")
-repr_opened row Nowhere = Broken []
+-- the repr of a pair of a dict, by that of its value: the key, a colon and the value
+abbrev pub pair_by : (Value → Written) → Key × Value → Written
+pair_by repr p = behind (repr_atom (value_of_key p.0) ++ codes ": ") (repr p.1)
 
--- the repr of a value, where tuples and objects are within each other at most so deep
-abbrev pub repr_of : ℕ → List Object → Value → Written
-repr_of zero store v = repr_opened (λ opening vs closing. Broken []) (opened store v)
-repr_of (suc n) store v = repr_opened (λ opening vs closing. between opening (items_by (repr_of n store) vs) closing) (opened store v)
+-- an address is one of these
+abbrev pub is_inside : ℕ → List ℕ → Bool
+is_inside x [] = false
+is_inside x (y ∷ ys) = nat_eq x y || is_inside x ys
+
+-- what is written in the place of a list or a dict: something short where it is inside itself (Standard Library, "reprlib")
+abbrev pub unless_inside : ℕ → List ℕ → Text → Written → Written
+unless_inside x inside short repr = if is_inside x inside then Whole short else repr
+
+-- How the parts of a value are written: values in a row between two texts, and the pairs of a dict, both where these lists
+-- and dicts are being written.
+pub record Parts : Type 0 where
+  pub row : (inside : List ℕ) → Text → List Value → Text → Written
+  pub pairs : (inside : List ℕ) → List (Key × Value) → Written
+
+-- the repr of an opened value, by how its parts are written, inside these lists and dicts: of a tuple and of a list the
+-- items in brackets (Language Reference, 6.2.4 and 6.2.5), of a dict its pairs (6.2.7), of an exception its kind, and its
+-- argument in brackets (Standard Library, "Built-in Exceptions")
+abbrev pub repr_opened : Parts → (inside : List ℕ) → Opened → Written
+repr_opened parts inside (Atom v) = Whole (repr_atom v)
+repr_opened parts inside (InTuple vs) = parts.row inside (codes "(") vs (tuple_end vs)
+repr_opened parts inside (InList x vs) = unless_inside x inside (codes "[...]") (parts.row (x ∷ inside) (codes "[") vs (codes "]"))
+repr_opened parts inside (InDict x ps) = unless_inside x inside (codes "{...}") (parts.pairs (x ∷ inside) ps)
+repr_opened parts inside (InException x k a) = parts.row inside (name_of k ++ codes "(") (argument_of a) (codes ")")
+repr_opened parts inside (InThread x) = Whole (codes "<Thread>")
+repr_opened parts inside Nowhere = Broken []
+
+-- parts that are too deep to be written
+abbrev pub too_deep : Parts
+too_deep = record { row = λ inside opening vs closing. Broken []; pairs = λ inside ps. Broken [] }
+
+-- parts that are written by the repr of a value
+abbrev pub parts_by : ((inside : List ℕ) → Value → Written) → Parts
+parts_by repr = record {
+  row = λ inside opening vs closing. between opening (items_by (repr inside) vs) closing;
+  pairs = λ inside ps. between (codes "{") (items_by (pair_by (repr inside)) ps) (codes "}");
+}
+
+-- the repr of a value inside these lists and dicts, where tuples and objects are within each other at most so deep
+abbrev pub repr_of : ℕ → List Object → (inside : List ℕ) → Value → Written
+repr_of zero store inside v = repr_opened too_deep inside (opened store v)
+repr_of (suc n) store inside v = repr_opened (parts_by (repr_of n store)) inside (opened store v)
 
 -- the str of an exception: that of its argument, of a KeyError the repr of its argument; empty without one
 abbrev pub str_exception : (repr str : Value → Written) → Kind → Option Value → Written
@@ -156,8 +190,8 @@ str_opened exception repr _ = repr
 
 -- the str of a value, where tuples and objects are within each other at most so deep
 abbrev pub str_of : ℕ → List Object → Value → Written
-str_of zero store v = str_opened (λ k a. Broken []) (repr_of zero store v) (opened store v)
-str_of (suc n) store v = str_opened (str_exception (repr_of n store) (str_of n store)) (repr_of (suc n) store v) (opened store v)
+str_of zero store v = str_opened (λ k a. Broken []) (repr_of zero store [] v) (opened store v)
+str_of (suc n) store v = str_opened (str_exception (repr_of n store []) (str_of n store)) (repr_of (suc n) store [] v) (opened store v)
 
 -- the most tuples and objects within each other that are written or compared (this project's own)
 abbrev pub max_nested : ℕ
@@ -174,7 +208,7 @@ abbrev pub str_in : List Object → Value → Result Text Kind
 str_in store v = written (str_of max_nested store v)
 
 abbrev pub repr_in : List Object → Value → Result Text Kind
-repr_in store v = written (repr_of max_nested store v)
+repr_in store v = written (repr_of max_nested store [] v)
 
 -- the message of an exception that leaves a run: its str, where there is one (this project's own)
 abbrev pub message_of : Result Text Kind → Text

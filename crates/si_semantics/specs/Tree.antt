@@ -1,5 +1,5 @@
 -- Syntax trees (Python Language Reference 3.14, 6 to 8).
-use Rattle.std.specs.Prelude.{List, [], ◌∷◌, ◌++◌, Option, Some, None}
+use Rattle.std.specs.Prelude.{ℕ, ◌+◌, List, [], ◌∷◌, ◌++◌, Option, Some, None}
 use Rattle.si_plain.specs.declared.modules.ModuleName.{ModuleName}
 use Rattle.si_semantics.specs.Value.{Text, Value}
 -- the operators: between two operands (6.5, 6.7 to 6.9), before one (6.6, 6.11), of a comparison (6.10), and `and` and `or`
@@ -29,6 +29,10 @@ mutual
     Subscript : Expr → Expr → Expr
     -- a tuple of its items (6.2.4, 6.15)
     Tuple : Exprs → Expr
+    -- a list of its items (6.2.5)
+    ListDisplay : Exprs → Expr
+    -- a dict of its keys and values by turns, each key before its value (6.2.7)
+    DictDisplay : Exprs → Expr
     -- operands of `and` or of `or` in a row: the first, and the others, of which there is one at least (6.11)
     Boolean : BooleanOperator → Expr → Exprs → Expr
     -- a chain of comparisons: the first operand, and each operator with the operand after it (6.10)
@@ -44,9 +48,27 @@ mutual
     NoComparisons : Comparisons
     MoreComparisons : ComparisonOperator → Expr → Comparisons → Comparisons
 
--- what a statement binds (4.2.1)
-pub data Target : Type 0 where
-  Named : Text → Target
+mutual
+  -- what a statement binds (4.2.1, 7.2)
+  pub data Target : Type 0 where
+    Named : Text → Target
+    -- `object[index]`: the object, the index
+    Item : Expr → Expr → Target
+    -- targets in a row, one for each item of what is bound
+    Unpack : Targets → Target
+
+  pub data Targets : Type 0 where
+    NoTargets : Targets
+    MoreTargets : Target → Targets → Targets
+
+-- one target alone
+abbrev pub only : Target → Targets
+only t = MoreTargets t NoTargets
+
+-- how many there are in a row
+abbrev pub count_of_targets : Targets → ℕ
+count_of_targets NoTargets = 0
+count_of_targets (MoreTargets t ts) = count_of_targets ts + 1
 
 -- what is called, as a callee and the name of an attribute of it, where an attribute is called
 abbrev pub callee_of : Expr → Expr × Option Text
@@ -56,10 +78,14 @@ callee_of f = (f, None)
 mutual
   pub data Stmt : Type 0 where
     Evaluate : Expr → Stmt
-    -- `target = expr` (7.2)
-    Assign : Target → Expr → Stmt
-    -- `target op= expr` (7.2.1)
-    Augment : Target → BinaryOperator → Expr → Stmt
+    -- `target = .. = expr`, of one target or more (7.2)
+    Assign : Targets → Expr → Stmt
+    -- `NAME op= expr` (7.2.1)
+    Augment : Text → BinaryOperator → Expr → Stmt
+    -- `object[index] op= expr`: the object, the index, the expression (7.2.1)
+    AugmentItem : Expr → Expr → BinaryOperator → Expr → Stmt
+    -- `del object[index]` (7.5)
+    Delete : Expr → Expr → Stmt
     Pass : Stmt
     -- the test, the suite, and the else suite; an `elif` is an `if` of its own in the else suite (8.1)
     If : Expr → Stmts → Stmts → Stmt

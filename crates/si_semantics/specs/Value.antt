@@ -23,6 +23,7 @@ pub data BuiltIn : Type 0 where
   Max : BuiltIn
   MakeBytes : BuiltIn
   MakeTuple : BuiltIn
+  MakeList : BuiltIn
 
 -- a tuple's items are a type of their own, since no constructor of a data type takes a List of that type
 mutual
@@ -74,8 +75,22 @@ values_of (v ∷ vs) = MoreValues v (values_of vs)
 abbrev pub tuple_of : List Value → Value
 tuple_of vs = Tuple (values_of vs)
 
+-- a key of a dict: an integer or a str (3.2.7.1; that nothing else is a key is this project's own)
+pub data Key : Type 0 where
+  Number : ℤ → Key
+  Word : Text → Key
+
+-- a key as a value
+abbrev pub value_of_key : Key → Value
+value_of_key (Number i) = Int i
+value_of_key (Word s) = Str s
+
 -- an object of the store
 pub data Object : Type 0 where
+  -- a list, by its items (3.2.5.2)
+  Items : List Value → Object
+  -- a dict, by its keys and the value of each, in the order in which the keys were added (3.2.7.1)
+  Pairs : List (Key × Value) → Object
   -- an exception, by its kind and the one argument that it may have (Standard Library, "Built-in Exceptions")
   Exception : Kind → Option Value → Object
   -- a thread that is to run a text in an interpreter, and one that was started, by its run (Standard Library, "threading")

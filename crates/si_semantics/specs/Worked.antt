@@ -9,6 +9,9 @@ pub mod BuiltIns
 pub mod Sequences
 pub mod Bytes
 pub mod Tuples
+pub mod Lists
+pub mod Targets
+pub mod Dicts
 pub mod Attributes
 pub mod Module
 pub mod Scope

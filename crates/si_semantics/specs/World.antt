@@ -46,6 +46,8 @@ pub data Request : Type 0 where
   -- the same by a thread, an object: it is started, and then joined
   StartThread : (thread interpreter : ℕ) → Text → Request
   JoinThread : (run : ℕ) → Request
+  -- the interpreters that are not closed
+  ListAll : Request
   IsRunning : (interpreter : ℕ) → Request
   Close : (interpreter : ℕ) → Request
 
@@ -69,6 +71,7 @@ pub data Answer : Type 0 where
   Empty : Answer
   Item : Value → Answer
   Count : ℕ → Answer
+  Ids : List ℕ → Answer
   -- why nothing is done with an interpreter: it is closed, runs, is the one that asks, or is the main one
   NotFound : Answer
   Running : Answer

@@ -11,6 +11,9 @@ ghost use Rattle.si_semantics.specs.Worked.Sequences.{SequenceCases};
 ghost use Rattle.si_semantics.specs.Worked.Attributes.{AttributeCases};
 ghost use Rattle.si_semantics.specs.Worked.Module.{ModuleCases};
 ghost use Rattle.si_semantics.specs.Worked.Tuples.{TupleCases};
+ghost use Rattle.si_semantics.specs.Worked.Lists.{ListCases};
+ghost use Rattle.si_semantics.specs.Worked.Targets.{TargetCases};
+ghost use Rattle.si_semantics.specs.Worked.Dicts.{DictCases};
 ghost use Rattle.si_semantics.specs.Worked.Scope.{ScopeCases};
 ghost use Rattle.si_semantics.specs.Worked.Literals.{LiteralCases};
 ghost use Rattle.si_semantics.specs.Worked.Layout.{LayoutCases};
@@ -63,6 +66,21 @@ pub fn worked_bytes()
 /// The worked cases of tuples: what operations give for them.
 pub fn worked_tuples()
     ensures { TupleCases }
+{}
+
+/// The worked cases of lists: what scripts print and how they end.
+pub fn worked_lists()
+    ensures { ListCases }
+{}
+
+/// The worked cases of assignment, of unpacking and of the targets of `for`: what scripts print and how they end.
+pub fn worked_targets()
+    ensures { TargetCases }
+{}
+
+/// The worked cases of dicts: what scripts print and how they end.
+pub fn worked_dicts()
+    ensures { DictCases }
 {}
 
 /// The worked cases of attributes, methods and imports: what scripts print and how they end.

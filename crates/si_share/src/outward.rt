@@ -18,7 +18,7 @@ use si_plain::limits::{MAX_STR_LENGTH, MAX_TUPLE_LEVELS, MAX_TUPLE_VALUES};
 use std::alloc::Global;
 
 /// Whether a value may be sent to another interpreter (PEP 734, "Shareable Objects"): None, True, False, an int, a str,
-/// bytes, a queue, or a tuple all of whose items may. Takes no memory.
+/// bytes, a queue, or a tuple all of whose items may; a list and a dict may not. Takes no memory.
 pub fn is_shareable(arena: &Arena, value: Ref) -> bool
     requires { Lies arena.now value }
     ensures { result ≡ is_shareable (value_of arena.now value) }

@@ -6,6 +6,8 @@ pub mod Exprs
 pub mod Blocks
 pub mod Raising
 pub mod Names
+pub mod Unpacked
+pub mod Targets
 pub mod Turns
 pub mod Items
 pub mod Finals
@@ -27,3 +29,4 @@ pub mod Taken
 pub mod Gained
 pub mod Jumped
 pub mod Fetched
+pub mod Fulls

@@ -1,15 +1,18 @@
--- Expressions and calls are left by exceptions alone.
+-- Expressions, targets and calls are left by exceptions alone.
 use Rattle.std.proofs.Common.{ℕ, zero, suc, List, [], ◌∷◌, length, Bool, true, false, Option, Some, None}
 use Rattle.std.specs.Prelude.{nat_eq, slice_get}
+use Rattle.std.specs.Prelude as prelude
+use Rattle.si_plain.specs.declared.kind.Kind.{Kind}
 use Rattle.si_semantics.specs.Value.{Text, Value, Nothing, Truth, Int, Str, Bytes, Provided, Function, Range, Tuple, Class, Module, Queue, Interpreter, Exec, Address}
-use Rattle.si_semantics.specs.Tree.{BooleanOperator, Expr, Exprs, Comparisons}
+use Rattle.si_semantics.specs.Tree.{BooleanOperator, Expr, Exprs, Comparisons, Target, Targets, count_of_targets}
 use Rattle.si_semantics.specs.Tree as tree
 use Rattle.si_semantics.specs.World.{Request, Answer, Replied, Got, Failed, Wants, Ran, Gave, Threw, Asked}
-use Rattle.si_semantics.specs.Operations.{exception, tuple_within, operate, operate_unary, is_true, compare, load_global, load_local, call_provided, call_by_name, not_callable, wrong_arguments, too_deep}
+use Rattle.si_semantics.specs.Operations.{exception, tuple_within, list_within, operate, operate_unary, is_true, compare, load_global, load_local, call_provided, call_by_name, not_callable, wrong_arguments, too_deep}
 use Rattle.si_semantics.specs.Replies.{reply}
 use Rattle.si_semantics.specs.Subscription.{subscript}
+use Rattle.si_semantics.specs.Containers.{dict_of, set_item, unpacked}
 use Rattle.si_semantics.specs.Attributes.{Method, attribute, called, method_of, call_method}
-use Rattle.si_semantics.specs.Meaning.{State, Raises, Returns, Breaks, Continues, Result, Gives, Leaves, Asks, Cut, Meaning, Scope, visit, then, raised, asked, ran, slot_at, read, calls, calls_method, calls_attribute, callee, choose, decides, compared, expr, exprs, operands, chain, returned, fitting, run_body, call}
+use Rattle.si_semantics.specs.Meaning.{State, Raises, Returns, Breaks, Continues, Result, Gives, Leaves, Asks, Cut, Meaning, Scope, visit, then, raised, asked, ran, slot_at, read, calls, calls_method, calls_attribute, callee, choose, decides, compared, expr, exprs, operands, chain, assign, done, spread, bind, bind_each, returned, fitting, run_body, call}
 use Rattle.si_semantics.specs.Scope.{place_of}
 use Rattle.si_slots.proofs.Blocks.{OnlyRaises}
 
@@ -122,6 +125,8 @@ module _ (e : Scope) (calling : Calls_keep e) where
     expr_keeps (tree.Subscript a b) s =
         then_keeps (expr e a (visit s)) _ (expr_keeps a (visit s)) (λ u s1. then_keeps (expr e b s1) _ (expr_keeps b s1) (λ v s2. ran_keeps (subscript u v s2.world) s2))
     expr_keeps (tree.Tuple items) s = then_keeps (exprs e items (visit s)) _ (exprs_keep items (visit s)) (λ vs s1. ran_keeps (tuple_within vs s1.world) s1)
+    expr_keeps (tree.ListDisplay items) s = then_keeps (exprs e items (visit s)) _ (exprs_keep items (visit s)) (λ vs s1. ran_keeps (list_within vs s1.world) s1)
+    expr_keeps (tree.DictDisplay items) s = then_keeps (exprs e items (visit s)) _ (exprs_keep items (visit s)) (λ vs s1. ran_keeps (dict_of vs s1.world) s1)
     expr_keeps (tree.Boolean o a more) s = then_keeps (expr e a (visit s)) _ (expr_keeps a (visit s)) (λ u s1. operands_keep o u more s1)
     expr_keeps (tree.Compare a cs) s = then_keeps (expr e a (visit s)) _ (expr_keeps a (visit s)) (λ u s1. chain_keeps u cs s1)
     expr_keeps (tree.Conditional a b c) s =
@@ -141,3 +146,28 @@ module _ (e : Scope) (calling : Calls_keep e) where
     chain_keeps u (tree.MoreComparisons o a cs) s =
         then_keeps (expr e a s) _ (expr_keeps a s)
         (λ v s1. then_keeps (ran (compare o u v s1.world) s1) _ (ran_keeps (compare o u v s1.world) s1) (λ t s2. compared_keeps cs t (chain e v cs) (λ s3. chain_keeps v cs s3) s2))
+
+  -- ---- targets
+
+  done_keeps : (o : Ran) (s : State) → OnlyRaises (done o s)
+  done_keeps o s = then_keeps (ran o s) _ (ran_keeps o s) (λ v s1. tt)
+
+  assign_keeps : (x : Text) (o : Option ℕ) (v : Value) (s : State) → OnlyRaises (assign x o v s)
+  assign_keeps x None v s = tt
+  assign_keeps x (Some k) v s = tt
+
+  spread_keeps : (o : prelude.Result (List Value) Kind) (f : List Value → Meaning (Unit {0})) → ((vs : List Value) (s : State) → OnlyRaises (f vs s)) → (s : State) → OnlyRaises (spread o f s)
+  spread_keeps (prelude.Ok vs) f h s = h vs s
+  spread_keeps (prelude.Err k) f h s = tt
+
+  mutual
+    pub bind_keeps : (a : Target) (v : Value) (s : State) → OnlyRaises (bind e a v s)
+    bind_keeps (tree.Named x) v s = assign_keeps x (place_of x e.locals) v (visit s)
+    bind_keeps (tree.Item a b) v s =
+        then_keeps (expr e a (visit s)) _ (expr_keeps a (visit s)) (λ u s1. then_keeps (expr e b s1) _ (expr_keeps b s1) (λ i s2. done_keeps (set_item u i v s2.world) s2))
+    bind_keeps (tree.Unpack row) v s = spread_keeps (unpacked (count_of_targets row) v s.world) (λ vs s1. bind_each e row vs s1) (λ vs s1. each_keeps row vs s1) (visit s)
+
+    each_keeps : (row : Targets) (vs : List Value) (s : State) → OnlyRaises (bind_each e row vs s)
+    each_keeps tree.NoTargets vs s = tt
+    each_keeps (tree.MoreTargets a row) [] s = tt
+    each_keeps (tree.MoreTargets a row) (v ∷ vs) s = then_keeps (bind e a v s) _ (bind_keeps a v s) (λ u s1. each_keeps row vs s1)

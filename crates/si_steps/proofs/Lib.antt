@@ -18,3 +18,5 @@ pub mod Provided
 pub mod Displayed
 pub mod Fast
 pub mod Asked
+pub mod Made
+pub mod Unpacked

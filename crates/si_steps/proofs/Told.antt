@@ -12,7 +12,7 @@ use Rattle.si_semantics.specs.Text.{message_of, str_in}
 use Rattle.si_semantics.specs.Life as life
 use Rattle.si_slots.specs.Machine.{Course, Ending}
 use Rattle.si_arena.specs.declared.cause.Cause.{Cause}
-use Rattle.si_arena.specs.declared.cause.Cause.TheVariants.{Arithmetic, TooLong, WrongType, NotCallable, WrongArguments, TooDeep, NoneActive, Outside, NotDefined, NotBound, NoAttribute, Refused}
+use Rattle.si_arena.specs.declared.cause.Cause.TheVariants.{Arithmetic, TooLong, WrongType, NotCallable, WrongArguments, TooDeep, NoneActive, Outside, NotDefined, NotBound, NoAttribute, Refused, SizeChanged}
 use Rattle.si_arena.specs.declared.cause.Fault.{Fault}
 use Rattle.si_arena.specs.declared.cause.Fault.TheVariants.{Raises, NoMemory}
 use Rattle.si_arena.specs.declared.object.Object.{Object}
@@ -48,6 +48,7 @@ unwritten_message p (NotDefined name) h = absurd h
 unwritten_message p (NotBound name) h = absurd h
 unwritten_message p (NoAttribute name) h = absurd h
 unwritten_message p (Refused refusal) h = absurd h
+unwritten_message p SizeChanged h = absurd h
 
 nothing_raised : (cause : Cause) → NoMemory ≡ Raises cause → ⊥
 nothing_raised cause e = cc
@@ -57,7 +58,7 @@ pub refused_message : {Z : Type 0} (U : Type 0) (p : Result Text Kind) (longest 
 refused_message U p longest old new (Raises k) cause h is = unwritten_message p k h.0
 refused_message U p longest old new NoMemory cause h is = absurd (nothing_raised cause is)
 
-same_kind : (m : Memory) (o : Object) → life.kind_of (Some (object_of m o)) ≡ kind_in o
+pub same_kind : (m : Memory) (o : Object) → life.kind_of (Some (object_of m o)) ≡ kind_in o
 same_kind m (Bare kind) = refl
 same_kind m (Made kind r) = refl
 same_kind m (Caused cause) = refl
@@ -65,11 +66,11 @@ same_kind m (Thread interpreter text) = refl
 same_kind m (Started run) = refl
 
 -- the exception that left a run
-pub told_raised : (c : Course) (s : State) (x : ℕ) (o : Object) (kind : Kind) (text : Text) → HasEnded c s → s.outcome ≡ Raised x → slice_get s.arena.store x ≡ Some (object_of s.arena o) → kind ≡ kind_in o →
+pub told_raised : (c : Course) (s : State) (x : ℕ) (kind : Kind) (text : Text) → HasEnded c s → s.outcome ≡ Raised x → kind ≡ life.kind_of (slice_get s.arena.store x) →
     text ≡ message_of (str_in s.arena.store (Address x)) → c.place ≡ Ending (life.Raised kind text)
-told_raised c s x o kind text h is got k t =
+told_raised c s x kind text h is k t =
     h.place
     ∙ ap (λ e. Ending (outcome_of e c.world)) is
     ∙ ap (λ (st : List pure.Object). Ending (life.Raised (life.kind_of (slice_get st x)) (message_of (str_in st (Address x))))) h.world.store
-    ∙ ap (λ z. Ending (life.Raised z (message_of (str_in s.arena.store (Address x))))) (ap life.kind_of got ∙ same_kind s.arena o ∙ sym k)
+    ∙ ap (λ z. Ending (life.Raised z (message_of (str_in s.arena.store (Address x))))) (sym k)
     ∙ ap (λ z. Ending (life.Raised kind z)) (sym t)

@@ -10,10 +10,10 @@
 // In reading order: `step` (what a step did), `state` (what a machine has), `landing` (where a value goes), `raising`
 // (how exceptions are raised), `reading` (how operands are read), `flow` (the instructions of branches, chains and
 // loops), `tries` (those of `try` and of unbinding), `values` (those of operands and operations), `subscripts`,
-// `displays`, `names` (those of globals), `calls` (calls of functions and of other values), `attributes`, `methods` (calls of
+// `items` (what sets and deletes items), `displays`, `unpacking`, `names` (those of globals), `calls` (calls of functions and of other values), `attributes`, `methods` (calls of
 // methods), `requests` (what is asked, and its answers), `leaving` (`break`,
-// `continue`, `return` and the end of a finally suite), `short` and `short_values` (instructions as they stand in 8
-// bytes), `execute` (one instruction), `begin` (how a run begins), `bind` (globals bound between runs), `machine`.
+// `continue`, `return` and the end of a finally suite), `short`, `short_values` and `short_items` (instructions as they
+// stand in 8 bytes), `execute` (one instruction), `begin` (how a run begins), `bind` (globals bound between runs), `machine`.
 #![tactic(auto)]
 
 mod attributes;
@@ -23,6 +23,7 @@ mod calls;
 mod displays;
 mod execute;
 mod flow;
+mod items;
 mod landing;
 mod leaving;
 mod machine;
@@ -32,11 +33,13 @@ mod raising;
 mod reading;
 mod requests;
 mod short;
+mod short_items;
 mod short_values;
 mod state;
 mod step;
 mod subscripts;
 mod tries;
+mod unpacking;
 mod values;
 
 pub use machine::Machine;

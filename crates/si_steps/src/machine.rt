@@ -1,7 +1,8 @@
 // The machine.
-ghost use Rattle.std.specs.Prelude.{◌≡◌, ◌↔◌, ◌<◌, [], length, IsTrue, IfOk, IfErr, OnOk, OnErr, string_bytes};
+ghost use Rattle.std.specs.Prelude.{◌≡◌, ◌↔◌, ◌<◌, [], length, IsTrue, IfOk, IfErr, OnOk, OnErr, slice_get, string_bytes};
 ghost use Rattle.si_semantics.specs.Value.{Address};
 ghost use Rattle.si_semantics.specs.Text as semantics;
+ghost use Rattle.si_semantics.specs.Life.{kind_of};
 ghost use Rattle.si_semantics.specs.World.{World, first_world};
 ghost use Rattle.si_slots.specs.Contents.{Extends, no_code};
 ghost use Rattle.si_slots.specs.Machine.{Course, Ending};
@@ -16,10 +17,10 @@ ghost use Rattle.si_steps.specs.Outcomes.{told};
 
 use crate::state::{Standing, State};
 use crate::step::{Exit, Outcome, Step};
-use si_arena::{Arena, Fault, Ref};
+use si_arena::{Arena, Contents, Fault, Ref};
 use si_ops::push_str;
 use si_parcel::{Action, Answer, Parcel};
-use si_plain::{NoMemory, Text};
+use si_plain::{Kind, NoMemory, Text};
 use si_slots::CodeTable;
 use std::alloc::{AllocError, AllocFailed, Global};
 use std::marker::Model;
@@ -247,11 +248,23 @@ impl Machine {
         match self.state.outcome {
             Exit::Returned => Ok(Outcome::Returned),
             Exit::Raised(address) => {
-                let kind = self.state.arena.object(address).kind();
+                let kind = kind_at(&self.state.arena, address);
                 let message = message_of(alloc, &self.state.arena, address)?;
                 Ok(Outcome::Raised(kind, message))
             }
         }
+    }
+}
+
+// The kind of the exception at an address; of any other object BaseException.
+fn kind_at(arena: &Arena, address: usize) -> Kind
+    requires { address < length arena.now.store }
+    ensures { result ≡ kind_of (slice_get arena.now.store address) }
+{
+    match arena.object(address) {
+        Contents::Plain(object) => object.kind(),
+        Contents::List(_) => Kind::BaseException,
+        Contents::Dict(_) => Kind::BaseException,
     }
 }
 

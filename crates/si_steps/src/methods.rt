@@ -119,6 +119,7 @@ impl State {
                 Step::Local
             }
             Ok(Answered::Asks(awaited, action)) => self.ask(awaited, action, target, next),
+            Ok(Answered::NoKey(key)) => self.raise_key(key),
             Err(Fault::Raises(cause)) => self.raise(cause),
             Err(Fault::NoMemory) => self.starve(),
         }

@@ -1,14 +1,16 @@
 // How exceptions are raised.
 ghost use Rattle.std.specs.Prelude.{◌≡◌, ◌<◌, length};
 ghost use Rattle.si_arena.specs.Causes.{CauseLies};
+ghost use Rattle.si_arena.specs.Memory.{Lies};
 ghost use Rattle.si_slots.specs.Machine.{goes, leave};
 ghost use Rattle.si_semantics.specs.Meaning as meaning;
 ghost use Rattle.si_steps.specs.Moments.{Moment, IsAt, Did};
-ghost use Rattle.si_steps.specs.inner.Pieces.{IsDone, IsUnderWay, Unwound, IsMet, raised_line};
+ghost use Rattle.si_steps.specs.inner.Pieces.{IsDone, IsUnderWay, Unwound, IsMet, key_line, raised_line};
 
 use crate::state::{Standing, State};
 use crate::step::{Exit, Step};
 use si_arena::{Cause, Object, Ref};
+use si_plain::Kind;
 use si_stacks::{Block, Leaving};
 
 impl State {
@@ -25,6 +27,17 @@ impl State {
             Ok(_) => unreachable!(),
             Err(_) => self.starve(),
         }
+    }
+
+    /// A key is not there: KeyError is raised, whose argument it is (Python Standard Library 3.14, "Built-in Exceptions").
+    #[inline(never)]
+    pub fn raise_key(&mut self, key: Ref) -> Step
+        ghost p: { Moment }
+        requires ready { IsUnderWay self.old p }
+        requires lies { Lies self.old.arena key }
+        ensures { Did (key_line key self.old p) p self.old self.new result }
+    {
+        self.fail(Object::Made(Kind::KeyError, key))
     }
 
     /// Leaves what was entered by the exception at an address: for the innermost except clauses or finally suite, also

@@ -64,8 +64,8 @@ impl State {
         Step::Local
     }
 
-    // The run goes on, with an exception that is made and raised.
-    fn fail(&mut self, object: Object) -> Step
+    /// The run goes on, with an exception that is made and raised.
+    pub fn fail(&mut self, object: Object) -> Step
         ghost p: { Moment }
         requires at { IsAt self.old p }
         requires lies { ObjectLies self.old.arena object }

@@ -1,5 +1,5 @@
 -- The trees that values of this crate stand for.
-use Rattle.std.specs.Prelude.{List, map, string_bytes}
+use Rattle.std.specs.Prelude.{List, [], ◌∷◌, map, string_bytes}
 use Rattle.std.specs.Option.{option_map}
 use Rattle.si_semantics.specs.Value.{Nothing, Truth, Int, Str, Bytes}
 use Rattle.si_semantics.specs.Tree as tree
@@ -7,8 +7,9 @@ use Rattle.si_semantics.specs.Grammar.{exprs_of, chain_of, stmts_of, Branch, eli
 use Rattle.si_plain.specs.declared.operators.ComparisonOperator.{ComparisonOperator}
 use Rattle.si_syntax.specs.declared.expr.Expr.{Expr, fold-Expr}
 use Rattle.si_syntax.specs.declared.expr.Expr.TheOpen.{Expr-F}
-use Rattle.si_syntax.specs.declared.target.Target.{Target}
-use Rattle.si_syntax.specs.declared.target.Target.TheVariants as target
+use Rattle.si_syntax.specs.declared.target.Item.{Item}
+use Rattle.si_syntax.specs.declared.target.Target.{Target, fold-Target}
+use Rattle.si_syntax.specs.declared.target.Target.TheOpen.{Target-F}
 use Rattle.si_syntax.specs.declared.stmt.Stmt.{Stmt, fold-Stmt}
 use Rattle.si_syntax.specs.declared.stmt.Stmt.TheOpen.{Stmt-F, Branch-F, Clause-F, Define-F, Finally-F, For-F, If-F, Try-F, While-F}
 use Rattle.si_syntax.specs.declared.stmt.Branch.{Branch as BranchParts}
@@ -34,6 +35,8 @@ view_step (Expr-F.Attribute a x) = tree.Attribute a.value (string_bytes x)
 view_step (Expr-F.Call a x args names) = tree.Call a.value (option_map string_bytes x) (exprs_of args.items) (map string_bytes names.items)
 view_step (Expr-F.Subscript a b) = tree.Subscript a.value b.value
 view_step (Expr-F.Tuple items) = tree.Tuple (exprs_of items.items)
+view_step (Expr-F.ListDisplay items) = tree.ListDisplay (exprs_of items.items)
+view_step (Expr-F.DictDisplay items) = tree.DictDisplay (exprs_of items.items)
 view_step (Expr-F.Boolean op a others) = tree.Boolean op a.value (exprs_of others.items)
 view_step (Expr-F.Compare a links) = tree.Compare a.value (chain_of links.items)
 view_step (Expr-F.Conditional test value other) = tree.Conditional test.value value.value other.value
@@ -45,8 +48,29 @@ expr_of = fold-Expr tree.Expr view_step
 abbrev pub link_of : ComparisonOperator × Expr → ComparisonOperator × tree.Expr
 link_of l = (l.0, expr_of l.1)
 
+-- targets in a row
+abbrev pub target_row : List tree.Target → tree.Targets
+target_row [] = tree.NoTargets
+target_row (t ∷ ts) = tree.MoreTargets t (target_row ts)
+
+-- the object and the index of an item
+abbrev pub object_of : Item → tree.Expr
+object_of i = expr_of i.object.value
+
+abbrev pub index_of : Item → tree.Expr
+index_of i = expr_of i.index.value
+
+-- one level of a target, with each part already seen as its tree
+abbrev pub target_step : Target-F tree.Target → tree.Target
+target_step (Target-F.Named x) = tree.Named (string_bytes x)
+target_step (Target-F.Item i) = tree.Item (object_of i) (index_of i)
+target_step (Target-F.Unpack ts) = tree.Unpack (target_row ts.items)
+
 abbrev pub target_of : Target → tree.Target
-target_of (target.Named x) = tree.Named (string_bytes x)
+target_of = fold-Target tree.Target target_step
+
+abbrev pub targets_of : List Target → tree.Targets
+targets_of ts = target_row (map target_of ts)
 
 -- what a try without its finally suite is: its suite, its except clauses and its else suite
 abbrev pub Tried : Type 0
@@ -82,8 +106,10 @@ while_step w = tree.While (expr_of w.test) (stmts_of w.body.items) (stmts_of w.l
 
 abbrev pub stmt_step : At Stmt-F → tree.Stmt
 stmt_step (Stmt-F.Evaluate e) = tree.Evaluate (expr_of e)
-stmt_step (Stmt-F.Assign a) = tree.Assign (target_of a.target) (expr_of a.value)
-stmt_step (Stmt-F.Augment a) = tree.Augment (target_of a.target) a.operator (expr_of a.value)
+stmt_step (Stmt-F.Assign a) = tree.Assign (targets_of a.targets.items) (expr_of a.value)
+stmt_step (Stmt-F.Augment a) = tree.Augment (string_bytes a.name) a.operator (expr_of a.value)
+stmt_step (Stmt-F.AugmentItem a) = tree.AugmentItem (object_of a.item) (index_of a.item) a.operator (expr_of a.value)
+stmt_step (Stmt-F.Delete i) = tree.Delete (object_of i) (index_of i)
 stmt_step Stmt-F.Pass = tree.Pass
 stmt_step (Stmt-F.If i) = i
 stmt_step (Stmt-F.While w) = w

@@ -26,8 +26,12 @@ pub enum Expr {
     Call(Box<Expr>, Option<String>, Vec<Expr>, Vec<String>),
     /// `object[index]`: the object, the index.
     Subscript(Box<Expr>, Box<Expr>),
-    /// A tuple displayed in brackets: its items, from the left.
+    /// A tuple: its items, from the left.
     Tuple(Vec<Expr>),
+    /// A list displayed in brackets: its items, from the left.
+    ListDisplay(Vec<Expr>),
+    /// A dict displayed in braces: its keys and values by turns, from the left, each key before its value.
+    DictDisplay(Vec<Expr>),
     /// Operands of `and` or of `or` in a row: the first, and the others, of which there is one at least.
     Boolean(BooleanOperator, Box<Expr>, Vec<Expr>),
     /// A chain of comparisons: the first operand, and each operator with the operand after it.

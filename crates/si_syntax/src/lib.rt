@@ -14,5 +14,7 @@ mod target;
 
 pub use expr::Expr;
 pub use modules::Module;
-pub use stmt::{Assign, Augment, Branch, Clause, Define, Finally, For, If, Line, Stmt, Try, While};
-pub use target::Target;
+pub use stmt::{
+    Assign, Augment, AugmentItem, Branch, Clause, Define, Finally, For, If, Line, Stmt, Try, While,
+};
+pub use target::{Item, Target};

@@ -1,7 +1,7 @@
 // Statements.
 
 use crate::expr::Expr;
-use crate::target::Target;
+use crate::target::{Item, Target};
 use si_plain::{BinaryOperator, ModuleName};
 
 /// The line in which a statement begins, counted from 1. It is a hint for people: no tree depends on it.
@@ -15,6 +15,9 @@ pub enum Stmt {
     Evaluate(Expr),
     Assign(Assign),
     Augment(Augment),
+    AugmentItem(AugmentItem),
+    /// `del object[index]`: its item (Python Language Reference 3.14, 7.5).
+    Delete(Item),
     Pass,
     If(If),
     While(While),
@@ -35,17 +38,26 @@ pub enum Stmt {
     Finally(Finally),
 }
 
-/// `target = value` (Python Language Reference 3.14, 7.2).
+/// `target = .. = value` (Python Language Reference 3.14, 7.2).
 #[derive(Debug, Drop)]
 pub struct Assign {
-    pub target: Target,
+    /// From the left; there is one at least.
+    pub targets: Vec<Target>,
     pub value: Expr,
 }
 
-/// `target op= value` (Python Language Reference 3.14, 7.2.1).
+/// `NAME op= value` (Python Language Reference 3.14, 7.2.1).
 #[derive(Debug, Drop)]
 pub struct Augment {
-    pub target: Target,
+    pub name: String,
+    pub operator: BinaryOperator,
+    pub value: Expr,
+}
+
+/// `object[index] op= value` (Python Language Reference 3.14, 7.2.1).
+#[derive(Debug, Drop)]
+pub struct AugmentItem {
+    pub item: Item,
     pub operator: BinaryOperator,
     pub value: Expr,
 }

@@ -169,6 +169,77 @@ fn functions_come_first(rt: HostRuntime) -> Result<(), Fail> {
     Ok(())
 }
 
+// The code of `f` of the text below, where `a` and `b` are local.
+const TARGETS: [FullInstr; 23] = [
+    // a[b] = 1
+    FullInstr::StoreItem(
+        Source::Literal(Constant::Int(1)),
+        Source::Local(0),
+        Source::Local(1),
+    ),
+    // a[0], b = b
+    FullInstr::Unpack(Source::Local(1), 0, 2),
+    FullInstr::StoreItem(
+        Source::Temporary(1),
+        Source::Local(0),
+        Source::Literal(Constant::Int(0)),
+    ),
+    FullInstr::Copy(Target::Local(1), Source::Temporary(0)),
+    // a = b[1] = 2
+    FullInstr::Copy(Target::Temporary(0), Source::Literal(Constant::Int(2))),
+    FullInstr::Copy(Target::Temporary(1), Source::Kept(0)),
+    FullInstr::Copy(Target::Local(0), Source::Temporary(1)),
+    FullInstr::StoreItem(
+        Source::Temporary(0),
+        Source::Local(1),
+        Source::Literal(Constant::Int(1)),
+    ),
+    // a[b] += 3
+    FullInstr::Copy(Target::Temporary(0), Source::Local(0)),
+    FullInstr::Copy(Target::Temporary(1), Source::Local(1)),
+    FullInstr::Subscript(Target::Temporary(2), Source::Kept(0), Source::Kept(1)),
+    FullInstr::AddInPlace(
+        Target::Temporary(2),
+        Source::Temporary(2),
+        Source::Literal(Constant::Int(3)),
+    ),
+    FullInstr::StoreItem(
+        Source::Temporary(2),
+        Source::Temporary(0),
+        Source::Temporary(1),
+    ),
+    // del a[b]
+    FullInstr::DeleteItem(Source::Local(0), Source::Local(1)),
+    // for a[0] in b: pass
+    FullInstr::StartFor(1, 2, Source::Local(1)),
+    FullInstr::StoreItem(
+        Source::Temporary(0),
+        Source::Local(0),
+        Source::Literal(Constant::Int(0)),
+    ),
+    FullInstr::NextItem(Target::Temporary(0), 2),
+    // [a, {b: 1}]
+    FullInstr::Copy(Target::Temporary(0), Source::Local(0)),
+    FullInstr::Copy(Target::Temporary(1), Source::Local(1)),
+    FullInstr::Copy(Target::Temporary(2), Source::Literal(Constant::Int(1))),
+    FullInstr::GatherDict(Target::Temporary(1), 1, 2),
+    FullInstr::GatherList(Target::Nowhere, 0, 2),
+    FullInstr::Return(Source::Literal(Constant::Nothing)),
+];
+
+#[test]
+fn targets_are_bound_from_the_left_after_the_value(rt: HostRuntime) -> Result<(), Fail> {
+    let text =
+        "def f(a, b):\n a[b] = 1\n a[0], b = b\n a = b[1] = 2\n a[b] += 3\n del a[b]\n for a[0] in b: pass\n [a, {b: 1}]\n";
+    let tree = script(rt.alloc(), text)?;
+    let mut table = CodeTable::new(rt.alloc());
+    compile(&tree, &mut table)?;
+    for (at, instr) in TARGETS.iter().enumerate() {
+        assert_eq!(rt; table.instruction(at), Some(*instr), "at {at}");
+    }
+    Ok(())
+}
+
 // A second text's functions are numbered after those of the first.
 #[test]
 fn numbers_go_on(rt: HostRuntime) -> Result<(), Fail> {

@@ -30,3 +30,18 @@ fn locals_are_parameters_and_what_is_bound(rt: HostRuntime) -> Result<(), Fail> 
     assert_eq!(rt; scoped.body().len(), 2);
     Ok(())
 }
+
+#[test]
+fn objects_and_indices_of_targets_are_used_and_not_bound(rt: HostRuntime) -> Result<(), Fail> {
+    let script =
+        "def f(a):\n [b, c[d]] = a\n e = g[0] = 1\n h[0] += 2\n del i[0]\n for j, (k, l[m]) in n: pass\n";
+    let scoped = resolve(rt.alloc(), parse(rt.alloc(), script)?)?;
+    let Some(names) = scoped.locals(0) else {
+        panic!(rt; "one function")
+    };
+    assert_eq!(rt; names.len(), 5);
+    for (slot, want) in [(0, "a"), (1, "b"), (2, "e"), (3, "j"), (4, "k")] {
+        assert_eq!(rt; names.get(slot), Some(want), "slot {slot}");
+    }
+    Ok(())
+}

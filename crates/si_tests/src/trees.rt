@@ -60,7 +60,7 @@ fn a_line_ends_in_lf_cr_or_cr_lf_and_the_last_one_may_lack_it(rt: HostRuntime) -
     ] {
         assert_eq!(rt;
             shown(alloc, text)?.as_str(),
-            "[Assign(Assign { target: Named(\"x\"), value: Int(1) }), Evaluate(Call(Name(\"f\"), None, [Name(\"x\")], []))]",
+            "[Assign(Assign { targets: [Named(\"x\")], value: Int(1) }), Evaluate(Call(Name(\"f\"), None, [Name(\"x\")], []))]",
             "{text:?}"
         );
     }
@@ -183,11 +183,11 @@ fn tuples_may_stand_without_brackets(rt: HostRuntime) -> Result<(), Fail> {
         ),
         (
             "x = (), 1",
-            "Assign(Assign { target: Named(\"x\"), value: Tuple([Tuple([]), Int(1)]) })",
+            "Assign(Assign { targets: [Named(\"x\")], value: Tuple([Tuple([]), Int(1)]) })",
         ),
         (
             "x += 1,",
-            "Augment(Augment { target: Named(\"x\"), operator: Add, value: Tuple([Int(1)]) })",
+            "Augment(Augment { name: \"x\", operator: Add, value: Tuple([Int(1)]) })",
         ),
         (
             "return a, b",
@@ -205,12 +205,65 @@ fn tuples_may_stand_without_brackets(rt: HostRuntime) -> Result<(), Fail> {
 }
 
 #[test]
+fn lists_and_dicts_are_displayed_with_their_items_in_order(rt: HostRuntime) -> Result<(), Fail> {
+    let alloc = rt.alloc();
+    for (text, tree) in [
+        ("[]", "ListDisplay([])"),
+        ("[1]", "ListDisplay([Int(1)])"),
+        (
+            "[1, [2], (3,),]",
+            "ListDisplay([Int(1), ListDisplay([Int(2)]), Tuple([Int(3)])])",
+        ),
+        ("{}", "DictDisplay([])"),
+        (
+            "{a: 1, b if c else d: {},}",
+            "DictDisplay([Name(\"a\"), Int(1), Conditional(Name(\"c\"), Name(\"b\"), Name(\"d\")), DictDisplay([])])",
+        ),
+        (
+            "[a][0][b]",
+            "Subscript(Subscript(ListDisplay([Name(\"a\")]), Int(0)), Name(\"b\"))",
+        ),
+    ] {
+        let wanted = format!(in alloc; "[Evaluate({tree})]")?;
+        assert_eq!(rt; shown(alloc, text)?.as_str(), wanted.as_str(), "{text:?}");
+    }
+    Ok(())
+}
+
+#[test]
+fn targets_are_items_and_rows(rt: HostRuntime) -> Result<(), Fail> {
+    let alloc = rt.alloc();
+    for (text, trees) in [
+        (
+            "a, b[0] = [c] = {1: 2, 3: [4]}",
+            "Assign(Assign { targets: [Unpack([Named(\"a\"), Item(Item { object: Name(\"b\"), index: Int(0) })]), Unpack([Named(\"c\")])], value: DictDisplay([Int(1), Int(2), Int(3), ListDisplay([Int(4)])]) })",
+        ),
+        (
+            "(x[0]) -= []",
+            "AugmentItem(AugmentItem { item: Item { object: Name(\"x\"), index: Int(0) }, operator: Subtract, value: ListDisplay([]) })",
+        ),
+        (
+            "del x[0][1]",
+            "Delete(Item { object: Subscript(Name(\"x\"), Int(0)), index: Int(1) })",
+        ),
+        (
+            "for a, (b,) in c: pass",
+            "For(For { target: Unpack([Named(\"a\"), Unpack([Named(\"b\")])]), items: Name(\"c\"), body: [Pass], last: [] })",
+        ),
+    ] {
+        let wanted = format!(in alloc; "[{trees}]")?;
+        assert_eq!(rt; shown(alloc, text)?.as_str(), wanted.as_str(), "{text:?}");
+    }
+    Ok(())
+}
+
+#[test]
 fn statements_of_branches_and_loops(rt: HostRuntime) -> Result<(), Fail> {
     let alloc = rt.alloc();
     for (text, trees) in [
         (
             "x += 1; (y) **= 2; pass",
-            "Augment(Augment { target: Named(\"x\"), operator: Add, value: Int(1) }), Augment(Augment { target: Named(\"y\"), operator: Power, value: Int(2) }), Pass",
+            "Augment(Augment { name: \"x\", operator: Add, value: Int(1) }), Augment(Augment { name: \"y\", operator: Power, value: Int(2) }), Pass",
         ),
         (
             "if a: b",

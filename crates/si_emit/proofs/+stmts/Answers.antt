@@ -9,11 +9,11 @@ use Rattle.si_syntax.specs.declared.stmt.Try.{out-Try}
 use Rattle.si_syntax.specs.declared.stmt.If.{out-If}
 use Rattle.si_semantics.specs.Grammar.{elifs_of}
 use Rattle.si_semantics.specs.Tree.{functions_in}
-use Rattle.si_syntax.specs.Trees.{body_of, branch_of, expr_of, others_of}
+use Rattle.si_syntax.specs.Trees.{body_of, branch_of, expr_of, others_of, target_of}
 use Rattle.si_emit.specs.inner.Silence.{silent_suite}
 use Rattle.si_emit.proofs.Silent.{loud_code}
-use Rattle.si_emit.proofs.Seen.{while_seen, try_seen, finally_seen}
-use Rattle.si_emit.proofs.LoopStmts.{while_stmt, loop_number, named_for_seen, for_stmt, for_number, entry_behind}
+use Rattle.si_emit.proofs.Seen.{while_seen, for_seen, try_seen, finally_seen}
+use Rattle.si_emit.proofs.LoopStmts.{while_stmt, loop_number, for_stmt, for_number, entry_behind}
 use Rattle.si_plain.proofs.Lengths.{empty, not_empty}
 use Rattle.si_slots.specs.Machine as machine
 use Rattle.si_slots.specs.Code.{stmts_code, named_code}
@@ -371,16 +371,16 @@ repeats::emit_while-returns-clause-extends t c =
 
 pub repeats::emit_for-returns-clause-ok : goal.repeats::emit_for-returns-clause-ok
 repeats::emit_for-returns-clause-ok t c =
-    let seen = named_for_seen c.args.statement.now c.bound_by-name.result.now c.deref.result.now c.deref-2.result.now c.bound_by-name.ensures c.deref.ensures.value c.deref-2.ensures.value in
+    let seen = for_seen c.args.statement.now c.deref.result.now c.deref-2.result.now c.deref.ensures.value c.deref-2.ensures.value in
     on_ok_weaker c.aim_loop.result
-    (for_stmt c.args.locals.now _ _ c.bound_by-name.result.now c.args.statement.now.items c.deref.result.now c.deref-2.result.now _ c.in_ok-entry.entry c.len-item.result seen c.in_ok-emit_suite.ensures.next
+    (for_stmt c.args.locals.now _ _ (target_of c.args.statement.now.target) c.args.statement.now.items c.deref.result.now c.deref-2.result.now _ c.in_ok-entry.entry c.len-item.result seen c.in_ok-emit_suite.ensures.next
     c.in_ok-entry.ensures.at c.len-item.ensures c.in_ok-entry.ensures.ok c.in_ok-emit_suite.ensures.ok c.in_ok-emit_next.ensures.ok c.in_ok-emit_suite-2.ensures.ok)
     c.aim_loop.ensures.ok
 
 pub repeats::emit_for-returns-clause-next : goal.repeats::emit_for-returns-clause-next
 repeats::emit_for-returns-clause-next t c =
-    let seen = named_for_seen c.args.statement.now c.bound_by-name.result.now c.deref.result.now c.deref-2.result.now c.bound_by-name.ensures c.deref.ensures.value c.deref-2.ensures.value in
-    on_ok_weaker c.aim_loop.result (λ bounds. for_number _ _ _ c.bound_by-name.result.now c.args.statement.now.items c.deref.result.now c.deref-2.result.now _ seen c.in_ok-emit_suite.ensures.next c.in_ok-emit_suite-2.ensures.next) c.aim_loop.ensures.ok
+    let seen = for_seen c.args.statement.now c.deref.result.now c.deref-2.result.now c.deref.ensures.value c.deref-2.ensures.value in
+    on_ok_weaker c.aim_loop.result (λ bounds. for_number _ _ _ (target_of c.args.statement.now.target) c.args.statement.now.items c.deref.result.now c.deref-2.result.now _ seen c.in_ok-emit_suite.ensures.next c.in_ok-emit_suite-2.ensures.next) c.aim_loop.ensures.ok
 
 pub repeats::emit_for-returns-clause-extends : goal.repeats::emit_for-returns-clause-extends
 repeats::emit_for-returns-clause-extends t c =

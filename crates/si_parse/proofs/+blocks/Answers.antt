@@ -3,7 +3,10 @@ use Rattle.std.specs.Prelude.{option_map, not}
 use Rattle.std.proofs.lemmas.List.{map-append, length-map}
 use Rattle.si_syntax.proofs.Forms.{while_is, for_is, define_is}
 use Rattle.si_syntax.specs.Trees.{stmt_of, branch_of, clause_of}
-use Rattle.si_parse.specs.inner.Reading.{many_by, elif_by, no_elif, catch_by, no_catch, is_none, is_dedent, block_at}
+use Rattle.si_parse.specs.inner.Lists.{many_by, is_none}
+use Rattle.si_parse.specs.inner.Blocks.{elif_by, no_elif, is_dedent}
+use Rattle.si_parse.specs.inner.Handlers.{catch_by, no_catch}
+use Rattle.si_parse.specs.inner.Lines.{block_at}
 use Rattle.si_parse.specs.inner.Gives.{from, header_view}
 use Rattle.si_plain.proofs.Lengths.{not_empty}
 use Rattle.si_parse.proofs.Turns.{many_on, block_compound, elif_read, catch_read, while_read, for_read, define_read, try_read, finally_read}

@@ -1,6 +1,9 @@
 use Rattle.std.proofs.Common.{◌≡◌, ◌+◌, ◌-◌, ◌*◌, [], length, map}
 use Rattle.si_syntax.specs.Trees.{stmt_of, branch_of, clause_of}
-use Rattle.si_parse.specs.inner.Reading.{many_by, elif_by, no_elif, elifs_by, catch_by, no_catch, catches_by, is_dedent, block_at}
+use Rattle.si_parse.specs.inner.Lists.{many_by}
+use Rattle.si_parse.specs.inner.Blocks.{elif_by, no_elif, elifs_by, is_dedent}
+use Rattle.si_parse.specs.inner.Handlers.{catch_by, no_catch, catches_by}
+use Rattle.si_parse.specs.inner.Lines.{block_at}
 use Rattle.si_parse.specs.inner.Gives.{from}
 use Rattle.si_parse.proofs.+blocks.Given as goal
 

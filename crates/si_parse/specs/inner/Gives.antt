@@ -15,7 +15,7 @@ use Rattle.si_parse.specs.declared.lookahead.Header.{Header as Word}
 use Rattle.si_parse.specs.declared.lookahead.Header.TheVariants as header
 use Rattle.si_parse.specs.declared.argument.Argument.{Argument}
 use Rattle.si_parse.specs.declared.argument.Argument.TheVariants as passed
-use Rattle.si_parse.specs.inner.Reading.{Continuation, operator, attribute, arguments, index, comparison, boolean, condition, nothing, Header, if_header, while_header, for_header, try_header, def_header}
+use Rattle.si_parse.specs.inner.Lookahead.{Continuation, operator, attribute, arguments, index, comparison, boolean, condition, nothing, Header, if_header, while_header, for_header, try_header, def_header}
 
 -- the terminals of tokens, from a place on
 abbrev pub from : List Token → ℕ → List Terminal

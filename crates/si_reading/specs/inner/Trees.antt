@@ -9,7 +9,7 @@ use Rattle.si_semantics.specs.Grammar.{Terminal, terminal_of, stmts_of}
 use Rattle.si_token.specs.inner.Reading.{then_read, word_at}
 use Rattle.si_token.specs.inner.Laying.{line_start, laid_all}
 use Rattle.si_parse.specs.Modules.{max_bytes}
-use Rattle.si_parse.specs.inner.Reading.{module_by}
+use Rattle.si_parse.specs.inner.Lines.{module_by}
 
 -- the word of this sort and length at the front
 abbrev pub word_of : List ℕ → Sort × ℕ → Word

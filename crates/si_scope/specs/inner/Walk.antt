@@ -4,7 +4,7 @@ use Rattle.std.specs.Option.{option_and_then, option_map}
 use Rattle.si_plain.specs.Names.{with_name}
 use Rattle.si_semantics.specs.Value.{Text}
 use Rattle.si_semantics.specs.Tree as tree
-use Rattle.si_semantics.specs.Tree.{Stmt, Target, Stmts, Clauses}
+use Rattle.si_semantics.specs.Tree.{Stmt, Target, Targets, Stmts, Clauses}
 use Rattle.si_semantics.specs.Scope.{is_in, are_distinct, with_new, names_of, names_of_value}
 use Rattle.si_scope.specs.declared.seen.Seen.{Seen}
 
@@ -23,9 +23,17 @@ using xs s = record { used = with_names s.used xs; declared = s.declared; locals
 abbrev pub binding : Text → Seen → Seen
 binding x s = record { used = with_name s.used x; declared = s.declared; locals = with_new s.locals s.declared (x ∷ []) }
 
--- a target is bound
-abbrev pub binding_target : Target → Seen → Seen
-binding_target (tree.Named x) s = binding x s
+abbrev mutual
+  -- a target is bound; an object and its index are used
+  pub binding_target : Target → Seen → Seen
+  binding_target (tree.Named x) s = binding x s
+  binding_target (tree.Item a b) s = using (names_of b) (using (names_of a) s)
+  binding_target (tree.Unpack ts) s = binding_targets ts s
+
+  -- targets in a row are bound
+  pub binding_targets : Targets → Seen → Seen
+  binding_targets tree.NoTargets s = s
+  binding_targets (tree.MoreTargets t ts) s = binding_targets ts (binding_target t s)
 
 -- names are declared global, of which none was used
 abbrev pub declaring : List Text → Seen → Option Seen
@@ -41,8 +49,10 @@ abbrev mutual
   -- a statement, in a loop or in none, where `return` may stand or may not
   pub after : Stmt → (loop returns : Bool) → Seen → Option Seen
   after (tree.Evaluate a) loop returns s = Some (using (names_of a) s)
-  after (tree.Assign t a) loop returns s = Some (using (names_of a) (binding_target t s))
-  after (tree.Augment t o a) loop returns s = Some (using (names_of a) (binding_target t s))
+  after (tree.Assign ts a) loop returns s = Some (using (names_of a) (binding_targets ts s))
+  after (tree.Augment x o a) loop returns s = Some (using (names_of a) (binding x s))
+  after (tree.AugmentItem a b o c) loop returns s = Some (using (names_of c) (using (names_of b) (using (names_of a) s)))
+  after (tree.Delete a b) loop returns s = Some (using (names_of b) (using (names_of a) s))
   after tree.Pass loop returns s = Some s
   after (tree.If a b c) loop returns s = option_and_then (after_all c loop returns) (after_all b loop returns (using (names_of a) s))
   after (tree.While a b c) loop returns s = option_and_then (after_all c loop returns) (after_all b true returns (using (names_of a) s))

@@ -15,11 +15,11 @@ use Rattle.si_semantics.specs.Worked.Scripts.{a, b, e, i, k, t, recursion_error,
 -- `e = ValueError()`, `for i in range(count): e = ValueError(e)`, and then this
 abbrev pub nested : ℕ → Stmt → List Stmt
 nested count last =
-    tree.Assign (tree.Named e) (new value_error []) ∷ each i (a_range (int count ∷ [])) (tree.Assign (tree.Named e) (new value_error (tree.Name e ∷ [])) ∷ []) ∷ last ∷ []
+    tree.Assign (tree.only (tree.Named e)) (new value_error []) ∷ each i (a_range (int count ∷ [])) (tree.Assign (tree.only (tree.Named e)) (new value_error (tree.Name e ∷ [])) ∷ []) ∷ last ∷ []
 
 -- `1 // 0` in a `try` whose clause binds it to `a`; it leaves the run by `KeyError`
 abbrev pub first_text : List Stmt
-first_text = try_except (divides_by_zero ∷ []) (except_as zero_division_error e (tree.Assign (tree.Named a) (tree.Name e) ∷ raises key_error ∷ []) tree.NoClauses) ∷ []
+first_text = try_except (divides_by_zero ∷ []) (except_as zero_division_error e (tree.Assign (tree.only (tree.Named a)) (tree.Name e) ∷ raises key_error ∷ []) tree.NoClauses) ∷ []
 
 -- that is run, and then `print(a)`, `raise`
 abbrev pub two_texts : List Answer
@@ -199,7 +199,7 @@ pub record ExceptionCases : Type 0 where
   --         print(repr(e))
   pub kind_by_another_name :
       ends
-      (tree.Assign (tree.Named k) lookup_error
+      (tree.Assign (tree.only (tree.Named k)) lookup_error
       ∷ try_except (raises (new index_error (str (codes "x") ∷ [])) ∷ []) (except_as (tree.Name k) e (prints (a_repr (tree.Name e) ∷ []) ∷ []) tree.NoClauses)
       ∷ [])
       ≡ codes "IndexError('x')\n"
@@ -217,7 +217,7 @@ pub record ExceptionCases : Type 0 where
   --         print(e)
   pub caught_unbound_local :
       ends
-      (define f [] (prints (tree.Name x ∷ []) ∷ tree.Assign (tree.Named x) (int 1) ∷ [])
+      (define f [] (prints (tree.Name x ∷ []) ∷ tree.Assign (tree.only (tree.Named x)) (int 1) ∷ [])
       ∷ try_except (tree.Evaluate (called f []) ∷ []) (except_as name_error e (prints (tree.Name e ∷ []) ∷ []) tree.NoClauses)
       ∷ [])
       ≡ codes "local x is not bound\n"
@@ -284,7 +284,7 @@ pub record ExceptionCases : Type 0 where
   --     print(e)
   pub unbound_behind_a_clause :
       ends
-      (tree.Assign (tree.Named e) (int 1)
+      (tree.Assign (tree.only (tree.Named e)) (int 1)
       ∷ try_except (divides_by_zero ∷ []) (except_as zero_division_error e (prints (tree.Name e ∷ []) ∷ []) tree.NoClauses)
       ∷ prints (tree.Name e ∷ [])
       ∷ [])
@@ -324,7 +324,7 @@ pub record ExceptionCases : Type 0 where
   --     print(e)
   pub bound_in_the_clause :
       ends
-      (try_except (divides_by_zero ∷ []) (except_as zero_division_error e (tree.Assign (tree.Named e) (int 2) ∷ prints (tree.Name e ∷ []) ∷ []) tree.NoClauses)
+      (try_except (divides_by_zero ∷ []) (except_as zero_division_error e (tree.Assign (tree.only (tree.Named e)) (int 2) ∷ prints (tree.Name e ∷ []) ∷ []) tree.NoClauses)
       ∷ prints (tree.Name e ∷ [])
       ∷ [])
       ≡ codes "2\nraised NameError: name e is not defined\n"
@@ -356,7 +356,7 @@ pub record ExceptionCases : Type 0 where
   pub global_name_unbound :
       ends
       (define f [] (tree.Global (e ∷ []) ∷ try_except (divides_by_zero ∷ []) (except_as zero_division_error e (prints (tree.Name e ∷ []) ∷ []) tree.NoClauses) ∷ [])
-      ∷ tree.Assign (tree.Named e) (int 1)
+      ∷ tree.Assign (tree.only (tree.Named e)) (int 1)
       ∷ tree.Evaluate (called f [])
       ∷ prints (tree.Name e ∷ [])
       ∷ [])
@@ -372,7 +372,7 @@ pub record ExceptionCases : Type 0 where
   --         print(e)
   pub not_caught_not_bound :
       ends
-      (tree.Assign (tree.Named e) (int 1)
+      (tree.Assign (tree.only (tree.Named e)) (int 1)
       ∷ try_except
       (try_except (divides_by_zero ∷ []) (except_as key_error e (tree.Pass ∷ []) tree.NoClauses) ∷ [])
       (except_of zero_division_error (prints (tree.Name e ∷ []) ∷ []) tree.NoClauses)
@@ -393,7 +393,7 @@ pub record ExceptionCases : Type 0 where
       (try_except
       (try_except
       (raises (new value_error (str (codes "x") ∷ [])) ∷ [])
-      (except_as value_error e (tree.Assign (tree.Named a) (tree.Name e) ∷ raises_again ∷ []) tree.NoClauses)
+      (except_as value_error e (tree.Assign (tree.only (tree.Named a)) (tree.Name e) ∷ raises_again ∷ []) tree.NoClauses)
       ∷ [])
       (except_as value_error b (prints (tree.Name b ∷ compared tree.Equal (tree.Name a) (tree.Name b) ∷ []) ∷ []) tree.NoClauses)
       ∷ [])

@@ -86,7 +86,7 @@ pub record FinallyCases : Type 0 where
   --     print(f())
   pub finally_behind_a_return :
       ends
-      (define f [] (tree.Assign (tree.Named x) (int 1) ∷ ensured (tree.Return (Some (tree.Name x)) ∷ []) (tree.Assign (tree.Named x) (int 2) ∷ says (codes "a") ∷ []) ∷ [])
+      (define f [] (tree.Assign (tree.only (tree.Named x)) (int 1) ∷ ensured (tree.Return (Some (tree.Name x)) ∷ []) (tree.Assign (tree.only (tree.Named x)) (int 2) ∷ says (codes "a") ∷ []) ∷ [])
       ∷ prints (called f [] ∷ [])
       ∷ [])
       ≡ codes "a\n1\n"

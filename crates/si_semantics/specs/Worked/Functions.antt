@@ -82,13 +82,13 @@ pub record FunctionCases : Type 0 where
   -- `def f(): pass`, `def g(): return`, then `print(f(), g())`
   pub none_is_given : report_of (define f [] (tree.Pass ∷ []) ∷ define g [] (tree.Return None ∷ []) ∷ prints (called f [] ∷ called g [] ∷ []) ∷ []) ≡ codes "== interpreter 0 ==\nNone None\nend: finished\n"
   -- `x = 1`, `def f():` `print(x)`, `x = 2`, then `f()`: x is local in all of f
-  pub unbound_local : report_of (tree.Assign (tree.Named x) (int 1) ∷ define f [] (prints (tree.Name x ∷ []) ∷ tree.Assign (tree.Named x) (int 2) ∷ []) ∷ tree.Evaluate (called f []) ∷ []) ≡ codes "== interpreter 0 ==\nraised UnboundLocalError: local x is not bound\nend: finished\n"
+  pub unbound_local : report_of (tree.Assign (tree.only (tree.Named x)) (int 1) ∷ define f [] (prints (tree.Name x ∷ []) ∷ tree.Assign (tree.only (tree.Named x)) (int 2) ∷ []) ∷ tree.Evaluate (called f []) ∷ []) ≡ codes "== interpreter 0 ==\nraised UnboundLocalError: local x is not bound\nend: finished\n"
   -- `x = 1`, `def f():` `x = 2`, then `f()`, `print(x)`
-  pub local_is_apart : report_of (tree.Assign (tree.Named x) (int 1) ∷ define f [] (tree.Assign (tree.Named x) (int 2) ∷ []) ∷ tree.Evaluate (called f []) ∷ prints (tree.Name x ∷ []) ∷ []) ≡ codes "== interpreter 0 ==\n1\nend: finished\n"
+  pub local_is_apart : report_of (tree.Assign (tree.only (tree.Named x)) (int 1) ∷ define f [] (tree.Assign (tree.only (tree.Named x)) (int 2) ∷ []) ∷ tree.Evaluate (called f []) ∷ prints (tree.Name x ∷ []) ∷ []) ≡ codes "== interpreter 0 ==\n1\nend: finished\n"
   -- `x = 1`, `def f():` `global x`, `x += 1`, then `f()`, `f()`, `print(x)`
-  pub global_is_changed : report_of (tree.Assign (tree.Named x) (int 1) ∷ define f [] (tree.Global (x ∷ []) ∷ tree.Augment (tree.Named x) tree.Add (int 1) ∷ []) ∷ tree.Evaluate (called f []) ∷ tree.Evaluate (called f []) ∷ prints (tree.Name x ∷ []) ∷ []) ≡ codes "== interpreter 0 ==\n3\nend: finished\n"
+  pub global_is_changed : report_of (tree.Assign (tree.only (tree.Named x)) (int 1) ∷ define f [] (tree.Global (x ∷ []) ∷ tree.Augment x tree.Add (int 1) ∷ []) ∷ tree.Evaluate (called f []) ∷ tree.Evaluate (called f []) ∷ prints (tree.Name x ∷ []) ∷ []) ≡ codes "== interpreter 0 ==\n3\nend: finished\n"
   -- `def f(): return x`, `x = 1`, then `print(f())`: a global name is looked up when the call comes to it
-  pub looked_up_in_the_call : report_of (gives f (tree.Name x) ∷ tree.Assign (tree.Named x) (int 1) ∷ prints (called f [] ∷ []) ∷ []) ≡ codes "== interpreter 0 ==\n1\nend: finished\n"
+  pub looked_up_in_the_call : report_of (gives f (tree.Name x) ∷ tree.Assign (tree.only (tree.Named x)) (int 1) ∷ prints (called f [] ∷ []) ∷ []) ≡ codes "== interpreter 0 ==\n1\nend: finished\n"
   -- The wait for the job is visit 1, `def` 2. The last statement is 3, the call of `print` 4, its callee 5; the call of
   -- f is 6, its callee 7, the literal 8. In f(3) the `if` is 9, its test 10, 11 and 12; `return` is 13, the sum 14, the
   -- literal 15, the call 16, its callee 17, the argument 18, 19 and 20; f(2) has as many, 21 to 32. In f(1) the `if` is

@@ -1,14 +1,15 @@
 -- Worked cases of reading: which words of a text are the longest, and which tokens and which tree texts have.
-use Rattle.std.specs.Prelude.{None, codes, ℕ, List, [], ◌∷◌, map}
+use Rattle.std.specs.Prelude.{None, Some, ◌≡◌, codes, ℕ, List, [], ◌∷◌, map}
 use Rattle.si_semantics.specs.Tree as tree
-use Rattle.si_semantics.specs.Tree.{Expr, Stmt}
+use Rattle.si_semantics.specs.Tree.{Expr, Stmt, Target}
 use Rattle.si_semantics.specs.Tokens as tokens
 use Rattle.si_semantics.specs.Tokens.{Token}
 use Rattle.si_semantics.specs.Words.{IsLongest}
 use Rattle.si_semantics.specs.Layout.{token, HasTokens}
-use Rattle.si_semantics.specs.Grammar.{terminal_of, Derives}
+use Rattle.si_semantics.specs.Grammar.{NAME, Sign, Word, terminal_of, target_of, IsTarget, Small, Derives}
 use Rattle.si_semantics.specs.Worked.Straight.{int, arguments, suite}
 use Rattle.si_semantics.specs.Worked.Functions.{f, x, called}
+use Rattle.si_semantics.specs.Worked.Scripts.{a, b, c, list_of, dict_of, item, unpack, set, unpacks, set_all}
 
 -- the bytes of a text have tokens from which these statements derive
 abbrev pub IsReadAs : List ℕ → List Stmt → Type 0
@@ -67,6 +68,22 @@ abbrev pub negated_chain : Expr
 negated_chain =
     tree.Unary tree.Not (tree.Compare (int 1) (tree.MoreComparisons tree.Less (int 2) (tree.MoreComparisons tree.LessEqual (int 3) tree.NoComparisons)))
 
+-- `a, b[0] = c = x`
+abbrev pub two_targets : Stmt
+two_targets = set_all (unpack (tree.Named a ∷ tree.Item (tree.Name b) (int 0) ∷ []) ∷ tree.Named c ∷ []) (tree.Name x)
+
+-- `[a, (b, c)] = x`
+abbrev pub unpacked_twice : Stmt
+unpacked_twice = unpacks (tree.Named a ∷ unpack (tree.Named b ∷ tree.Named c ∷ []) ∷ []) (tree.Name x)
+
+-- `for a, b in x: pass`
+abbrev pub a_for : Stmt
+a_for = tree.For (unpack (tree.Named a ∷ tree.Named b ∷ [])) (tree.Name x) (suite (tree.Pass ∷ [])) tree.NoStmts
+
+-- `x = [1, {2: x,}, []]`
+abbrev pub displays : Stmt
+displays = set x (list_of (int 1 ∷ dict_of (int 2 ∷ tree.Name x ∷ []) ∷ list_of [] ∷ []))
+
 pub record GrammarCases : Type 0 where
   -- `if` is the longest word before a blank, but not before a letter
   pub word_before_a_blank : IsLongest (codes "if") (codes " x:")
@@ -92,8 +109,31 @@ pub record GrammarCases : Type 0 where
   -- the last line closes two blocks
   pub two_blocks : IsReadAs (codes "while x:\n  if f:\n    break\nf(x)\n") (a_while ∷ f_of_x ∷ [])
   -- operators by their levels, and at one level from the left
-  pub levels : IsReadAs (codes "x = 1 - 2 - -3 ** 4 * 5\n") (tree.Assign (tree.Named x) difference ∷ [])
-  pub brackets : IsReadAs (codes "x = 1 - (2 - 3)\n") (tree.Assign (tree.Named x) bracketed ∷ [])
+  pub levels : IsReadAs (codes "x = 1 - 2 - -3 ** 4 * 5\n") (tree.Assign (tree.only (tree.Named x)) difference ∷ [])
+  pub brackets : IsReadAs (codes "x = 1 - (2 - 3)\n") (tree.Assign (tree.only (tree.Named x)) bracketed ∷ [])
   -- `or` after `not`, and `not` before comparisons
   pub words_between_operands :
       IsReadAs (codes "not 1 < 2 <= 3 or x\n") (tree.Evaluate (tree.Boolean tree.Or negated_chain (arguments (tree.Name x ∷ []))) ∷ [])
+  -- targets with a comma between them are unpacked, in brackets of either kind and without
+  pub targets_of_an_assignment : IsReadAs (codes "a, b[0] = c = x\n") (two_targets ∷ [])
+  pub targets_in_brackets : IsReadAs (codes "[a, (b, c)] = x\n") (unpacked_twice ∷ [])
+  pub targets_of_a_for : IsReadAs (codes "for a, b in x: pass\n") (a_for ∷ [])
+  pub one_target_in_brackets : IsReadAs (codes "(x) = 1\n") (set x (int 1) ∷ [])
+  pub item_augmented : IsReadAs (codes "x[0] += 1\n") (tree.AugmentItem (tree.Name x) (int 0) tree.Add (int 1) ∷ [])
+  pub item_deleted : IsReadAs (codes "del x[0]\n") (tree.Delete (tree.Name x) (int 0) ∷ [])
+  pub displays_in_each_other : IsReadAs (codes "x = [1, {2: x,}, []]\n") (displays ∷ [])
+  -- `()`, `[]`, `(x, 1)`, `[x, []]`, `f(x)`, `x.a`, `-x` and `1` are no targets
+  pub empty_tuple_as_a_target : target_of (tree.Tuple tree.NoExprs) ≡ None
+  pub empty_list_as_a_target : target_of (list_of []) ≡ None
+  pub literal_among_targets : target_of (tree.Tuple (arguments (tree.Name x ∷ int 1 ∷ []))) ≡ None
+  pub empty_list_among_targets : target_of (list_of (tree.Name x ∷ list_of [] ∷ [])) ≡ None
+  pub call_as_a_target : target_of (called f (tree.Name x ∷ [])) ≡ None
+  pub attribute_as_a_target : target_of (tree.Attribute (tree.Name x) a) ≡ None
+  pub negation_as_a_target : target_of (tree.Unary tree.Minus (tree.Name x)) ≡ None
+  pub literal_as_a_target : target_of (int 1) ≡ None
+  -- an item of anything is one
+  pub item_of_a_call_as_a_target : target_of (item (called f (tree.Name x ∷ [])) (int 0)) ≡ Some (tree.Item (called f (tree.Name x ∷ [])) (int 0))
+  -- so `()` and `[]` spell no target, and no `del` stands in front of a name alone
+  pub empty_brackets_before_an_equal_sign : (t : Target) → IsTarget t (Sign tokens.LeftParenthesis ∷ Sign tokens.RightParenthesis ∷ []) → ⊥
+  pub empty_square_brackets_before_an_equal_sign : (t : Target) → IsTarget t (Sign tokens.LeftBracket ∷ Sign tokens.RightBracket ∷ []) → ⊥
+  pub name_behind_del : (object index : Expr) → Small (tree.Delete object index) (Word tokens.DelWord ∷ NAME x ∷ []) → ⊥

@@ -77,7 +77,7 @@ pub record ItemCases : Type 0 where
   --     print(f(), i)
   pub local_target :
       ends_within 3
-      (tree.Assign (tree.Named i) (str (codes "a"))
+      (tree.Assign (tree.only (tree.Named i)) (str (codes "a"))
       ∷ define f [] (each i (a_range (int 2 ∷ [])) (tree.Pass ∷ []) ∷ tree.Return (Some (tree.Name i)) ∷ [])
       ∷ prints (called f [] ∷ tree.Name i ∷ [])
       ∷ [])
@@ -97,13 +97,13 @@ pub record ItemCases : Type 0 where
   --         print(i)
   --     print(i)
   pub bound_in_the_body :
-      ends_within 3 (each i (a_range (int 2 ∷ [])) (tree.Assign (tree.Named i) (int 7) ∷ prints (tree.Name i ∷ []) ∷ []) ∷ prints (tree.Name i ∷ []) ∷ []) ≡ codes "7\n7\n7\n"
+      ends_within 3 (each i (a_range (int 2 ∷ [])) (tree.Assign (tree.only (tree.Named i)) (int 7) ∷ prints (tree.Name i ∷ []) ∷ []) ∷ prints (tree.Name i ∷ []) ∷ []) ≡ codes "7\n7\n7\n"
   --     a = 'ab'
   --     for c in a:
   --         a = a + c
   --     print(a)
   pub evaluated_once :
-      ends_within 3 (tree.Assign (tree.Named a) (str (codes "ab")) ∷ each c (tree.Name a) (tree.Assign (tree.Named a) (tree.Binary tree.Add (tree.Name a) (tree.Name c)) ∷ []) ∷ prints (tree.Name a ∷ []) ∷ [])
+      ends_within 3 (tree.Assign (tree.only (tree.Named a)) (str (codes "ab")) ∷ each c (tree.Name a) (tree.Assign (tree.only (tree.Named a)) (tree.Binary tree.Add (tree.Name a) (tree.Name c)) ∷ []) ∷ prints (tree.Name a ∷ []) ∷ [])
       ≡ codes "abab\n"
   --     for i in 3:
   --         print(i)
@@ -155,8 +155,8 @@ pub record ItemCases : Type 0 where
   --         print(i)
   pub else_of_a_while :
       ends_within 3
-      (tree.Assign (tree.Named i) (int 0)
-      ∷ tree.While (compared tree.Less (tree.Name i) (int 2)) (suite (tree.Augment (tree.Named i) tree.Add (int 1) ∷ tree.Continue ∷ [])) (suite (prints (tree.Name i ∷ []) ∷ []))
+      (tree.Assign (tree.only (tree.Named i)) (int 0)
+      ∷ tree.While (compared tree.Less (tree.Name i) (int 2)) (suite (tree.Augment i tree.Add (int 1) ∷ tree.Continue ∷ [])) (suite (prints (tree.Name i ∷ []) ∷ []))
       ∷ [])
       ≡ codes "2\n"
   --     while True:
@@ -294,7 +294,7 @@ pub record ItemCases : Type 0 where
   --     print(e == e, e == ValueError('x'), e != e, e == 'x', e == ValueError)
   pub exceptions_compared :
       ends
-      (tree.Assign (tree.Named e) (new value_error (str (codes "x") ∷ []))
+      (tree.Assign (tree.only (tree.Named e)) (new value_error (str (codes "x") ∷ []))
       ∷ prints
       (compared tree.Equal (tree.Name e) (tree.Name e)
       ∷ compared tree.Equal (tree.Name e) (new value_error (str (codes "x") ∷ []))
@@ -310,7 +310,7 @@ pub record ItemCases : Type 0 where
   --     print(repr(e), e, repr(IndexError(e)), KeyError(ValueError('b')))
   pub exceptions_of_exceptions :
       ends
-      (tree.Assign (tree.Named e) (new value_error (new key_error (str (codes "a") ∷ []) ∷ []))
+      (tree.Assign (tree.only (tree.Named e)) (new value_error (new key_error (str (codes "a") ∷ []) ∷ []))
       ∷ prints (a_repr (tree.Name e) ∷ tree.Name e ∷ a_repr (new index_error (tree.Name e ∷ [])) ∷ new key_error (new value_error (str (codes "b") ∷ []) ∷ []) ∷ [])
       ∷ [])
       ≡ codes "ValueError(KeyError('a')) 'a' IndexError(ValueError(KeyError('a'))) ValueError('b')\n"
@@ -329,7 +329,7 @@ pub record ItemCases : Type 0 where
   --         print(e)
   pub another_value :
       ends
-      (tree.Assign (tree.Named (codes "KeyError")) value_error
+      (tree.Assign (tree.only (tree.Named (codes "KeyError"))) value_error
       ∷ try_except (raises (new value_error (str (codes "x") ∷ [])) ∷ []) (except_as key_error e (prints (tree.Name e ∷ []) ∷ []) tree.NoClauses)
       ∷ [])
       ≡ codes "x\n"
@@ -358,7 +358,7 @@ pub record ItemCases : Type 0 where
   --     print(f(7) + 'a', f == str, f == repr)
   pub called_by_another_name :
       ends
-      (tree.Assign (tree.Named f) (tree.Name (codes "str"))
+      (tree.Assign (tree.only (tree.Named f)) (tree.Name (codes "str"))
       ∷ prints
       (tree.Binary tree.Add (called f (int 7 ∷ [])) (str (codes "a"))
       ∷ compared tree.Equal (tree.Name f) (tree.Name (codes "str"))

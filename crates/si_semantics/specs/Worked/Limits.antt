@@ -5,6 +5,7 @@ use Rattle.si_semantics.specs.Tree.{Stmt, Stmts}
 use Rattle.si_semantics.specs.Limits.{depth_of, longest_literal, greatest_in, most_parameters_in, nesting_in}
 use Rattle.si_semantics.specs.Worked.Straight.{int, str, minus, arguments, suite, compared, i_name, a_text}
 use Rattle.si_semantics.specs.Worked.Functions.{f, n, x, define, prints}
+use Rattle.si_semantics.specs.Worked.Scripts.{list_of, dict_of, unpacks}
 
 -- ---- statements
 
@@ -24,7 +25,7 @@ chained (suc k) = suite (tree.If i_name nothing (chained k) ∷ [])
 
 -- `x = 'abc'`
 abbrev pub set_text : Stmt
-set_text = tree.Assign (tree.Named x) (str (codes "abc"))
+set_text = tree.Assign (tree.only (tree.Named x)) (str (codes "abc"))
 
 -- `def f(n, x):` with these statements for its suite
 abbrev pub of_two : List Stmt → Stmt
@@ -60,3 +61,12 @@ pub record LimitCases : Type 0 where
   -- `if i:` in `if i:` in a clause; a finally suite with three
   pub ifs_in_a_clause : nesting_in (suite (tree.Try nothing (tree.MoreClauses None None (nested 2) tree.NoClauses) nothing ∷ [])) ≡ 3
   pub ifs_in_a_finally_suite : nesting_in (suite (tree.Finally (nested 2) tree.NoClauses tree.NoStmts (nested 3) ∷ [])) ≡ 4
+  -- `[]`, `{}`, `[[i]]`, `{i: [-i]}`: keys and values add nothing of their own
+  pub depth_of_an_empty_list : depth_of (list_of []) ≡ 1
+  pub depth_of_an_empty_dict : depth_of (dict_of []) ≡ 1
+  pub depth_of_a_list : depth_of (list_of (list_of (i_name ∷ []) ∷ [])) ≡ 3
+  pub depth_of_a_dict : depth_of (dict_of (i_name ∷ list_of (minus i_name ∷ []) ∷ [])) ≡ 4
+  -- the object and the index of a target count: `x, i[-i] = 1`, `i['abc'] += 1`, `del i['abc']`
+  pub depth_in_a_target : greatest_in depth_of (suite (unpacks (tree.Named x ∷ tree.Item i_name (minus i_name) ∷ []) (int 1) ∷ [])) ≡ 2
+  pub longest_in_an_augmented_target : greatest_in longest_literal (suite (tree.AugmentItem i_name (str (codes "abc")) tree.Add (int 1) ∷ [])) ≡ 3
+  pub longest_in_a_deletion : greatest_in longest_literal (suite (tree.Delete i_name (str (codes "abc")) ∷ [])) ≡ 3

@@ -13,9 +13,10 @@ use Rattle.si_semantics.specs.Parcels.{Leaf}
 use Rattle.si_semantics.specs.World as world
 use Rattle.si_semantics.specs.World.{Request, Answer, Returned, Raised}
 use Rattle.si_semantics.specs.Life.{Told, Action, Stops, IsGone, IsCut, Calls, End, life_of, texts_of}
-use Rattle.si_semantics.specs.Worked.Straight.{int, str, arguments, suite, print, compared, a_text}
+use Rattle.si_semantics.specs.Worked.Straight.{int, str, arguments, suite, compared, a_text}
 use Rattle.si_semantics.specs.Worked.Functions.{prints, called}
 use Rattle.si_semantics.specs.Worked.Attributes.{method, interpreters}
+use Rattle.si_semantics.specs.Worked.Scripts.{list_of, dict_of, set, item}
 
 -- ---- scripts
 
@@ -34,16 +35,16 @@ does a = tree.Evaluate a
 
 -- `q = interpreters.create_queue(2)`
 abbrev pub makes_queue : Stmt
-makes_queue = tree.Assign (tree.Named (codes "q")) (method interpreters (codes "create_queue") (int 2 ∷ []))
+makes_queue = tree.Assign (tree.only (tree.Named (codes "q"))) (method interpreters (codes "create_queue") (int 2 ∷ []))
 
 -- `i = interpreters.create()`
 abbrev pub makes_interpreter : Stmt
-makes_interpreter = tree.Assign (tree.Named (codes "i")) (method interpreters (codes "create") [])
+makes_interpreter = tree.Assign (tree.only (tree.Named (codes "i"))) (method interpreters (codes "create") [])
 
 -- `t = threading.Thread(target=i.exec, args=('x = 1',))`
 abbrev pub makes_thread : Stmt
 makes_thread =
-    tree.Assign (tree.Named (codes "t"))
+    tree.Assign (tree.only (tree.Named (codes "t")))
     (tree.Call (tree.Name (codes "threading")) (Some (codes "Thread"))
     (arguments (tree.Attribute i (codes "exec") ∷ tree.Tuple (arguments (str (codes "x = 1") ∷ [])) ∷ [])) (codes "target" ∷ codes "args" ∷ []))
 
@@ -73,6 +74,10 @@ shows body answers text = printed_by (under body answers) ≡ Some (text ∷ [])
 
 abbrev pub two_made : List Answer
 two_made = world.QueueMade 0 ∷ world.Created 1 ∷ []
+
+-- `i.prepare_main(arguments)`, the last of them by these names, after a queue and an interpreter were made
+abbrev pub prepares : List Expr → List Text → List Stmt
+prepares args names = makes_queue ∷ makes_interpreter ∷ does (tree.Call i (Some (codes "prepare_main")) (arguments args) names) ∷ []
 
 pub record ModuleCases : Type 0 where
   -- ---- queues
@@ -139,6 +144,38 @@ pub record ModuleCases : Type 0 where
   pub one_name_refused :
       fails (makes_queue ∷ makes_interpreter ∷ does (tree.Call i (Some (codes "prepare_main")) (arguments (int 1 ∷ i ∷ [])) (codes "x" ∷ codes "y" ∷ [])) ∷ []) two_made
       NotShareableError (codes "not shareable")
+  --     i.prepare_main({'x': 1, 'y': q}, z=2)
+  pub names_of_a_dict :
+      asks (prepares (dict_of (str (codes "x") ∷ int 1 ∷ str (codes "y") ∷ q ∷ []) ∷ int 2 ∷ []) (codes "z" ∷ [])) two_made
+      (world.Prepare 1 ((codes "x", Leaf (parcel.Int (pos 1))) ∷ (codes "y", Leaf (parcel.Queue 0 2)) ∷ (codes "z", Leaf (parcel.Int (pos 2))) ∷ []))
+  --     i.prepare_main({'x': 1}, x=2): both stay, and the later is bound last
+  pub one_name_twice :
+      asks (prepares (dict_of (str (codes "x") ∷ int 1 ∷ []) ∷ int 2 ∷ []) (codes "x" ∷ [])) two_made
+      (world.Prepare 1 ((codes "x", Leaf (parcel.Int (pos 1))) ∷ (codes "x", Leaf (parcel.Int (pos 2))) ∷ []))
+  --     i.prepare_main({}), i.prepare_main(None, x=1)
+  pub no_names : asks (prepares (dict_of [] ∷ []) []) two_made (world.Prepare 1 [])
+  pub none_for_a_dict : asks (prepares (tree.Constant value.Nothing ∷ int 1 ∷ []) (codes "x" ∷ [])) two_made (world.Prepare 1 ((codes "x", Leaf (parcel.Int (pos 1))) ∷ []))
+  --     i.prepare_main({1: i}), i.prepare_main({'x': i, 1: 2}), i.prepare_main({'x': [1]}): pair by pair, the key first
+  pub key_that_is_no_name : fails (prepares (dict_of (int 1 ∷ i ∷ []) ∷ []) []) two_made TypeError (codes "wrong type")
+  pub value_before_the_next_key :
+      fails (prepares (dict_of (str (codes "x") ∷ i ∷ int 1 ∷ int 2 ∷ []) ∷ []) []) two_made NotShareableError (codes "not shareable")
+  pub list_in_a_dict : fails (prepares (dict_of (str (codes "x") ∷ list_of (int 1 ∷ []) ∷ []) ∷ []) []) two_made NotShareableError (codes "not shareable")
+  --     i.prepare_main([]), i.prepare_main({}, {})
+  pub list_for_a_dict : fails (prepares (list_of [] ∷ []) []) two_made TypeError (codes "wrong type")
+  pub two_dicts : fails (prepares (dict_of [] ∷ dict_of [] ∷ []) []) two_made TypeError (codes "wrong arguments")
+  --     q.put([1]), interpreters.is_shareable([]), interpreters.is_shareable({}): no parcel yet
+  pub list_put : fails (makes_queue ∷ does (method q (codes "put") (list_of (int 1 ∷ []) ∷ [])) ∷ []) (world.QueueMade 0 ∷ []) NotShareableError (codes "not shareable")
+  pub not_shareable :
+      shows (prints (method interpreters (codes "is_shareable") (list_of [] ∷ []) ∷ method interpreters (codes "is_shareable") (dict_of [] ∷ []) ∷ []) ∷ []) [] (codes "False False\n")
+  --     a = interpreters.list_all(); print(a, a[1] == interpreters.get_current())
+  pub all_listed :
+      shows
+      (set (codes "a") (method interpreters (codes "list_all") [])
+      ∷ prints (tree.Name (codes "a") ∷ compared tree.Equal (item (tree.Name (codes "a")) (int 1)) (method interpreters (codes "get_current") []) ∷ [])
+      ∷ [])
+      (world.Ids (0 ∷ 3 ∷ []) ∷ []) (codes "[Interpreter(0), Interpreter(3)] True\n")
+  pub list_is_asked_for : asks (does (method interpreters (codes "list_all") []) ∷ []) [] world.ListAll
+  pub list_of_some : fails (does (method interpreters (codes "list_all") (int 1 ∷ [])) ∷ []) [] TypeError (codes "wrong arguments")
   -- ---- threads
   --     t.start(); t.start()
   pub thread_is_started : asks (makes_interpreter ∷ makes_thread ∷ does (method t (codes "start") []) ∷ []) (world.Created 1 ∷ []) (world.StartThread 0 1 (codes "x = 1"))
@@ -161,5 +198,5 @@ pub record ModuleCases : Type 0 where
       (world.Created 1 ∷ world.Running ∷ []) (world.StartThread 0 1 (codes "x = 1"))
   --     f = i.exec; f('x = 1')
   pub target_called :
-      fails (makes_interpreter ∷ tree.Assign (tree.Named (codes "f")) (tree.Attribute i (codes "exec")) ∷ does (called (codes "f") (str (codes "x = 1") ∷ [])) ∷ []) (world.Created 1 ∷ [])
+      fails (makes_interpreter ∷ tree.Assign (tree.only (tree.Named (codes "f"))) (tree.Attribute i (codes "exec")) ∷ does (called (codes "f") (str (codes "x = 1") ∷ [])) ∷ []) (world.Created 1 ∷ [])
       TypeError (codes "not callable")

@@ -6,6 +6,7 @@ use Rattle.si_semantics.specs.Tree.{Stmt, Stmts, Clauses}
 use Rattle.si_semantics.specs.Scope.{is_scoped, locals_of}
 use Rattle.si_semantics.specs.Worked.Straight.{int, i_name, suite, left_by_break}
 use Rattle.si_semantics.specs.Worked.Functions.{f, g, n, x, define, prints}
+use Rattle.si_semantics.specs.Worked.Scripts.{i, unpack, unpacks, set_all, set_item}
 
 -- ---- scripts
 
@@ -23,7 +24,7 @@ global_x = tree.Global (x ∷ [])
 
 -- `x = 1`
 abbrev pub set_x : Stmt
-set_x = tree.Assign (tree.Named x) (int 1)
+set_x = tree.Assign (tree.only (tree.Named x)) (int 1)
 
 -- `pass` for a suite
 abbrev pub nothing : Stmts
@@ -57,6 +58,23 @@ tries body = tree.Try (suite body) (except None (tree.Pass ∷ []) tree.NoClause
 -- the names that are local to `f(n)` with these statements for its suite
 abbrev pub locals_in_f : List Stmt → List Text
 locals_in_f body = locals_of (record { name = f; parameters = n ∷ []; body = suite body })
+
+-- `x[0] = n`, `x[0] += n` and `del x[0]`
+abbrev pub set_x_item : Stmt
+set_x_item = set_item (tree.Name x) (int 0) (tree.Name n)
+
+abbrev pub augment_x_item : Stmt
+augment_x_item = tree.AugmentItem (tree.Name x) (int 0) tree.Add (tree.Name n)
+
+abbrev pub delete_x_item : Stmt
+delete_x_item = tree.Delete (tree.Name x) (int 0)
+
+-- `x, i = n`, and `for x, i in n:` with these statements for its body
+abbrev pub unpack_x_i : Stmt
+unpack_x_i = unpacks (tree.Named x ∷ tree.Named i ∷ []) (tree.Name n)
+
+abbrev pub each_x_i : List Stmt → Stmt
+each_x_i body = tree.For (unpack (tree.Named x ∷ tree.Named i ∷ [])) (tree.Name n) (suite body) tree.NoStmts
 
 -- ---- the cases
 
@@ -97,7 +115,7 @@ pub record ScopeCases : Type 0 where
   -- `def f(n):` `global x`, `x = 1`, `i = x`, `if i:` `n = 1`, `i += 1`: the parameter first, then what is bound and
   -- not global, once
   pub locals :
-      locals_in_f (global_x ∷ set_x ∷ tree.Assign (tree.Named (codes "i")) (tree.Name x) ∷ tree.If i_name (suite (tree.Assign (tree.Named n) (int 1) ∷ tree.Augment (tree.Named (codes "i")) tree.Add (int 1) ∷ [])) tree.NoStmts ∷ [])
+      locals_in_f (global_x ∷ set_x ∷ tree.Assign (tree.only (tree.Named (codes "i"))) (tree.Name x) ∷ tree.If i_name (suite (tree.Assign (tree.only (tree.Named n)) (int 1) ∷ tree.Augment (codes "i") tree.Add (int 1) ∷ [])) tree.NoStmts ∷ [])
       ≡ n ∷ codes "i" ∷ []
   -- `while n: pass`, `else: x = 1`; `while n: global x`, `else: x = 1`; `while n: x = 1`, `else: global x`
   pub binding_in_an_else_suite : locals_in_f (tree.While (tree.Name n) nothing (suite (set_x ∷ [])) ∷ []) ≡ n ∷ x ∷ []
@@ -110,7 +128,7 @@ pub record ScopeCases : Type 0 where
   pub continue_in_a_for_of_a_text : scoped (each_x (tree.Continue ∷ []) [] ∷ []) ≡ true
   pub break_in_the_else_suite_of_a_for : scoped_in_f (each_x (tree.Pass ∷ []) (tree.Break ∷ []) ∷ []) ≡ false
   -- `for x in n: i = 1`, `else: x += 1`: the target is local, and what the suites bind
-  pub target_is_local : locals_in_f (each_x (tree.Assign (tree.Named (codes "i")) (int 1) ∷ []) (tree.Augment (tree.Named x) tree.Add (int 1) ∷ []) ∷ []) ≡ n ∷ x ∷ codes "i" ∷ []
+  pub target_is_local : locals_in_f (each_x (tree.Assign (tree.only (tree.Named (codes "i"))) (int 1) ∷ []) (tree.Augment x tree.Add (int 1) ∷ []) ∷ []) ≡ n ∷ x ∷ codes "i" ∷ []
   -- `global x`, then `for x in n: pass`; `for x in n: global x`
   pub global_target : locals_in_f (global_x ∷ each_x (tree.Pass ∷ []) [] ∷ []) ≡ n ∷ []
   pub global_of_a_target : scoped_in_f (each_x (global_x ∷ []) [] ∷ []) ≡ false
@@ -119,9 +137,9 @@ pub record ScopeCases : Type 0 where
   -- `try: pass`, `except n as x: i = 1`, `else: g = 1`; the same with `finally: g = 1` after an empty else suite: `as`
   -- binds, and so do the suites
   pub name_behind_as_is_local :
-      locals_in_f (tree.Try nothing (as_x (tree.Assign (tree.Named (codes "i")) (int 1) ∷ [])) (suite (tree.Assign (tree.Named g) (int 1) ∷ [])) ∷ []) ≡ n ∷ x ∷ codes "i" ∷ g ∷ []
+      locals_in_f (tree.Try nothing (as_x (tree.Assign (tree.only (tree.Named (codes "i"))) (int 1) ∷ [])) (suite (tree.Assign (tree.only (tree.Named g)) (int 1) ∷ [])) ∷ []) ≡ n ∷ x ∷ codes "i" ∷ g ∷ []
   pub name_bound_in_a_finally_suite :
-      locals_in_f (tree.Finally nothing (as_x (tree.Assign (tree.Named (codes "i")) (int 1) ∷ [])) tree.NoStmts (suite (tree.Assign (tree.Named g) (int 1) ∷ [])) ∷ []) ≡ n ∷ x ∷ codes "i" ∷ g ∷ []
+      locals_in_f (tree.Finally nothing (as_x (tree.Assign (tree.only (tree.Named (codes "i"))) (int 1) ∷ [])) tree.NoStmts (suite (tree.Assign (tree.only (tree.Named g)) (int 1) ∷ [])) ∷ []) ≡ n ∷ x ∷ codes "i" ∷ g ∷ []
   -- `global x`, then `try: pass`, `except n as x: pass`; `try: pass`, `except n as x: global x`
   pub global_name_behind_as : locals_in_f (global_x ∷ tree.Try nothing (as_x (tree.Pass ∷ [])) tree.NoStmts ∷ []) ≡ n ∷ []
   pub global_of_a_name_behind_as : scoped_in_f (tree.Try nothing (as_x (global_x ∷ [])) tree.NoStmts ∷ []) ≡ false
@@ -158,3 +176,26 @@ pub record ScopeCases : Type 0 where
   pub return_in_a_loop_in_a_finally_suite : scoped_in_f (finishes (looped (tree.Return None ∷ []) ∷ []) ∷ []) ≡ false
   -- `def f(n): return` in the finally suite of a text
   pub function_in_a_finally_suite : scoped (finishes (define f (n ∷ []) (tree.Return None ∷ []) ∷ []) ∷ []) ≡ true
+  -- `x, i = n`; `x = [g, (i,)] = n`; `for x, i in n: pass`: each name among the targets is local
+  pub unpacked_names_are_local : locals_in_f (unpack_x_i ∷ []) ≡ n ∷ x ∷ i ∷ []
+  pub names_of_all_targets_are_local :
+      locals_in_f (set_all (tree.Named x ∷ unpack (tree.Named g ∷ unpack (tree.Named i ∷ []) ∷ []) ∷ []) (tree.Name n) ∷ []) ≡ n ∷ x ∷ g ∷ i ∷ []
+  pub unpacked_targets_of_a_for_are_local : locals_in_f (each_x_i (tree.Pass ∷ []) ∷ []) ≡ n ∷ x ∷ i ∷ []
+  -- `x[0] = n`, `x[0] += n`, `del x[0]`, `for x[0] in n: pass`: no name is bound
+  pub items_bind_no_name : locals_in_f (set_x_item ∷ augment_x_item ∷ delete_x_item ∷ []) ≡ n ∷ []
+  pub item_as_the_target_of_a_for : locals_in_f (tree.For (tree.Item (tree.Name x) (int 0)) (tree.Name n) nothing tree.NoStmts ∷ []) ≡ n ∷ []
+  -- `x, i[0] = n`
+  pub item_beside_a_name : locals_in_f (unpacks (tree.Named x ∷ tree.Item (tree.Name i) (int 0) ∷ []) (tree.Name n) ∷ []) ≡ n ∷ x ∷ []
+  -- `global x`, then `x, i = n`; `x, i = n`, then `global i`; `for x, i in n: global x`
+  pub global_among_targets : locals_in_f (global_x ∷ unpack_x_i ∷ []) ≡ n ∷ i ∷ []
+  pub global_behind_an_unpacking : scoped_in_f (unpack_x_i ∷ tree.Global (i ∷ []) ∷ []) ≡ false
+  pub global_of_an_unpacked_target : scoped_in_f (each_x_i (global_x ∷ []) ∷ []) ≡ false
+  -- `x[0] = n`, `x[0] += n` or `del x[0]`, then `global x`: each uses the name
+  pub global_behind_an_item : scoped_in_f (set_x_item ∷ global_x ∷ []) ≡ false
+  pub global_behind_an_augmented_item : scoped_in_f (augment_x_item ∷ global_x ∷ []) ≡ false
+  pub global_behind_a_deletion : scoped_in_f (delete_x_item ∷ global_x ∷ []) ≡ false
+  -- `[x]` or `{n: x}`, then `global x`
+  pub global_behind_a_list :
+      scoped_in_f (tree.Evaluate (tree.ListDisplay (tree.MoreExprs (tree.Name x) tree.NoExprs)) ∷ global_x ∷ []) ≡ false
+  pub global_behind_a_dict :
+      scoped_in_f (tree.Evaluate (tree.DictDisplay (tree.MoreExprs (tree.Name n) (tree.MoreExprs (tree.Name x) tree.NoExprs))) ∷ global_x ∷ []) ≡ false

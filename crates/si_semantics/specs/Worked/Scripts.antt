@@ -2,7 +2,7 @@
 use Rattle.std.specs.Prelude.{codes, ℕ, List, [], ◌∷◌, ◌++◌, Some, None}
 use Rattle.si_semantics.specs.Value.{Text}
 use Rattle.si_semantics.specs.Tree as tree
-use Rattle.si_semantics.specs.Tree.{Expr, Stmt, Clauses}
+use Rattle.si_semantics.specs.Tree.{Expr, Stmt, Target, Targets, Clauses}
 use Rattle.si_semantics.specs.Life.{Told, joined, texts_of}
 use Rattle.si_semantics.specs.Report.{outcome_line}
 use Rattle.si_semantics.specs.Worked.Straight.{int, str, arguments, suite, run_within, outcome}
@@ -133,6 +133,39 @@ each y over body = tree.For (tree.Named y) over (suite body) tree.NoStmts
 
 abbrev pub each_else : Text → Expr → (body other : List Stmt) → Stmt
 each_else y over body other = tree.For (tree.Named y) over (suite body) (suite other)
+
+-- `[..]`, and `{KEY: VALUE, ..}` by its keys and values by turns
+abbrev pub list_of : List Expr → Expr
+list_of es = tree.ListDisplay (arguments es)
+
+abbrev pub dict_of : List Expr → Expr
+dict_of es = tree.DictDisplay (arguments es)
+
+-- `OBJECT[INDEX]`
+abbrev pub item : (object index : Expr) → Expr
+item u v = tree.Subscript u v
+
+-- targets in a row
+abbrev pub in_a_row : List Target → Targets
+in_a_row [] = tree.NoTargets
+in_a_row (t ∷ ts) = tree.MoreTargets t (in_a_row ts)
+
+-- `TARGET, ..` as a target
+abbrev pub unpack : List Target → Target
+unpack ts = tree.Unpack (in_a_row ts)
+
+-- `NAME = EXPRESSION`, `OBJECT[INDEX] = EXPRESSION`, `TARGET, .. = EXPRESSION` and `TARGET = .. = EXPRESSION`
+abbrev pub set : Text → Expr → Stmt
+set y e = tree.Assign (tree.only (tree.Named y)) e
+
+abbrev pub set_item : (object index : Expr) → Expr → Stmt
+set_item u v e = tree.Assign (tree.only (tree.Item u v)) e
+
+abbrev pub unpacks : List Target → Expr → Stmt
+unpacks ts e = tree.Assign (tree.only (unpack ts)) e
+
+abbrev pub set_all : List Target → Expr → Stmt
+set_all ts e = tree.Assign (in_a_row ts) e
 
 -- ---- what becomes of them
 

@@ -52,27 +52,27 @@ three_values =
 
 -- `a = 7; b = 'x'`, then `print(a * 3 - 1, b + 'y', b * 3)`
 abbrev pub three_lines : List Stmt
-three_lines = tree.Assign (tree.Named (codes "a")) (int 7) ∷ tree.Assign (tree.Named (codes "b")) (str (codes "x")) ∷ tree.Evaluate (print three_values) ∷ []
+three_lines = tree.Assign (tree.only (tree.Named (codes "a"))) (int 7) ∷ tree.Assign (tree.only (tree.Named (codes "b"))) (str (codes "x")) ∷ tree.Evaluate (print three_values) ∷ []
 
 -- `i = 0`, `while i < 2: i += 1`, then `print(i)`
 abbrev pub counting : List Stmt
 counting =
-    tree.Assign (tree.Named (codes "i")) (int 0)
-    ∷ tree.While (compared tree.Less i_name (int 2)) (suite (tree.Augment (tree.Named (codes "i")) tree.Add (int 1) ∷ [])) tree.NoStmts
+    tree.Assign (tree.only (tree.Named (codes "i"))) (int 0)
+    ∷ tree.While (compared tree.Less i_name (int 2)) (suite (tree.Augment (codes "i") tree.Add (int 1) ∷ [])) tree.NoStmts
     ∷ tree.Evaluate (print (i_name ∷ []))
     ∷ []
 
 -- `i += 1`, `if i == 2: continue`, `elif i == 4: break`, `else: pass`, then `print(i)`
 abbrev pub turn : List Stmt
 turn =
-    tree.Augment (tree.Named (codes "i")) tree.Add (int 1)
+    tree.Augment (codes "i") tree.Add (int 1)
     ∷ tree.If (compared tree.Equal i_name (int 2)) (suite (tree.Continue ∷ [])) (suite (tree.If (compared tree.Equal i_name (int 4)) (suite (tree.Break ∷ [])) (suite (tree.Pass ∷ [])) ∷ []))
     ∷ tree.Evaluate (print (i_name ∷ []))
     ∷ []
 
 -- `i = 0`, then `while True:` with that for its suite, then `print('a')`
 abbrev pub left_by_break : List Stmt
-left_by_break = tree.Assign (tree.Named (codes "i")) (int 0) ∷ tree.While (tree.Constant (Truth true)) (suite turn) tree.NoStmts ∷ tree.Evaluate (print (a_text ∷ [])) ∷ []
+left_by_break = tree.Assign (tree.only (tree.Named (codes "i"))) (int 0) ∷ tree.While (tree.Constant (Truth true)) (suite turn) tree.NoStmts ∷ tree.Evaluate (print (a_text ∷ [])) ∷ []
 
 -- `while True: print('a')`
 abbrev pub endless : List Stmt
@@ -130,7 +130,7 @@ pub record Cases : Type 0 where
   -- `a = 7; b = 'x'`, then `print(a * 3 - 1, b + 'y', b * 3)`
   pub names_and_texts : report_of three_lines ≡ codes "== interpreter 0 ==\n20 xy xxx\nend: finished\n"
   -- `x = print('a')`, then `print(x, print)`
-  pub print_gives_none : report_of (tree.Assign (tree.Named (codes "x")) (print (a_text ∷ [])) ∷ tree.Evaluate (print (tree.Name (codes "x") ∷ tree.Name (codes "print") ∷ [])) ∷ []) ≡ codes "== interpreter 0 ==\na\nNone <built-in print>\nend: finished\n"
+  pub print_gives_none : report_of (tree.Assign (tree.only (tree.Named (codes "x"))) (print (a_text ∷ [])) ∷ tree.Evaluate (print (tree.Name (codes "x") ∷ tree.Name (codes "print") ∷ [])) ∷ []) ≡ codes "== interpreter 0 ==\na\nNone <built-in print>\nend: finished\n"
   -- `print('ok'); print(1 // 0)`
   pub printed_before_an_exception : report_of (tree.Evaluate (print (str (codes "ok") ∷ [])) ∷ tree.Evaluate (print (tree.Binary tree.FloorDivide (int 1) (int 0) ∷ [])) ∷ []) ≡ codes "== interpreter 0 ==\nok\nraised ZeroDivisionError: division by zero\nend: finished\n"
   -- the empty text
@@ -144,11 +144,11 @@ pub record Cases : Type 0 where
   -- `print('a') + print(2)`: the left operand comes first
   pub left_operand_first : report_of (tree.Evaluate (tree.Binary tree.Add (print (a_text ∷ [])) (print (int 2 ∷ []))) ∷ []) ≡ codes "== interpreter 0 ==\na\n2\nraised TypeError: wrong type\nend: finished\n"
   -- `x = x`: the name is looked up before it is bound
-  pub right_side_first : report_of (tree.Assign (tree.Named (codes "x")) (tree.Name (codes "x")) ∷ []) ≡ codes "== interpreter 0 ==\nraised NameError: name x is not defined\nend: finished\n"
+  pub right_side_first : report_of (tree.Assign (tree.only (tree.Named (codes "x"))) (tree.Name (codes "x")) ∷ []) ≡ codes "== interpreter 0 ==\nraised NameError: name x is not defined\nend: finished\n"
   -- `print(__name__)`
   pub name_of_the_module : report_of (tree.Evaluate (print (tree.Name (codes "__name__") ∷ [])) ∷ []) ≡ codes "== interpreter 0 ==\n__main__\nend: finished\n"
   -- `print = 1`, then `print('a')`
-  pub global_before_built_in : report_of (tree.Assign (tree.Named (codes "print")) (int 1) ∷ tree.Evaluate (print (a_text ∷ [])) ∷ []) ≡ codes "== interpreter 0 ==\nraised TypeError: not callable\nend: finished\n"
+  pub global_before_built_in : report_of (tree.Assign (tree.only (tree.Named (codes "print"))) (int 1) ∷ tree.Evaluate (print (a_text ∷ [])) ∷ []) ≡ codes "== interpreter 0 ==\nraised TypeError: not callable\nend: finished\n"
   -- `'a' - 1`
   pub wrong_operands : report_of (tree.Evaluate (tree.Binary tree.Subtract a_text (int 1)) ∷ []) ≡ codes "== interpreter 0 ==\nraised TypeError: wrong type\nend: finished\n"
   -- `print('a' * -1)`
@@ -188,7 +188,7 @@ pub record Cases : Type 0 where
   -- `print('a' if 1 else f, f if None else 2)` where f is not bound
   pub one_of_two : shown (tree.Conditional (int 1) a_text (tree.Name (codes "f")) ∷ tree.Conditional (tree.Constant Nothing) (tree.Name (codes "f")) (int 2) ∷ []) ≡ codes "== interpreter 0 ==\na 2\nend: finished\n"
   -- `a += print('a')` where a is not bound: it is read before the right side is evaluated
-  pub read_before_the_right_side : report_of (tree.Augment (tree.Named (codes "a")) tree.Add (print (a_text ∷ [])) ∷ []) ≡ codes "== interpreter 0 ==\nraised NameError: name a is not defined\nend: finished\n"
+  pub read_before_the_right_side : report_of (tree.Augment (codes "a") tree.Add (print (a_text ∷ [])) ∷ []) ≡ codes "== interpreter 0 ==\nraised NameError: name a is not defined\nend: finished\n"
   -- 2 ends its turn, 4 the loop
   pub broken_and_continued : report_within 4 left_by_break ≡ codes "== interpreter 0 ==\n1\n3\na\nend: finished\n"
   -- with three turns it is cut after the third

@@ -90,9 +90,9 @@ pub record TupleCases : Type 0 where
   --     str(ValueError((1, 2)))
   pub in_an_exception : str_in (Exception ValueError (Some pair) ∷ []) (Address 0) ≡ Ok (codes "(1, 2)")
   -- two levels are enough for a tuple in a tuple, and one is not; what stands before it is known
-  pub deep_enough : repr_of 2 [] nested ≡ Whole (codes "((), 'a')")
-  pub too_deep : repr_of 1 [] (tuple_of (one ∷ none ∷ two ∷ [])) ≡ Broken (codes "(1, ")
-  pub written_200_deep : is_broken (repr_of 200 [] (within 200 one)) ≡ false
+  pub deep_enough : repr_of 2 [] [] nested ≡ Whole (codes "((), 'a')")
+  pub too_deep : repr_of 1 [] [] (tuple_of (one ∷ none ∷ two ∷ [])) ≡ Broken (codes "(1, ")
+  pub written_200_deep : is_broken (repr_of 200 [] [] (within 200 one)) ≡ false
   pub not_201_deep : repr_in [] (within 201 one) ≡ Err RecursionError
   pub an_exception_201_deep : repr_in (Exception ValueError (Some (within 200 one)) ∷ []) (Address 0) ≡ Err RecursionError
   -- ---- `==`

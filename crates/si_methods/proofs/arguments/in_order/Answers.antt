@@ -1,4 +1,4 @@
-use Rattle.std.proofs.Common.{◌≡◌, false, refl, ◌∙◌}
+use Rattle.std.proofs.Common.{◌≡◌, false}
 use Rattle.std.specs.Prelude.{codes, ◌&&◌}
 use Rattle.si_semantics.specs.Text.{same_text}
 use Rattle.si_arena.specs.Memory.{value_of}

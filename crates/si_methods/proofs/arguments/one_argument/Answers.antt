@@ -14,6 +14,7 @@ returns-then-is_spelled c = λ m h.
       λ does w.
           ap₂ (λ xs ys. one_argument x (all_of m xs) ys does w) vs ns
           ∙ named_one x c.name-item.result (value_of m c.argument-item.result) does w (swapped c.name-item.result x _ (sym c.is_spelled.ensures ∙ c.if-is_spelled.true)),
+      vs,
     )
 
 pub returns-else-is_spelled : goal.returns-else-is_spelled

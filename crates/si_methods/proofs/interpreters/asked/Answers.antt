@@ -1,4 +1,4 @@
-use Rattle.std.proofs.Common.{sym, ap, ◌∙◌}
+use Rattle.std.proofs.Common.{ap, ◌∙◌}
 use Rattle.si_semantics.specs.Attributes.{alone, asks_interpreter}
 use Rattle.si_arena.specs.Memory.{value_of, all_of}
 use Rattle.si_methods.proofs.Passed.{alone_refuses, no_values}

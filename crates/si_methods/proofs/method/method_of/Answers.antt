@@ -1,23 +1,14 @@
-use Rattle.std.proofs.Common.{[], sym, ap, ◌∙◌}
-use Rattle.si_semantics.specs.Attributes.{method_of, method_named, methods_of_object}
-use Rattle.std.specs.Prelude.{slice_get}
+use Rattle.std.proofs.Common.{sym, ap, ◌∙◌}
+use Rattle.si_semantics.specs.Attributes.{method_of, methods_of}
+use Rattle.si_arena.specs.Memory.{value_of}
 use Rattle.si_methods.proofs.method.method_of.Goals as goal
 
-pub returns-in-Str : goal.returns-in-Str
-returns-in-Str c = λ w e. c.method_of_text.ensures [] w ∙ ap (λ v. method_of v c.args.name.now w) c.in-Str.ensures.value
+pub returns-in-Some : goal.returns-in-Some
+returns-in-Some c = λ w e.
+    c.method_named.ensures w e
+    ∙ ap (λ x. method_of (value_of c.args.arena.now c.args.value) x w) (sym c.in-Some.ensures ∙ c.as_str.ensures.characters)
 
-pub returns-in-Module : goal.returns-in-Module
-returns-in-Module c = λ w e. c.function_of.ensures w ∙ ap (λ v. method_of v c.args.name.now w) c.in-Module.ensures.value
-
-pub returns-in-Queue : goal.returns-in-Queue
-returns-in-Queue c = λ w e. c.method_of_queue.ensures 0 0 w ∙ ap (λ v. method_of v c.args.name.now w) c.in-Queue.ensures.value
-
-pub returns-in-Interpreter : goal.returns-in-Interpreter
-returns-in-Interpreter c = λ w e. c.method_of_interpreter.ensures 0 w ∙ ap (λ v. method_of v c.args.name.now w) c.in-Interpreter.ensures.value
-
-pub returns-in-Object : goal.returns-in-Object
-returns-in-Object c = λ w e.
-    c.method_of_object.ensures c.args.arena.now
-    ∙ ap (λ o. method_named c.args.name.now (methods_of_object o)) (sym c.object.ensures.object)
-    ∙ ap (λ s. method_named c.args.name.now (methods_of_object (slice_get s c.in-Object.address))) (sym e)
-    ∙ ap (λ v. method_of v c.args.name.now w) c.in-Object.ensures.value
+pub returns-in-None : goal.returns-in-None
+returns-in-None c = λ w e.
+    sym (ap (λ x. method_of (value_of c.args.arena.now c.args.value) x w) (sym c.as_str.ensures.characters)
+    ∙ c.in-None.ensures (methods_of (value_of c.args.arena.now c.args.value) w))

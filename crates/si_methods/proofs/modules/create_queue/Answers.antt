@@ -1,13 +1,12 @@
-use Rattle.std.proofs.Common.{ℤ, pos, List, Ok, Some, sym, subst, ap, ◌∙◌, refl}
+use Rattle.std.proofs.Common.{pos, Ok, Some, sym, ap, ◌∙◌}
 use Rattle.std.specs.Prelude.{codes}
-use Rattle.si_plain.specs.Characters.{characters_of}
 use Rattle.si_semantics.specs.Value as pure
-use Rattle.si_semantics.specs.Operations.{integer_in, wrong_arguments}
+use Rattle.si_semantics.specs.Operations.{integer_in}
 use Rattle.si_semantics.specs.Attributes as attributes
-use Rattle.si_semantics.specs.Attributes.{call_method, queue_of, one_argument, optional_argument}
+use Rattle.si_semantics.specs.Attributes.{call_method, queue_of, one_argument}
 use Rattle.si_arena.specs.Memory.{value_of, all_of}
 use Rattle.si_arena.specs.declared.cause.Cause.TheVariants.{WrongArguments}
-use Rattle.si_methods.specs.Answering.{Answers}
+use Rattle.si_methods.specs.Answering.{told_of}
 use Rattle.si_methods.proofs.Words.{maxsize_word}
 use Rattle.si_methods.proofs.Passed.{no_values, optional_is}
 use Rattle.si_methods.proofs.Calling.{answers_as, throws}
@@ -28,7 +27,7 @@ pub returns-in-Some : goal.returns-in-Some
 returns-in-Some c = λ own v.
     let m = c.args.arena.now in
     let p = c.in-Some.ensures m c.requires in
-    answers_as (λ w. call_method attributes.CreateQueue v (all_of m c.args.arguments.now) c.args.names.now w) (λ w. queue_of (integer_in (value_of m c.in-Some.maxsize)) w) own m m c.queue_within.result
+    answers_as (λ w. call_method attributes.CreateQueue v (all_of m c.args.arguments.now) c.args.names.now w) (λ w. queue_of (integer_in (value_of m c.in-Some.maxsize)) w) own m m (told_of c.queue_within.result)
     (λ w e.
     optional_is m (codes "maxsize") (pure.Int (pos 0)) c.args.arguments.now c.args.names.now (λ u. queue_of (integer_in u) w) w c.is_empty.result c.is_empty.ensures c.if-is_empty.false
     ∙ ap (λ x. one_argument x (all_of m c.args.arguments.now) c.args.names.now (λ u. queue_of (integer_in u) w) w) (sym maxsize_word)

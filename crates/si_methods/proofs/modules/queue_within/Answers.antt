@@ -1,4 +1,4 @@
-use Rattle.std.proofs.Common.{rules, Option, Some, None, ℤ, Ok, Err, sym, subst, ap, ◌∙◌, refl}
+use Rattle.std.proofs.Common.{rules, Option, Some, None, ℤ, Ok, Err, sym, subst, refl}
 use Rattle.std.specs.Prelude.{FitsSigned}
 use Rattle.std.specs.Int.{w64}
 use Rattle.std.proofs.Math.Facts.{to_z-of_z}
@@ -6,7 +6,6 @@ use Rattle.si_semantics.specs.Attributes.{queue_of}
 use Rattle.si_arena.specs.declared.cause.Cause.{Cause}
 use Rattle.si_arena.specs.declared.cause.Fault.TheVariants.{Raises}
 use Rattle.si_methods.specs.Answering.{Answers}
-use Rattle.si_methods.proofs.Calling.{answers_as, throws}
 use Rattle.si_methods.proofs.modules.queue_within.Goals as goal
 
 pub returns-in-Ok : goal.returns-in-Ok

@@ -1,4 +1,6 @@
-use Rattle.std.proofs.Common.{ap, sym, ◌∙◌}
+use Rattle.std.proofs.Common.{List, subst, ap, sym, ◌∙◌}
+use Rattle.si_arena.specs.declared.value.Ref.{Ref}
+use Rattle.si_methods.specs.Needing.{AreBare}
 use Rattle.std.specs.Prelude.{codes}
 use Rattle.si_semantics.specs.Attributes.{one_argument, puts}
 use Rattle.si_arena.specs.Memory.{value_of, all_of}
@@ -9,18 +11,18 @@ use Rattle.si_methods.proofs.queues.item_put.Goals as goal
 pub put_into-requires-clause-item : goal.put_into-requires-clause-item
 put_into-requires-clause-item c = (c.in-Some.ensures c.args.arena.now c.requires.arguments).0
 
-pub returns-in-Some : goal.returns-in-Some
-returns-in-Some c =
+pub returns-in-Some-clause-puts : goal.returns-in-Some-clause-puts
+returns-in-Some-clause-puts c =
     let m = c.args.arena.now in
     let vs = all_of m c.args.arguments.now in
     let names = c.args.names.now in
     let p = c.in-Some.ensures m c.requires.arguments in
     puts_through (λ does w. one_argument (codes "obj") vs names does w) (λ does w. does (value_of m c.in-Some.item)) (value_of m c.args.object) m c.put_into.result
     (λ does w. ap (λ x. one_argument x vs names does w) (sym obj_word) ∙ p.1 does w)
-    c.put_into.ensures
+    c.put_into.ensures.puts
 
-pub returns-in-None : goal.returns-in-None
-returns-in-None c = λ request.
+pub returns-in-None-clause-puts : goal.returns-in-None-clause-puts
+returns-in-None-clause-puts c = λ request.
     let m = c.args.arena.now in
     let vs = all_of m c.args.arguments.now in
     let names = c.args.names.now in
@@ -30,3 +32,9 @@ returns-in-None c = λ request.
           ∙ c.in-None.ensures m (λ u. puts request v u w) w),
       tt,
     )
+
+pub returns-in-Some-clause-memory : goal.returns-in-Some-clause-memory
+returns-in-Some-clause-memory c = λ h.
+    let m = c.args.arena.now in
+    let P : List Ref → Type 0 = λ xs. AreBare (all_of m xs) in
+    c.put_into.ensures.memory (subst P (c.in-Some.ensures m c.requires.arguments).2 h).0

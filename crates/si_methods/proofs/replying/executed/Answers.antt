@@ -1,27 +1,18 @@
-use Rattle.std.proofs.Common.{◌≡◌, ℕ, pos, Bool, Ok, Err, Result, refl, sym, ap, subst, ◌∙◌}
-use Rattle.std.specs.Prelude.{codes, slice_set, ◌++◌}
+use Rattle.std.proofs.Common.{Ok, Result, refl, sym, subst}
 use Rattle.std.specs.declared.alloc.AllocError.{AllocError}
 use Rattle.si_plain.specs.declared.kind.Kind.TheVariants as kind
 use Rattle.si_semantics.specs.Value as pure
-use Rattle.si_semantics.specs.World as world
-use Rattle.si_semantics.specs.World.{World}
-use Rattle.si_semantics.specs.Text.{decimal}
 use Rattle.si_semantics.specs.Actions as shared
 use Rattle.si_arena.specs.declared.value.Ref.TheVariants as value
-use Rattle.si_arena.specs.declared.cause.Cause.TheVariants.{Refused, Arithmetic}
-use Rattle.si_arena.specs.declared.refusal.Refusal.TheVariants as refusal
-use Rattle.si_parcel.specs.declared.answer.Answer.{Answer}
-use Rattle.si_parcel.specs.declared.answer.Answer.TheVariants as answer
-use Rattle.si_parcel.specs.Shared.{answer_of, outcome_of}
+use Rattle.si_parcel.specs.Shared.{outcome_of}
 use Rattle.si_methods.specs.declared.request.Awaited.TheVariants as awaited
 use Rattle.si_methods.specs.declared.replying.Replied.{Replied}
-use Rattle.si_methods.specs.declared.replying.Replied.TheVariants.{Got, Failed, Wants}
-use Rattle.si_methods.specs.Replying.{Replies, failed_of, received_of}
+use Rattle.si_methods.specs.Replying.{Replies}
 use Rattle.si_semantics.specs.Life as life
 use Rattle.si_semantics.specs.Text.{kind_and_message}
 use Rattle.si_parcel.specs.declared.outcome.Outcome.{Outcome}
 use Rattle.si_methods.specs.Replying.{MakesException}
-use Rattle.si_methods.proofs.Made.{got, refuses, fails, receives, makes, starts, else_await_exec}
+use Rattle.si_methods.proofs.Made.{got, fails}
 use Rattle.si_methods.proofs.replying.executed.Goals as goal
 
 pub returns-in-Returned : goal.returns-in-Returned
@@ -42,4 +33,4 @@ returns-in-Raised c =
     let S : pure.Text → Type 0 = λ x. MakesException kind.ExecutionFailed (kind_and_message k x) m n c.execution_failed.result in
     subst P (sym c.in-Raised.is)
     (subst Q (sym c.failed.ensures)
-    (fails awaited.AwaitExec (shared.Ended (life.Raised k t)) kind.ExecutionFailed (kind_and_message k t) m n c.execution_failed.result (λ w. refl) (subst S c.as_text.ensures c.execution_failed.ensures)))
+    (fails awaited.AwaitExec (shared.Ended (life.Raised k t)) kind.ExecutionFailed (kind_and_message k t) m n c.execution_failed.result tt (λ w. refl) (subst S c.as_text.ensures c.execution_failed.ensures)))

@@ -1,23 +1,10 @@
-use Rattle.std.proofs.Common.{◌≡◌, ℕ, pos, Bool, Ok, Err, Result, refl, sym, ap, subst, ◌∙◌}
-use Rattle.std.specs.Prelude.{codes, slice_set, ◌++◌}
-use Rattle.std.specs.declared.alloc.AllocError.{AllocError}
-use Rattle.si_plain.specs.declared.kind.Kind.TheVariants as kind
-use Rattle.si_semantics.specs.Value as pure
-use Rattle.si_semantics.specs.World as world
-use Rattle.si_semantics.specs.World.{World}
-use Rattle.si_semantics.specs.Text.{decimal}
-use Rattle.si_semantics.specs.Actions as shared
-use Rattle.si_arena.specs.declared.value.Ref.TheVariants as value
-use Rattle.si_arena.specs.declared.cause.Cause.TheVariants.{Refused, Arithmetic}
-use Rattle.si_arena.specs.declared.refusal.Refusal.TheVariants as refusal
-use Rattle.si_parcel.specs.declared.answer.Answer.{Answer}
+use Rattle.std.proofs.Common.{Ok, sym, subst}
 use Rattle.si_parcel.specs.declared.answer.Answer.TheVariants as answer
-use Rattle.si_parcel.specs.Shared.{answer_of, outcome_of}
+use Rattle.si_parcel.specs.Shared.{answer_of}
 use Rattle.si_methods.specs.declared.request.Awaited.{Awaited}
 use Rattle.si_methods.specs.declared.request.Awaited.TheVariants as awaited
 use Rattle.si_methods.specs.declared.replying.Replied.{Replied}
-use Rattle.si_methods.specs.declared.replying.Replied.TheVariants.{Got, Failed, Wants}
-use Rattle.si_methods.specs.Replying.{Replies, failed_of, received_of}
+use Rattle.si_methods.specs.Replying.{Replies}
 use Rattle.std.proofs.Common.{◌<◌, length}
 use Rattle.si_methods.proofs.Made.{else_put, else_join_thread}
 use Rattle.si_methods.proofs.replying.reply.Goals as goal
@@ -93,6 +80,12 @@ returns-in-StartThread c =
     let m = c.args.arena.now in
     let P : Awaited → Type 0 = λ k. Replies k (answer_of c.args.answer.now) m c.thread_started.new.arena c.thread_started.result in
     subst P (sym c.in-StartThread.is) (c.thread_started.ensures)
+
+pub returns-in-ListAll : goal.returns-in-ListAll
+returns-in-ListAll c =
+    let m = c.args.arena.now in
+    let P : Awaited → Type 0 = λ k. Replies k (answer_of c.args.answer.now) m c.listed.new.arena c.listed.result in
+    subst P (sym c.in-ListAll.is) (c.listed.ensures)
 
 pub returns-in-IsRunning : goal.returns-in-IsRunning
 returns-in-IsRunning c =

@@ -1,23 +1,11 @@
-use Rattle.std.proofs.Common.{◌≡◌, ℕ, pos, Bool, Ok, Err, Result, refl, sym, ap, subst, ◌∙◌}
-use Rattle.std.specs.Prelude.{codes, slice_set, ◌++◌}
-use Rattle.std.specs.declared.alloc.AllocError.{AllocError}
-use Rattle.si_plain.specs.declared.kind.Kind.TheVariants as kind
-use Rattle.si_semantics.specs.Value as pure
-use Rattle.si_semantics.specs.World as world
-use Rattle.si_semantics.specs.World.{World}
-use Rattle.si_semantics.specs.Text.{decimal}
-use Rattle.si_semantics.specs.Actions as shared
-use Rattle.si_arena.specs.declared.value.Ref.TheVariants as value
-use Rattle.si_arena.specs.declared.cause.Cause.TheVariants.{Refused, Arithmetic}
-use Rattle.si_arena.specs.declared.refusal.Refusal.TheVariants as refusal
+use Rattle.std.proofs.Common.{Ok, sym, subst}
 use Rattle.si_parcel.specs.declared.answer.Answer.{Answer}
 use Rattle.si_parcel.specs.declared.answer.Answer.TheVariants as answer
-use Rattle.si_parcel.specs.Shared.{answer_of, outcome_of}
+use Rattle.si_parcel.specs.Shared.{answer_of}
 use Rattle.si_methods.specs.declared.request.Awaited.TheVariants as awaited
 use Rattle.si_methods.specs.declared.replying.Replied.{Replied}
-use Rattle.si_methods.specs.declared.replying.Replied.TheVariants.{Got, Failed, Wants}
-use Rattle.si_methods.specs.Replying.{Replies, failed_of, received_of}
-use Rattle.si_methods.proofs.Made.{got, refuses, fails, receives, makes, starts, else_await_exec}
+use Rattle.si_methods.specs.Replying.{Replies}
+use Rattle.si_methods.proofs.Made.{else_await_exec}
 use Rattle.si_methods.proofs.replying.run_ended.Goals as goal
 
 pub returns-in-Ended : goal.returns-in-Ended

@@ -1,23 +1,17 @@
-use Rattle.std.proofs.Common.{◌≡◌, ℕ, pos, Bool, Ok, Err, Result, refl, sym, ap, subst, ◌∙◌}
-use Rattle.std.specs.Prelude.{codes, slice_set, ◌++◌}
+use Rattle.std.proofs.Common.{pos, Ok, Result, refl, sym, subst}
+use Rattle.std.specs.Prelude.{codes, ◌++◌}
 use Rattle.std.specs.declared.alloc.AllocError.{AllocError}
 use Rattle.si_plain.specs.declared.kind.Kind.TheVariants as kind
-use Rattle.si_semantics.specs.Value as pure
-use Rattle.si_semantics.specs.World as world
-use Rattle.si_semantics.specs.World.{World}
 use Rattle.si_semantics.specs.Text.{decimal}
-use Rattle.si_semantics.specs.Actions as shared
 use Rattle.si_arena.specs.declared.value.Ref.TheVariants as value
-use Rattle.si_arena.specs.declared.cause.Cause.TheVariants.{Refused, Arithmetic}
-use Rattle.si_arena.specs.declared.refusal.Refusal.TheVariants as refusal
 use Rattle.si_parcel.specs.declared.answer.Answer.{Answer}
 use Rattle.si_parcel.specs.declared.answer.Answer.TheVariants as answer
-use Rattle.si_parcel.specs.Shared.{answer_of, outcome_of}
+use Rattle.si_parcel.specs.Shared.{answer_of}
 use Rattle.si_methods.specs.declared.request.Awaited.TheVariants as awaited
 use Rattle.si_methods.specs.declared.replying.Replied.{Replied}
-use Rattle.si_methods.specs.declared.replying.Replied.TheVariants.{Got, Failed, Wants}
-use Rattle.si_methods.specs.Replying.{Replies, failed_of, received_of}
-use Rattle.si_methods.proofs.Made.{got, refuses, fails, receives, makes, else_is_running}
+use Rattle.si_methods.specs.declared.replying.Replied.TheVariants.{Got}
+use Rattle.si_methods.specs.Replying.{Replies}
+use Rattle.si_methods.proofs.Made.{got, fails, else_is_running}
 use Rattle.si_methods.proofs.replying.runs.Goals as goal
 
 pub returns-in-Truth : goal.returns-in-Truth
@@ -32,7 +26,7 @@ returns-in-NotFound c =
     let n = c.not_found.new.arena in
     let P : Answer → Type 0 = λ a. Replies (awaited.IsRunning c.args.id) (answer_of a) m n c.failed.result in
     let Q : Result Replied AllocError → Type 0 = λ r. Replies (awaited.IsRunning c.args.id) (answer_of answer.NotFound) m n r in
-    subst P (sym c.in-NotFound.is) (subst Q (sym c.failed.ensures) (fails (awaited.IsRunning c.args.id) (answer_of answer.NotFound) kind.InterpreterNotFoundError (codes "interpreter " ++ (decimal (pos c.args.id) ++ codes " not found")) m n c.not_found.result (λ w. refl) c.not_found.ensures))
+    subst P (sym c.in-NotFound.is) (subst Q (sym c.failed.ensures) (fails (awaited.IsRunning c.args.id) (answer_of answer.NotFound) kind.InterpreterNotFoundError (codes "interpreter " ++ (decimal (pos c.args.id) ++ codes " not found")) m n c.not_found.result tt (λ w. refl) c.not_found.ensures))
 
 pub returns-in_default : goal.returns-in_default
 returns-in_default c =

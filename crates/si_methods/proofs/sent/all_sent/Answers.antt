@@ -1,10 +1,12 @@
-use Rattle.std.proofs.Common.{◌≡◌, ℕ, suc, ◌+◌, ◌<◌, ◌≤◌, List, [], ◌∷◌, ◌++◌, length, drop, get_or, sym, ap, subst, ◌∙◌, arith, drop-cons}
+use Rattle.std.proofs.Common.{◌≡◌, ◌+◌, ◌<◌, List, [], Ok, length, take, get_or, refl, sym, subst, arith}
 use Rattle.std.proofs.lemmas.List.{length-map}
+use Rattle.si_semantics.specs.Value as pure
+use Rattle.si_semantics.specs.Value.{Text}
 use Rattle.si_semantics.specs.Parcels.{Tree}
-use Rattle.si_semantics.specs.Attributes.{paired, parcels_by_name}
+use Rattle.si_semantics.specs.Attributes.{paired, as_pairs, parcels_by_name}
 use Rattle.si_arena.specs.Memory.{value_of, all_of}
 use Rattle.si_arena.proofs.Sizes.{lies_at}
-use Rattle.si_methods.proofs.Sending.{told, next_sent, unsent_at, handed_on, value_at, all_told}
+use Rattle.si_methods.proofs.Sending.{next_sent, next_unsent, all_sent, handed_on, value_there, name_there, pair_there, pairs_count, one_sent, name_unsent}
 use Rattle.si_methods.proofs.sent.all_sent.Goals as goal
 
 pub sent-requires : goal.sent-requires
@@ -15,32 +17,31 @@ returns-in_err-parcel-clause-err c =
     let m = c.args.arena.now in
     let names = c.args.names.now in
     let vs = all_of m c.args.values.now in
+    let ps = as_pairs (paired names vs) in
     let i = c.loop-i.i in
     let l : i < length names = omega arith in
     let v = c.index-values-i.result in
-    handed_on c.from_residual-in_err-parcel.result c.in_err-parcel.field-0.0 (paired names vs) c.from_residual-in_err-parcel.ensures.1
-    (unsent_at names vs i (get_or names i []) (value_of m v) c.loop-i.pairs.items c.in_err-parcel.field-0.0 (drop-cons names i [] l) (value_at m c.args.values.now i v v c.index-values-i.is c.loop-i-test.true) c.in_err-parcel.ensures c.loop-i.invariant)
+    let x = get_or names i [] in
+    let f = c.in_err-parcel.field-0.0 in
+    let there = pair_there names vs i x (value_of m v) (name_there names i x x [] refl refl l) (value_there m c.args.values.now i v v c.index-values-i.is c.loop-i-test.true) in
+    handed_on c.from_residual-in_err-parcel.result f ps c.from_residual-in_err-parcel.ensures.1
+    (next_unsent ps i (pure.Word x, value_of m v) c.loop-i.pairs.items f there c.loop-i.invariant (name_unsent x (value_of m v) f c.in_err-parcel.ensures))
 
 pub loop-i-preserved : goal.loop-i-preserved
 loop-i-preserved c =
     let m = c.args.arena.now in
     let names = c.args.names.now in
     let vs = all_of m c.args.values.now in
+    let ps = as_pairs (paired names vs) in
     let i = c.loop-i.i in
     let l : i < length names = omega arith in
     let v = c.index-values-i.result in
     let x = c.in_ok-name.name in
     let p = c.in_ok-parcel.parcel in
-    let whole = parcels_by_name (paired names vs) in
-    let pairs : List (List ℕ × Tree) = c.loop-i.pairs.items in
-    let named : drop i names ≡ x ∷ drop (suc i) names =
-    drop-cons names i c.index-names-i.result l ∙ ap (λ y. y ∷ drop (suc i) names) (sym c.index-names-i.is ∙ sym c.in_ok-name.ensures.cases)
-    in
-    let P : ℕ → Type 0 = λ k. whole ≡ told (pairs ++ (x, p) ∷ []) (parcels_by_name (paired (drop k names) (drop k vs))) in
-    let Q : List (List ℕ × Tree) → Type 0 = λ bs. whole ≡ told bs (parcels_by_name (paired (drop (i + 1) names) (drop (i + 1) vs))) in
-    let next : suc i ≡ i + 1 = omega arith in
-    subst Q (sym c.in-Ok.ensures.items)
-    (subst P next (next_sent names vs i x (value_of m v) p pairs whole named (value_at m c.args.values.now i v v c.index-values-i.is c.loop-i-test.true) c.in_ok-parcel.ensures c.loop-i.invariant))
+    let there = pair_there names vs i x (value_of m v) (name_there names i c.index-names-i.result x c.index-names-i.result c.in_ok-name.ensures.cases c.index-names-i.is l) (value_there m c.args.values.now i v v c.index-values-i.is c.loop-i-test.true) in
+    let P : List (Text × Tree) → Type 0 = λ bs. parcels_by_name (take (i + 1) ps) ≡ Ok bs in
+    subst P (sym c.in-Ok.ensures.items)
+    (next_sent ps i (pure.Word x, value_of m v) c.loop-i.pairs.items (x, p) there c.loop-i.invariant (one_sent x (value_of m v) p c.in_ok-parcel.ensures))
 
 pub returns-clause-ok : goal.returns-clause-ok
 returns-clause-ok c =
@@ -48,4 +49,5 @@ returns-clause-ok c =
     let names = c.args.names.now in
     let vs = all_of m c.args.values.now in
     let same : length vs ≡ length c.args.values.now = length-map c.args.values.now (value_of m) in
-    all_told names vs c.loop-i.i c.loop-i.pairs.items (parcels_by_name (paired names vs)) (omega arith) c.loop-i.invariant
+    let count = pairs_count names vs (omega arith) in
+    all_sent (as_pairs (paired names vs)) c.loop-i.i c.loop-i.pairs.items (omega (arith, count)) c.loop-i.invariant

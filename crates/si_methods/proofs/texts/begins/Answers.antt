@@ -2,7 +2,7 @@ use Rattle.std.proofs.Common.{sym, ap, ap₂, ◌∙◌}
 use Rattle.si_semantics.specs.Value as pure
 use Rattle.si_semantics.specs.Parts.{begins_with}
 use Rattle.si_semantics.specs.Operations.{gave}
-use Rattle.si_semantics.specs.Attributes.{tested_texts, ends_with}
+use Rattle.si_semantics.specs.Attributes.{tested_texts}
 use Rattle.si_arena.specs.Memory.{value_of}
 use Rattle.si_arena.specs.declared.value.Ref.TheVariants.{Truth}
 use Rattle.si_arena.specs.declared.cause.Cause.TheVariants.{WrongType}

@@ -1,6 +1,5 @@
 use Rattle.std.proofs.Common.{sym, ap, ap₂, ◌∙◌}
 use Rattle.si_semantics.specs.Value as pure
-use Rattle.si_semantics.specs.Parts.{begins_with}
 use Rattle.si_semantics.specs.Operations.{gave}
 use Rattle.si_semantics.specs.Attributes.{tested_texts, ends_with}
 use Rattle.si_arena.specs.Memory.{value_of}

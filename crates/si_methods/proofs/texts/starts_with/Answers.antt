@@ -1,8 +1,9 @@
 use Rattle.si_semantics.specs.Parts.{begins_with}
 use Rattle.si_semantics.specs.Attributes as attributes
-use Rattle.si_semantics.specs.Attributes.{call_method, tested_texts, ends_with}
+use Rattle.si_semantics.specs.Attributes.{call_method, tested_texts}
 use Rattle.si_arena.specs.Memory.{value_of, all_of}
 use Rattle.si_arena.specs.declared.cause.Cause.TheVariants.{WrongArguments}
+use Rattle.si_methods.specs.Answering.{told_of}
 use Rattle.si_methods.proofs.Calling.{answers_as, throws}
 use Rattle.si_methods.proofs.texts.starts_with.Goals as goal
 
@@ -14,7 +15,7 @@ returns-in-Some c = λ own.
     let m = c.args.arena.now in
     let v = value_of m c.args.object in
     let p = c.in-Some.ensures m c.requires.arguments in
-    answers_as (λ w. call_method attributes.StartsWith v (all_of m c.args.arguments.now) c.args.names.now w) (λ w. tested_texts begins_with v (value_of m c.in-Some.part) w) own m m c.begins.result
+    answers_as (λ w. call_method attributes.StartsWith v (all_of m c.args.arguments.now) c.args.names.now w) (λ w. tested_texts begins_with v (value_of m c.in-Some.part) w) own m m (told_of c.begins.result)
     (λ w e. p.1 (λ u. tested_texts begins_with v u w) w)
     (c.begins.ensures own)
 

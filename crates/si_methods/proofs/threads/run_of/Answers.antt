@@ -1,52 +1,29 @@
-use Rattle.std.proofs.Common.{◌≡◌, Option, Some, sym, ap, refl, ◌∙◌}
+use Rattle.std.proofs.Common.{Some, ap, ◌∙◌}
 use Rattle.std.specs.Prelude.{slice_get}
-use Rattle.si_semantics.specs.Value as pure
-use Rattle.si_semantics.specs.World as world
-use Rattle.si_semantics.specs.World.{World, Ran, Asked}
-use Rattle.si_semantics.specs.Attributes.{starts, joins}
-use Rattle.si_arena.specs.Memory.{object_of}
-use Rattle.si_arena.specs.Texts.{text_of}
-use Rattle.si_arena.specs.declared.cause.Cause.TheVariants.{WrongType, Refused}
-use Rattle.si_arena.specs.declared.refusal.Refusal.TheVariants.{AlreadyStarted, NotStarted}
-use Rattle.si_methods.proofs.Calling.{throws}
+use Rattle.si_semantics.specs.Attributes.{starts}
+use Rattle.si_arena.specs.Memory.{object_of, contents_of}
+use Rattle.si_arena.specs.declared.cause.Cause.TheVariants.{WrongType}
+use Rattle.si_methods.proofs.Calling.{answers_as, throws}
 use Rattle.si_methods.proofs.threads.run_of.Goals as goal
 
-pub returns-in-Bare : goal.returns-in-Bare
-returns-in-Bare c = λ own.
+pub returns-in-Plain : goal.returns-in-Plain
+returns-in-Plain c = λ own.
+    let m = c.args.arena.now in
+    answers_as (λ w. starts c.args.thread (slice_get w.store c.args.thread) w) (λ w. starts c.args.thread (Some (object_of m c.in-Plain.object)) w) own m m c.run_of_object.result
+    (λ w e. ap (λ s. starts c.args.thread (slice_get s c.args.thread) w) e ∙ ap (λ o. starts c.args.thread o w) c.object.ensures.object ∙ ap (λ o. starts c.args.thread (Some (contents_of m o)) w) c.in-Plain.is)
+    (c.run_of_object.ensures own)
+
+pub returns-in-List : goal.returns-in-List
+returns-in-List c = λ own.
     let m = c.args.arena.now in
     throws (λ w. starts c.args.thread (slice_get w.store c.args.thread) w) own m WrongType tt
-    (λ w e. ap (λ s. starts c.args.thread (slice_get s c.args.thread) w) e ∙ ap (λ o. starts c.args.thread o w) c.object.ensures.object ∙ ap (λ o. starts c.args.thread (Some (object_of m o)) w) c.in-Bare.is)
+    (λ w e. ap (λ s. starts c.args.thread (slice_get s c.args.thread) w) e ∙ ap (λ o. starts c.args.thread o w) c.object.ensures.object ∙ ap (λ o. starts c.args.thread (Some (contents_of m o)) w) c.in-List.is)
 
-pub returns-in-Made : goal.returns-in-Made
-returns-in-Made c = λ own.
+pub returns-in-Dict : goal.returns-in-Dict
+returns-in-Dict c = λ own.
     let m = c.args.arena.now in
     throws (λ w. starts c.args.thread (slice_get w.store c.args.thread) w) own m WrongType tt
-    (λ w e. ap (λ s. starts c.args.thread (slice_get s c.args.thread) w) e ∙ ap (λ o. starts c.args.thread o w) c.object.ensures.object ∙ ap (λ o. starts c.args.thread (Some (object_of m o)) w) c.in-Made.is)
+    (λ w e. ap (λ s. starts c.args.thread (slice_get s c.args.thread) w) e ∙ ap (λ o. starts c.args.thread o w) c.object.ensures.object ∙ ap (λ o. starts c.args.thread (Some (contents_of m o)) w) c.in-Dict.is)
 
-pub returns-in-Caused : goal.returns-in-Caused
-returns-in-Caused c = λ own.
-    let m = c.args.arena.now in
-    throws (λ w. starts c.args.thread (slice_get w.store c.args.thread) w) own m WrongType tt
-    (λ w e. ap (λ s. starts c.args.thread (slice_get s c.args.thread) w) e ∙ ap (λ o. starts c.args.thread o w) c.object.ensures.object ∙ ap (λ o. starts c.args.thread (Some (object_of m o)) w) c.in-Caused.is)
-
-pub returns-in-Started : goal.returns-in-Started
-returns-in-Started c = λ own.
-    let m = c.args.arena.now in
-    throws (λ w. starts c.args.thread (slice_get w.store c.args.thread) w) own m (Refused AlreadyStarted) tt
-    (λ w e. ap (λ s. starts c.args.thread (slice_get s c.args.thread) w) e ∙ ap (λ o. starts c.args.thread o w) c.object.ensures.object ∙ ap (λ o. starts c.args.thread (Some (object_of m o)) w) c.in-Started.is)
-
-pub copied-requires : goal.copied-requires
-copied-requires c = let h = rw c.in-Thread.is at c.object.ensures.lies in record { lies = h.0; text = h.1 }
-
-pub returns-in-Ok : goal.returns-in-Ok
-returns-in-Ok c = λ own.
-    let m = c.args.arena.now in (
-      record {
-        request = world.StartThread c.args.thread c.in-Thread.interpreter c.in-Ok.text;
-        asks = λ w e. ap (λ s. starts c.args.thread (slice_get s c.args.thread) w) e ∙ ap (λ o. starts c.args.thread o w) c.object.ensures.object ∙ ap (λ o. starts c.args.thread (Some (object_of m o)) w) c.in-Thread.is ∙ ap (λ t. Asked (world.StartThread c.args.thread c.in-Thread.interpreter t) w) (sym c.in-Ok.ensures);
-        made_by = refl;
-        kept_is = refl;
-        lies = c.requires;
-      },
-      refl,
-    )
+pub run_of_object-requires-clause-lies : goal.run_of_object-requires-clause-lies
+run_of_object-requires-clause-lies c = rw c.in-Plain.is at c.object.ensures.lies

@@ -1,6 +1,5 @@
-use Rattle.std.proofs.Common.{sym, ap, ◌∙◌}
+use Rattle.std.proofs.Common.{ap, ◌∙◌}
 use Rattle.std.specs.Prelude.{slice_get}
-use Rattle.si_semantics.specs.World.{World, Ran}
 use Rattle.si_semantics.specs.Attributes as attributes
 use Rattle.si_semantics.specs.Attributes.{call_method, alone, starts_at, starts}
 use Rattle.si_arena.specs.Memory.{value_of, all_of}

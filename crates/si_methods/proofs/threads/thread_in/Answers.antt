@@ -1,6 +1,7 @@
-use Rattle.std.proofs.Common.{sym, ap}
+use Rattle.std.proofs.Common.{ap}
 use Rattle.si_semantics.specs.Value as pure
-use Rattle.si_semantics.specs.Attributes.{thread_of, placed}
+use Rattle.si_semantics.specs.Operations.{placed}
+use Rattle.si_semantics.specs.Attributes.{thread_of}
 use Rattle.si_arena.specs.Memory.{value_of}
 use Rattle.si_arena.specs.Texts.{text_of}
 use Rattle.si_arena.specs.declared.cause.Cause.TheVariants.{WrongType}

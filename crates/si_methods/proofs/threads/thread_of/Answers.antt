@@ -1,4 +1,4 @@
-use Rattle.std.proofs.Common.{sym, ap}
+use Rattle.std.proofs.Common.{ap}
 use Rattle.si_semantics.specs.Value as pure
 use Rattle.si_semantics.specs.Attributes.{thread_of}
 use Rattle.si_arena.specs.Memory.{value_of}

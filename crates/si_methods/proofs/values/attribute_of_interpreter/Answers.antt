@@ -1,10 +1,8 @@
-use Rattle.std.proofs.Common.{ℕ, ◌<◌, ◌^◌, pos, Some, None, Ok, arith, sym, subst, ap, ◌∙◌}
-use Rattle.std.specs.Prelude.{codes, FitsSigned}
-use Rattle.std.specs.Int.{w64}
+use Rattle.std.proofs.Common.{◌<◌, ◌^◌, pos, Some, Ok, arith, sym, subst, ap, ◌∙◌}
+use Rattle.std.specs.Prelude.{codes}
 use Rattle.si_arena.specs.declared.value.Ref.{Ref}
 use Rattle.si_methods.specs.Methods.{HasAttribute}
 use Rattle.si_semantics.specs.Value as pure
-use Rattle.si_semantics.specs.Operations.{gave}
 use Rattle.si_semantics.specs.Attributes.{attribute_of}
 use Rattle.si_methods.proofs.Words.{id_word, exec_word, spelled}
 use Rattle.si_methods.proofs.Attributed.{picks_first, picks_second, picks_none, is_integer}

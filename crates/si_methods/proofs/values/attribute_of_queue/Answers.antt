@@ -1,12 +1,10 @@
-use Rattle.std.proofs.Common.{ℕ, ◌<◌, ◌^◌, pos, Some, None, Ok, arith, sym, subst, ap, ◌∙◌}
-use Rattle.std.specs.Prelude.{codes, FitsSigned}
-use Rattle.std.specs.Int.{w64}
+use Rattle.std.proofs.Common.{◌<◌, ◌^◌, pos, Some, Ok, arith, sym, subst, ap, ◌∙◌}
+use Rattle.std.specs.Prelude.{codes}
 use Rattle.si_arena.specs.declared.value.Ref.{Ref}
 use Rattle.si_methods.specs.Methods.{HasAttribute}
 use Rattle.si_semantics.specs.Value as pure
-use Rattle.si_semantics.specs.Operations.{gave, integer, refused, arithmetic_message}
+use Rattle.si_semantics.specs.Operations.{integer, refused, arithmetic_message}
 use Rattle.si_semantics.specs.Attributes.{attribute_of}
-use Rattle.si_plain.specs.Integers.{in_range}
 use Rattle.si_methods.proofs.Words.{id_word, maxsize_word, spelled}
 use Rattle.si_methods.proofs.Attributed.{picks_first, picks_second, picks_none, is_integer, overflows, within}
 use Rattle.std.proofs.Math.Facts.{to_z-of_z}

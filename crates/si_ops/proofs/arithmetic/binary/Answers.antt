@@ -1,7 +1,9 @@
 use Rattle.std.proofs.Common.{◌≡◌, ap, ◌∙◌, to_z, of_z, w64, rules}
 use Rattle.si_semantics.specs.Value as pure
+use Rattle.si_semantics.specs.Operations.{operate}
 use Rattle.si_arena.specs.Memory.{value_of}
 use Rattle.si_ops.proofs.Running.{ints_go}
+use Rattle.si_ops.proofs.Calling.{makes_runs}
 use Rattle.si_ops.proofs.arithmetic.binary.Goals as goal
 
 pub returns-in-Int-Int : goal.returns-in-Int-Int
@@ -14,4 +16,4 @@ returns-in-Int-Int c =
     let p = ap (value_of m) k.is-0 ∙ ap pure.Int a in
     let q = ap (value_of m) k.is-1 ∙ ap pure.Int b in
     let g = ints_go o c.args.left c.args.right m c.integers.result _ _ _ _ c.integers.ensures.told (c.integers.ensures.runs m) p q in
-    record { runs = g.runs; memory = g.memory }
+    record { makes = makes_runs (λ w. operate o (value_of m c.args.left) (value_of m c.args.right) w) m m c.integers.result g.runs; memory = λ n. g.memory }

@@ -8,7 +8,7 @@ use Rattle.si_ops.specs.declared.calls.Called.{Called}
 use Rattle.si_ops.specs.declared.calls.Called.TheVariants.{Value}
 use Rattle.si_ops.specs.Calls.{Calls, NeedsNone, IsSaid}
 use Rattle.si_ops.proofs.Ends.{passed}
-use Rattle.si_ops.proofs.Calling.{calls_ok, calls_err, calls_told, said_of}
+use Rattle.si_ops.proofs.Calling.{calls_ok, calls_err, calls_failed, calls_told, said_of}
 use Rattle.si_ops.proofs.calls.call_built_in.Goals as goal
 
 pub returns-in-Print-clause-calls : goal.returns-in-Print-clause-calls
@@ -219,3 +219,27 @@ returns-in_err-tuple-in-Tuple-clause-memory c =
     let f = c.in_err-tuple-in-Tuple.field-0.0 in
     let P : BuiltIn → Type 0 = λ b. NeedsNone m c.args.line.now (pure.Provided (built_in_of b)) vs → IsSaid c.from_residual-in_err-tuple-in-Tuple.result in
     subst P (sym c.in-Tuple.is) (λ h. passed c.from_residual-in_err-tuple-in-Tuple.result IsSaid f c.from_residual-in_err-tuple-in-Tuple.ensures.1 (said_of f (c.in_err-tuple-in-Tuple.ensures.memory h)))
+
+pub returns-in_err-list-in-List-clause-calls : goal.returns-in_err-list-in-List-clause-calls
+returns-in_err-list-in-List-clause-calls c =
+    let m = c.args.arena.now in
+    let vs = all_of m c.args.arguments.now in
+    let f = c.in_err-list-in-List.field-0.0 in
+    let P : BuiltIn → Type 0 = λ b. Calls (λ w. call_built_in (built_in_of b) vs w) m c.call_list.new.arena c.args.line.now c.args.line.now c.from_residual-in_err-list-in-List.result in
+    let Q : Result Called Fault → Type 0 = λ r. Calls (λ w. call_built_in pure.MakeList vs w) m c.call_list.new.arena c.args.line.now c.args.line.now r in
+    subst P (sym c.in-List.is)
+    (passed c.from_residual-in_err-list-in-List.result Q f c.from_residual-in_err-list-in-List.ensures.1 (calls_failed (λ w. call_built_in pure.MakeList vs w) m c.call_list.new.arena c.args.line.now c.args.line.now f c.in_err-list-in-List.ensures refl))
+
+pub returns-in_ok-list-in-List-clause-calls : goal.returns-in_ok-list-in-List-clause-calls
+returns-in_ok-list-in-List-clause-calls c =
+    let m = c.args.arena.now in
+    let vs = all_of m c.args.arguments.now in
+    let r = c.in_ok-list-in-List.list in
+    let P : BuiltIn → Type 0 = λ b. Calls (λ w. call_built_in (built_in_of b) vs w) m c.call_list.new.arena c.args.line.now c.args.line.now (Ok (Value r)) in
+    subst P (sym c.in-List.is) (c.in_ok-list-in-List.ensures, refl)
+
+pub returns-in_err-list-in-List-clause-memory : goal.returns-in_err-list-in-List-clause-memory
+returns-in_err-list-in-List-clause-memory c =
+    let m = c.args.arena.now in
+    let P : BuiltIn → Type 0 = λ b. NeedsNone m c.args.line.now (pure.Provided (built_in_of b)) (all_of m c.args.arguments.now) → IsSaid c.from_residual-in_err-list-in-List.result in
+    subst P (sym c.in-List.is) (λ h. absurd h)

@@ -18,7 +18,7 @@ returns-in_err-push_repr-clause-runs c =
     let f = c.in_err-push_repr.field-0.0 in
     let P : Result Ref Fault → Type 0 = λ r. Runs (λ w. call_built_in pure.Repr (v ∷ []) w) m m r in
     passed c.from_residual.result P f c.from_residual.ensures.1
-    (text_refused (Unit {0}) (λ s. repr_of max_nested s v) (spelled (repr_of max_nested m.store v)) c.args.line.now c.push_repr.new.out m f c.in_err-push_repr.ensures)
+    (text_refused (Unit {0}) (λ s. repr_of max_nested s [] v) (spelled (repr_of max_nested m.store [] v)) c.args.line.now c.push_repr.new.out m f c.in_err-push_repr.ensures)
 
 pub place_behind-requires : goal.place_behind-requires
 place_behind-requires c =
@@ -33,5 +33,5 @@ returns-clause-runs c =
     let e : c.len-start.result ≡ length (string_bytes c.args.line.now) = omega arith in
     let h = c.in_ok-push_repr.ensures in
     let P : pure.Text → Type 0 = λ t. PlacesText t m n c.place_behind.result in
-    text_placed (λ s. repr_of max_nested s (value_of m c.args.value)) h.0 m n c.place_behind.result h.1
+    text_placed (λ s. repr_of max_nested s [] (value_of m c.args.value)) h.0 m n c.place_behind.result h.1
     (subst P (text_at c.args.line.now c.push_repr.new.out h.0 c.len-start.result e h.2) c.place_behind.ensures.text)

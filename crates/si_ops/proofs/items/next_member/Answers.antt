@@ -14,4 +14,4 @@ returns c =
     let vs = members_of (value_of m c.args.tuple) in
     let there : c.args.given < length rs = omega arith in
     let next = item_there m rs vs c.args.given c.index-all-given.result c.members-all.ensures.items there c.index-all-given.is in
-    ((λ w. ap (λ xs. next_item (operations.Items xs) w) next), lies_at m rs c.args.given _ _ c.index-all-given.is there c.members-all.ensures.lie, c.requires)
+    ((λ w e. ap (λ xs. next_item (operations.Items xs) w) next), lies_at m rs c.args.given _ _ c.index-all-given.is there c.members-all.ensures.lie, c.requires)

@@ -7,4 +7,4 @@ use Rattle.si_ops.proofs.membership.is_any_of.Given as goal
 
 abbrev pub invariant-loop-i : goal.invariant-loop-i
 invariant-loop-i l =
-    (w : World) → is_any_of (all_of l.arena (drop l.i l.items)) (value_of l.arena l.item) w ≡ is_any_of (all_of l.arena l.items) (value_of l.arena l.item) w
+    (w : World) → w.store ≡ l.arena.store → is_any_of (all_of l.arena (drop l.i l.items)) (value_of l.arena l.item) w ≡ is_any_of (all_of l.arena l.items) (value_of l.arena l.item) w

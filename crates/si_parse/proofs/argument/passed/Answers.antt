@@ -4,7 +4,7 @@ use Rattle.std.proofs.lemmas.List.{map-append, length-map, nil_from_length}
 use Rattle.si_plain.specs.Names.{place_in, with_name}
 use Rattle.si_semantics.specs.Scope.{is_in}
 use Rattle.si_syntax.specs.Trees.{expr_of}
-use Rattle.si_parse.specs.inner.Reading.{passed_from}
+use Rattle.si_parse.specs.inner.Expressions.{passed_from}
 use Rattle.si_parse.specs.inner.Gives.{argument_of}
 use Rattle.si_plain.proofs.Lengths.{empty, not_empty}
 use Rattle.si_parse.proofs.Passed.{placed, with_new_name, positional_on, positional_stuck, named_on, named_stuck, goes_on, stuck}

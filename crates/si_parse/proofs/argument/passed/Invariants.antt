@@ -1,6 +1,6 @@
 use Rattle.std.proofs.Common.{◌≡◌, [], map, string_bytes}
 use Rattle.si_syntax.specs.Trees.{expr_of}
-use Rattle.si_parse.specs.inner.Reading.{passed_from}
+use Rattle.si_parse.specs.inner.Expressions.{passed_from}
 use Rattle.si_parse.specs.inner.Gives.{argument_of}
 use Rattle.si_parse.proofs.argument.passed.Given as goal
 

@@ -1,10 +1,14 @@
-use Rattle.std.proofs.Common.{◌≡◌, ◌+◌, ◌-◌, ◌<◌, ◌≤◌, [], length, sym, ◌∙◌, ap, subst, Some, map, arith}
+use Rattle.std.proofs.Common.{◌≡◌, ◌+◌, ◌-◌, ◌<◌, ◌≤◌, [], ◌++◌, append_assoc, length, sym, ◌∙◌, ap, subst, Some, map, arith}
 use Rattle.std.proofs.lemmas.Result.{err_from_is_err_and}
 use Rattle.std.proofs.lemmas.List.{map-append}
 use Rattle.std.specs.Prelude.{option_map, ◌∷◌}
+use Rattle.si_semantics.specs.Tokens as token
 use Rattle.si_semantics.specs.Grammar.{item_level}
+use Rattle.si_token.specs.Views.{symbol_of}
+use Rattle.si_parse.specs.inner.Lists.{alone}
 use Rattle.si_syntax.specs.Trees.{expr_of, link_of}
-use Rattle.si_parse.specs.inner.Reading.{with_word, after_boolean, comparison_at, compared_by, argument_by, expression_at, strength_of}
+use Rattle.si_parse.specs.inner.Lookahead.{after_boolean, strength_of}
+use Rattle.si_parse.specs.inner.Expressions.{with_word, comparison_at, compared_by, argument_by, expression_at, both, pair_by, value_of_key, paired}
 use Rattle.si_parse.specs.inner.Gives.{Fails, from, continuation_view, argument_of}
 use Rattle.si_parse.proofs.Enclosed.{enclosed_fails, enclosed_last, enclosed_on, enclosed_stuck}
 use Rattle.si_parse.proofs.Turns.{continued_on, continued_stops, continued_fails, chain_ends, chain_next, chain_fails}
@@ -34,7 +38,7 @@ continued-returns-in_err-longer-clause-reads t c =
 
 pub arguments-returns-in_err-next-clause-reads : goal.arguments-returns-in_err-next-clause-reads
 arguments-returns-in_err-next-clause-reads t c =
-    let fails = enclosed_fails (argument_by (expression_at c.args.parts)) (length c.args.tokens.now - c.loop-turn._turn) (length c.args.tokens.now - (c.loop-turn._turn + 1)) (map argument_of c.loop-turn.arguments.items, c.loop-turn.depth) (from c.args.tokens.now c.loop-turn.at)
+    let fails = enclosed_fails alone (argument_by (expression_at c.args.parts)) token.RightParenthesis (length c.args.tokens.now - c.loop-turn._turn) (length c.args.tokens.now - (c.loop-turn._turn + 1)) (map argument_of c.loop-turn.arguments.items, c.loop-turn.depth) (from c.args.tokens.now c.loop-turn.at)
     (omega arith) _ c.in_err-next.ensures.reads in
     let p = err_from_is_err_and c.from_residual.result c.from_residual.ensures.1 in
     rw (p.1, p.2) (subst (Fails _) c.loop-turn.invariant.reads fails)
@@ -44,7 +48,7 @@ arguments-returns-in-Some-after_items-clause-reads t c =
     let behind = sym c.after_items.ensures ∙ ap (option_map (from c.args.tokens.now)) c.in-Some-after_items.is in
     let pushed = ap (map argument_of) c.in_ok-push.ensures.items ∙ map-append argument_of c.loop-turn.arguments.items (c.in_ok-next.next ∷ []) in
     sym c.loop-turn.invariant.reads
-    ∙ enclosed_last (argument_by (expression_at c.args.parts)) (length c.args.tokens.now - c.loop-turn._turn) (length c.args.tokens.now - (c.loop-turn._turn + 1)) (map argument_of c.loop-turn.arguments.items, c.loop-turn.depth) (from c.args.tokens.now c.loop-turn.at)
+    ∙ enclosed_last alone (argument_by (expression_at c.args.parts)) token.RightParenthesis (length c.args.tokens.now - c.loop-turn._turn) (length c.args.tokens.now - (c.loop-turn._turn + 1)) (map argument_of c.loop-turn.arguments.items, c.loop-turn.depth) (from c.args.tokens.now c.loop-turn.at)
     (omega arith) _ _ _ c.in_ok-next.ensures.reads _ _ pushed c.max-depth.ensures _ behind
 
 pub arguments-returns-in_default-after-clause-reads : goal.arguments-returns-in_default-after-clause-reads
@@ -52,7 +56,7 @@ arguments-returns-in_default-after-clause-reads t c =
     let behind = sym c.after_items.ensures ∙ ap (option_map (from c.args.tokens.now)) c.in_default-after_items.is in
     let next = sym c.after-in-loop-turn.ensures ∙ ap (option_map (from c.args.tokens.now)) c.in_default-after.is in
     sym c.loop-turn.invariant.reads
-    ∙ enclosed_stuck (argument_by (expression_at c.args.parts)) (length c.args.tokens.now - c.loop-turn._turn) (length c.args.tokens.now - (c.loop-turn._turn + 1)) (map argument_of c.loop-turn.arguments.items, c.loop-turn.depth) (from c.args.tokens.now c.loop-turn.at)
+    ∙ enclosed_stuck alone (argument_by (expression_at c.args.parts)) token.RightParenthesis (length c.args.tokens.now - c.loop-turn._turn) (length c.args.tokens.now - (c.loop-turn._turn + 1)) (map argument_of c.loop-turn.arguments.items, c.loop-turn.depth) (from c.args.tokens.now c.loop-turn.at)
     (omega arith) _ _ _ c.in_ok-next.ensures.reads behind next
 
 pub arguments-loop-turn-preserved : goal.arguments-loop-turn-preserved
@@ -62,24 +66,24 @@ arguments-loop-turn-preserved t c =
     let pushed = ap (map argument_of) c.in_ok-push.ensures.items ∙ map-append argument_of c.loop-turn.arguments.items (c.in_ok-next.next ∷ []) in
     record {
       shallow = omega (arith, c.in_ok-next.ensures.shallow);
-      reads = enclosed_on (argument_by (expression_at c.args.parts)) (length c.args.tokens.now - c.loop-turn._turn) (length c.args.tokens.now - (c.loop-turn._turn + 1)) (map argument_of c.loop-turn.arguments.items, c.loop-turn.depth) (from c.args.tokens.now c.loop-turn.at)
+      reads = enclosed_on alone (argument_by (expression_at c.args.parts)) token.RightParenthesis (length c.args.tokens.now - c.loop-turn._turn) (length c.args.tokens.now - (c.loop-turn._turn + 1)) (map argument_of c.loop-turn.arguments.items, c.loop-turn.depth) (from c.args.tokens.now c.loop-turn.at)
           (omega arith) _ _ _ c.in_ok-next.ensures.reads _ _ pushed c.max-depth.ensures _ behind next
           ∙ c.loop-turn.invariant.reads;
     }
 
 pub items-returns-in_err-next-clause-reads : goal.items-returns-in_err-next-clause-reads
 items-returns-in_err-next-clause-reads t c =
-    let fails = enclosed_fails (expression_at c.args.parts 1) (length c.args.tokens.now - c.loop-turn._turn) (length c.args.tokens.now - (c.loop-turn._turn + 1)) (map expr_of c.loop-turn.values.items, c.loop-turn.depth) (from c.args.tokens.now c.loop-turn.at)
+    let fails = enclosed_fails alone (expression_at c.args.parts 1) (symbol_of c.args.bracket) (length c.args.tokens.now - c.loop-turn._turn) (length c.args.tokens.now - (c.loop-turn._turn + 1)) (map expr_of c.loop-turn.values.items, c.loop-turn.depth) (from c.args.tokens.now c.loop-turn.at)
     (omega arith) _ c.in_err-next.ensures.reads in
-    let p = err_from_is_err_and c.from_residual-in_err-next.result c.from_residual-in_err-next.ensures.1 in
+    let p = err_from_is_err_and c.from_residual.result c.from_residual.ensures.1 in
     rw (p.1, p.2) (subst (Fails _) c.loop-turn.invariant.reads fails)
 
 pub items-returns-in-Some-after_items-clause-reads : goal.items-returns-in-Some-after_items-clause-reads
 items-returns-in-Some-after_items-clause-reads t c =
     let behind = sym c.after_items.ensures ∙ ap (option_map (from c.args.tokens.now)) c.in-Some-after_items.is in
-    let pushed = ap (map expr_of) c.in_ok-push-2.ensures.items ∙ map-append expr_of c.loop-turn.values.items (c.in_ok-next.next ∷ []) in
+    let pushed = ap (map expr_of) c.in_ok-push.ensures.items ∙ map-append expr_of c.loop-turn.values.items (c.in_ok-next.next ∷ []) in
     sym c.loop-turn.invariant.reads
-    ∙ enclosed_last (expression_at c.args.parts 1) (length c.args.tokens.now - c.loop-turn._turn) (length c.args.tokens.now - (c.loop-turn._turn + 1)) (map expr_of c.loop-turn.values.items, c.loop-turn.depth) (from c.args.tokens.now c.loop-turn.at)
+    ∙ enclosed_last alone (expression_at c.args.parts 1) (symbol_of c.args.bracket) (length c.args.tokens.now - c.loop-turn._turn) (length c.args.tokens.now - (c.loop-turn._turn + 1)) (map expr_of c.loop-turn.values.items, c.loop-turn.depth) (from c.args.tokens.now c.loop-turn.at)
     (omega arith) _ _ _ c.in_ok-next.ensures.reads _ _ pushed c.max-depth.ensures _ behind
 
 pub items-returns-in_default-after-clause-reads : goal.items-returns-in_default-after-clause-reads
@@ -87,18 +91,57 @@ items-returns-in_default-after-clause-reads t c =
     let behind = sym c.after_items.ensures ∙ ap (option_map (from c.args.tokens.now)) c.in_default-after_items.is in
     let next = sym c.after-in-loop-turn.ensures ∙ ap (option_map (from c.args.tokens.now)) c.in_default-after.is in
     sym c.loop-turn.invariant.reads
-    ∙ enclosed_stuck (expression_at c.args.parts 1) (length c.args.tokens.now - c.loop-turn._turn) (length c.args.tokens.now - (c.loop-turn._turn + 1)) (map expr_of c.loop-turn.values.items, c.loop-turn.depth) (from c.args.tokens.now c.loop-turn.at)
+    ∙ enclosed_stuck alone (expression_at c.args.parts 1) (symbol_of c.args.bracket) (length c.args.tokens.now - c.loop-turn._turn) (length c.args.tokens.now - (c.loop-turn._turn + 1)) (map expr_of c.loop-turn.values.items, c.loop-turn.depth) (from c.args.tokens.now c.loop-turn.at)
     (omega arith) _ _ _ c.in_ok-next.ensures.reads behind next
 
 pub items-loop-turn-preserved : goal.items-loop-turn-preserved
 items-loop-turn-preserved t c =
     let behind = sym c.after_items.ensures ∙ ap (option_map (from c.args.tokens.now)) c.in_default-after_items.is in
     let next = sym c.after-in-loop-turn.ensures ∙ ap (option_map (from c.args.tokens.now)) c.in-Some-after.is in
-    let pushed = ap (map expr_of) c.in_ok-push-2.ensures.items ∙ map-append expr_of c.loop-turn.values.items (c.in_ok-next.next ∷ []) in
+    let pushed = ap (map expr_of) c.in_ok-push.ensures.items ∙ map-append expr_of c.loop-turn.values.items (c.in_ok-next.next ∷ []) in
     record {
       shallow = omega (arith, c.in_ok-next.ensures.shallow);
-      reads = enclosed_on (expression_at c.args.parts 1) (length c.args.tokens.now - c.loop-turn._turn) (length c.args.tokens.now - (c.loop-turn._turn + 1)) (map expr_of c.loop-turn.values.items, c.loop-turn.depth) (from c.args.tokens.now c.loop-turn.at)
+      reads = enclosed_on alone (expression_at c.args.parts 1) (symbol_of c.args.bracket) (length c.args.tokens.now - c.loop-turn._turn) (length c.args.tokens.now - (c.loop-turn._turn + 1)) (map expr_of c.loop-turn.values.items, c.loop-turn.depth) (from c.args.tokens.now c.loop-turn.at)
           (omega arith) _ _ _ c.in_ok-next.ensures.reads _ _ pushed c.max-depth.ensures _ behind next
+          ∙ c.loop-turn.invariant.reads;
+    }
+
+pub pairs-returns-in_err-key-clause-reads : goal.pairs-returns-in_err-key-clause-reads
+pairs-returns-in_err-key-clause-reads t c =
+    let fails = enclosed_fails both (pair_by (expression_at c.args.parts)) token.RightBrace (length c.args.tokens.now - c.loop-turn._turn) (length c.args.tokens.now - (c.loop-turn._turn + 1)) (map expr_of c.loop-turn.values.items, c.loop-turn.depth) (from c.args.tokens.now c.loop-turn.at)
+    (omega arith) _ c.in_err-key.ensures.reads in
+    let p = err_from_is_err_and c.from_residual.result c.from_residual.ensures.1 in
+    rw (p.1, p.2) (subst (Fails _) c.loop-turn.invariant.reads fails)
+
+pub pairs-returns-in-Some-after_items-clause-reads : goal.pairs-returns-in-Some-after_items-clause-reads
+pairs-returns-in-Some-after_items-clause-reads t c =
+    let behind = sym c.after_items.ensures ∙ ap (option_map (from c.args.tokens.now)) c.in-Some-after_items.is in
+    let first = ap (map expr_of) c.in_ok-push.ensures.items ∙ map-append expr_of c.loop-turn.values.items (c.in_ok-key.key ∷ []) in
+    let pushed = ap (map expr_of) c.in_ok-push-2.ensures.items ∙ map-append expr_of c.push.new.self.items (c.in_ok-key.value ∷ []) ∙ ap (λ l. l ++ expr_of c.in_ok-key.value ∷ []) first
+    ∙ append_assoc (map expr_of c.loop-turn.values.items) (expr_of c.in_ok-key.key ∷ []) (expr_of c.in_ok-key.value ∷ []) in
+    sym c.loop-turn.invariant.reads
+    ∙ enclosed_last both (pair_by (expression_at c.args.parts)) token.RightBrace (length c.args.tokens.now - c.loop-turn._turn) (length c.args.tokens.now - (c.loop-turn._turn + 1)) (map expr_of c.loop-turn.values.items, c.loop-turn.depth) (from c.args.tokens.now c.loop-turn.at)
+    (omega arith) _ _ _ c.in_ok-key.ensures.reads _ _ pushed c.max-depth.ensures _ behind
+
+pub pairs-returns-in_default-after-clause-reads : goal.pairs-returns-in_default-after-clause-reads
+pairs-returns-in_default-after-clause-reads t c =
+    let behind = sym c.after_items.ensures ∙ ap (option_map (from c.args.tokens.now)) c.in_default-after_items.is in
+    let next = sym c.after-in-loop-turn.ensures ∙ ap (option_map (from c.args.tokens.now)) c.in_default-after.is in
+    sym c.loop-turn.invariant.reads
+    ∙ enclosed_stuck both (pair_by (expression_at c.args.parts)) token.RightBrace (length c.args.tokens.now - c.loop-turn._turn) (length c.args.tokens.now - (c.loop-turn._turn + 1)) (map expr_of c.loop-turn.values.items, c.loop-turn.depth) (from c.args.tokens.now c.loop-turn.at)
+    (omega arith) _ _ _ c.in_ok-key.ensures.reads behind next
+
+pub pairs-loop-turn-preserved : goal.pairs-loop-turn-preserved
+pairs-loop-turn-preserved t c =
+    let behind = sym c.after_items.ensures ∙ ap (option_map (from c.args.tokens.now)) c.in_default-after_items.is in
+    let next = sym c.after-in-loop-turn.ensures ∙ ap (option_map (from c.args.tokens.now)) c.in-Some-after.is in
+    let first = ap (map expr_of) c.in_ok-push.ensures.items ∙ map-append expr_of c.loop-turn.values.items (c.in_ok-key.key ∷ []) in
+    let pushed = ap (map expr_of) c.in_ok-push-2.ensures.items ∙ map-append expr_of c.push.new.self.items (c.in_ok-key.value ∷ []) ∙ ap (λ l. l ++ expr_of c.in_ok-key.value ∷ []) first
+    ∙ append_assoc (map expr_of c.loop-turn.values.items) (expr_of c.in_ok-key.key ∷ []) (expr_of c.in_ok-key.value ∷ []) in
+    record {
+      shallow = omega (arith, c.in_ok-key.ensures.shallow);
+      reads = enclosed_on both (pair_by (expression_at c.args.parts)) token.RightBrace (length c.args.tokens.now - c.loop-turn._turn) (length c.args.tokens.now - (c.loop-turn._turn + 1)) (map expr_of c.loop-turn.values.items, c.loop-turn.depth) (from c.args.tokens.now c.loop-turn.at)
+          (omega arith) _ _ _ c.in_ok-key.ensures.reads _ _ pushed c.max-depth.ensures _ behind next
           ∙ c.loop-turn.invariant.reads;
     }
 

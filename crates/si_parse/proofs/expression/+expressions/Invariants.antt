@@ -1,7 +1,11 @@
 use Rattle.std.proofs.Common.{◌≡◌, ◌+◌, ◌-◌, ◌*◌, ◌≤◌, length, map}
+use Rattle.si_semantics.specs.Tokens as token
 use Rattle.si_semantics.specs.Grammar.{item_level}
+use Rattle.si_token.specs.Views.{symbol_of}
 use Rattle.si_syntax.specs.Trees.{expr_of, link_of}
-use Rattle.si_parse.specs.inner.Reading.{continued_by, arguments_by, items_by, operands_by, links_by, enclosed_by, chain_by, with_word, after_boolean, comparison_at, compared_by, argument_by, expression_at}
+use Rattle.si_parse.specs.inner.Lookahead.{after_boolean}
+use Rattle.si_parse.specs.inner.Lists.{enclosed_by, chain_by, alone}
+use Rattle.si_parse.specs.inner.Expressions.{continued_by, arguments_by, items_by, operands_by, links_by, with_word, comparison_at, compared_by, argument_by, expression_at, both, pair_by, pairs_by}
 use Rattle.si_parse.specs.inner.Gives.{from, argument_of}
 use Rattle.si_parse.proofs.expression.+expressions.Given as goal
 
@@ -48,16 +52,28 @@ abbrev pub decreases-compared : goal.decreases-compared
 decreases-compared l = 8 * l.parts + 3
 
 abbrev pub decreases-operand : goal.decreases-operand
-decreases-operand l = 8 * l.parts + 4
+decreases-operand l = 8 * l.parts + 5
 
 abbrev pub decreases-atom : goal.decreases-atom
-decreases-atom l = 8 * l.parts + 3
+decreases-atom l = 8 * l.parts + 4
 
 abbrev pub decreases-unary : goal.decreases-unary
-decreases-unary l = 8 * l.parts + 2
+decreases-unary l = 8 * l.parts + 3
 
 abbrev pub decreases-bracketed : goal.decreases-bracketed
-decreases-bracketed l = 8 * l.parts + 2
+decreases-bracketed l = 8 * l.parts + 3
+
+abbrev pub decreases-list : goal.decreases-list
+decreases-list l = 8 * l.parts + 3
+
+abbrev pub decreases-dict : goal.decreases-dict
+decreases-dict l = 8 * l.parts + 3
+
+abbrev pub decreases-pairs : goal.decreases-pairs
+decreases-pairs l = 8 * l.parts + 2
+
+abbrev pub decreases-pair : goal.decreases-pair
+decreases-pair l = 8 * l.parts + 1
 
 abbrev pub decreases-items : goal.decreases-items
 decreases-items l = 8 * l.parts + 1
@@ -72,15 +88,22 @@ invariant-continued-loop-turn l = record {
 abbrev pub invariant-arguments-loop-turn : goal.invariant-arguments-loop-turn
 invariant-arguments-loop-turn l = record {
   shallow : l.depth ≤ l.parts;
-  reads : enclosed_by (argument_by (expression_at l.parts)) (length l.tokens - l._turn) (map argument_of l.arguments.items, l.depth) (from l.tokens l.at)
+  reads : enclosed_by alone (argument_by (expression_at l.parts)) token.RightParenthesis (length l.tokens - l._turn) (map argument_of l.arguments.items, l.depth) (from l.tokens l.at)
       ≡ arguments_by (expression_at l.parts) (from l.tokens l.start);
 }
 
 abbrev pub invariant-items-loop-turn : goal.invariant-items-loop-turn
 invariant-items-loop-turn l = record {
   shallow : l.depth ≤ l.parts;
-  reads : enclosed_by (expression_at l.parts 1) (length l.tokens - l._turn) (map expr_of l.values.items, l.depth) (from l.tokens l.at)
-      ≡ items_by (expression_at l.parts) (expr_of l.fn.first) l.first_depth (from l.tokens l.start);
+  reads : enclosed_by alone (expression_at l.parts 1) (symbol_of l.bracket) (length l.tokens - l._turn) (map expr_of l.values.items, l.depth) (from l.tokens l.at)
+      ≡ items_by (expression_at l.parts) (symbol_of l.bracket) (map expr_of l.fn.before.items, l.before_depth) (from l.tokens l.start);
+}
+
+abbrev pub invariant-pairs-loop-turn : goal.invariant-pairs-loop-turn
+invariant-pairs-loop-turn l = record {
+  shallow : l.depth ≤ l.parts;
+  reads : enclosed_by both (pair_by (expression_at l.parts)) token.RightBrace (length l.tokens - l._turn) (map expr_of l.values.items, l.depth) (from l.tokens l.at)
+      ≡ pairs_by (expression_at l.parts) (from l.tokens l.start);
 }
 
 abbrev pub invariant-operands-loop-turn : goal.invariant-operands-loop-turn

@@ -1,5 +1,5 @@
 use Rattle.std.proofs.Common.{◌+◌, sym, ap, ◌∙◌}
-use Rattle.si_parse.specs.inner.Reading.{strings_by}
+use Rattle.si_parse.specs.inner.Expressions.{strings_by}
 use Rattle.si_parse.specs.inner.Gives.{from}
 use Rattle.si_parse.proofs.Strings.{strings_on}
 use Rattle.si_parse.proofs.expression.strings.Goals as goal

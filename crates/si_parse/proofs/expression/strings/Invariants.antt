@@ -1,5 +1,5 @@
 use Rattle.std.proofs.Common.{◌≡◌, []}
-use Rattle.si_parse.specs.inner.Reading.{strings_by}
+use Rattle.si_parse.specs.inner.Expressions.{strings_by}
 use Rattle.si_parse.specs.inner.Gives.{from}
 use Rattle.si_parse.proofs.expression.strings.Given as goal
 

@@ -4,7 +4,8 @@ use Rattle.std.proofs.lemmas.List.{map-append}
 use Rattle.std.specs.Prelude.{option_map}
 use Rattle.si_semantics.specs.Grammar.{max_depth}
 use Rattle.si_syntax.specs.Trees.{expr_of}
-use Rattle.si_parse.specs.inner.Reading.{item_follows, after_comma, expression_at}
+use Rattle.si_parse.specs.inner.Expressions.{expression_at}
+use Rattle.si_parse.specs.inner.Unbracketed.{item_follows, after_comma}
 use Rattle.si_parse.specs.inner.Gives.{Fails, from}
 use Rattle.si_parse.proofs.Turns.{chain_ends, chain_next, chain_fails}
 use Rattle.si_parse.proofs.expressions.further.Goals as goal
@@ -17,7 +18,7 @@ returns-in_default-clause-reads c =
 pub returns-in_err-next-clause-reads : goal.returns-in_err-next-clause-reads
 returns-in_err-next-clause-reads c =
     let next = sym c.after_comma.ensures ∙ ap (option_map (from c.args.tokens.now)) c.in-Some.is in
-    let fails = chain_fails (λ o e. e) (λ ts. item_follows (after_comma ts)) (λ o. expression_at max_depth 1)
+    let fails = chain_fails (λ o e. e) (λ ts. item_follows (after_comma ts)) (λ o. expression_at max_depth c.args.level)
     (length c.args.tokens.now - c.loop-turn._turn) (map expr_of c.loop-turn.items.items, c.loop-turn.depth) (from c.args.tokens.now c.loop-turn.at) (length c.args.tokens.now - (c.loop-turn._turn + 1)) (omega arith) _ (from c.args.tokens.now c.in-Some.behind)
     (ap item_follows next) _ c.in_err-next.ensures.reads in
     let p = err_from_is_err_and c.from_residual-in_err-next.result c.from_residual-in_err-next.ensures.1 in
@@ -29,7 +30,7 @@ loop-turn-preserved c =
     let pushed = ap (map expr_of) c.in_ok-push-2.ensures.items ∙ map-append expr_of c.loop-turn.items.items (c.in_ok-next.next ∷ []) in
     record {
       shallow = omega (arith, c.in_ok-next.ensures.shallow);
-      reads = chain_next (λ o e. e) (λ ts. item_follows (after_comma ts)) (λ o. expression_at max_depth 1)
+      reads = chain_next (λ o e. e) (λ ts. item_follows (after_comma ts)) (λ o. expression_at max_depth c.args.level)
           (length c.args.tokens.now - c.loop-turn._turn) (map expr_of c.loop-turn.items.items, c.loop-turn.depth) (from c.args.tokens.now c.loop-turn.at) (length c.args.tokens.now - (c.loop-turn._turn + 1)) (omega arith) _ (from c.args.tokens.now c.in-Some.behind)
           (ap item_follows next) _ _ _ c.in_ok-next.ensures.reads _ _ pushed c.max-depth.ensures
           ∙ c.loop-turn.invariant.reads;

@@ -4,7 +4,9 @@ use Rattle.std.proofs.lemmas.Result.{err_from_is_err_and}
 use Rattle.std.proofs.lemmas.List.{map-append}
 use Rattle.si_semantics.specs.Tokens as token
 use Rattle.si_semantics.specs.Grammar.{Sign}
-use Rattle.si_parse.specs.inner.Reading.{name_at, with_parameter, separated_by, after}
+use Rattle.si_parse.specs.inner.Lookahead.{after}
+use Rattle.si_parse.specs.inner.Lists.{separated_by}
+use Rattle.si_parse.specs.inner.Names.{name_at, with_parameter}
 use Rattle.si_parse.specs.inner.Gives.{Fails, from}
 use Rattle.si_parse.proofs.Turns.{separated_fails, separated_last, separated_on, separated_stuck}
 use Rattle.si_parse.proofs.name.listed.Goals as goal

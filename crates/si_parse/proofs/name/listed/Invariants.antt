@@ -1,7 +1,9 @@
 use Rattle.std.proofs.Common.{◌≡◌, ◌-◌, length, map, string_bytes}
 use Rattle.si_semantics.specs.Tokens as token
 use Rattle.si_semantics.specs.Grammar.{Sign}
-use Rattle.si_parse.specs.inner.Reading.{separated_by, with_parameter, name_at, listed_by, after}
+use Rattle.si_parse.specs.inner.Lookahead.{after}
+use Rattle.si_parse.specs.inner.Lists.{separated_by}
+use Rattle.si_parse.specs.inner.Names.{with_parameter, name_at, listed_by}
 use Rattle.si_parse.specs.inner.Gives.{from}
 use Rattle.si_parse.proofs.name.listed.Given as goal
 

@@ -1,7 +1,8 @@
 use Rattle.std.proofs.Common.{◌+◌, ◌-◌, [], ◌∷◌, length, sym, ◌∙◌, ap, map, string_bytes, arith}
 use Rattle.std.specs.Prelude.{option_map}
 use Rattle.std.proofs.lemmas.List.{map-append}
-use Rattle.si_parse.specs.inner.Reading.{many_by, next_name_by, no_comma, is_none}
+use Rattle.si_parse.specs.inner.Lists.{many_by, is_none}
+use Rattle.si_parse.specs.inner.Names.{next_name_by, no_comma}
 use Rattle.si_parse.specs.inner.Gives.{from}
 use Rattle.si_parse.proofs.Turns.{many_on, next_name_read}
 use Rattle.si_parse.proofs.name.names.Goals as goal

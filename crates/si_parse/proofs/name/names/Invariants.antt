@@ -1,5 +1,6 @@
 use Rattle.std.proofs.Common.{◌≡◌, ◌-◌, length, map, string_bytes}
-use Rattle.si_parse.specs.inner.Reading.{many_by, next_name_by, no_comma, names_by}
+use Rattle.si_parse.specs.inner.Lists.{many_by}
+use Rattle.si_parse.specs.inner.Names.{next_name_by, no_comma, names_by}
 use Rattle.si_parse.specs.inner.Gives.{from}
 use Rattle.si_parse.proofs.name.names.Given as goal
 

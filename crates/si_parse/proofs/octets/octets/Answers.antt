@@ -1,5 +1,5 @@
 use Rattle.std.proofs.Common.{◌+◌, ◌++◌, sym, ap, ◌∙◌}
-use Rattle.si_parse.specs.inner.Reading.{octets_by}
+use Rattle.si_parse.specs.inner.Expressions.{octets_by}
 use Rattle.si_parse.specs.inner.Gives.{from}
 use Rattle.si_parse.proofs.ManyBytes.{octets_on}
 use Rattle.si_parse.proofs.octets.octets.Goals as goal

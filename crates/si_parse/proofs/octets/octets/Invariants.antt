@@ -1,5 +1,5 @@
 use Rattle.std.proofs.Common.{◌≡◌, []}
-use Rattle.si_parse.specs.inner.Reading.{octets_by}
+use Rattle.si_parse.specs.inner.Expressions.{octets_by}
 use Rattle.si_parse.specs.inner.Gives.{from}
 use Rattle.si_parse.proofs.octets.octets.Given as goal
 

@@ -5,7 +5,10 @@ use Rattle.std.proofs.lemmas.List.{map-append}
 use Rattle.si_semantics.specs.Tokens as token
 use Rattle.si_semantics.specs.Grammar.{max_depth, Sign, NEWLINE}
 use Rattle.si_syntax.specs.Trees.{stmt_of}
-use Rattle.si_parse.specs.inner.Reading.{expression_at, statement_by, with_statement, separated_by, after}
+use Rattle.si_parse.specs.inner.Lookahead.{after}
+use Rattle.si_parse.specs.inner.Lists.{separated_by}
+use Rattle.si_parse.specs.inner.Expressions.{expression_at}
+use Rattle.si_parse.specs.inner.Statements.{statement_by, with_statement}
 use Rattle.si_parse.specs.inner.Gives.{Fails, from}
 use Rattle.si_parse.proofs.Turns.{separated_fails, separated_last, separated_on, separated_stuck}
 use Rattle.si_parse.proofs.statement.line.Goals as goal

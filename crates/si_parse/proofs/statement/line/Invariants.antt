@@ -2,7 +2,10 @@ use Rattle.std.proofs.Common.{◌≡◌, ◌-◌, length, map}
 use Rattle.si_semantics.specs.Tokens as token
 use Rattle.si_semantics.specs.Grammar.{max_depth, Sign, NEWLINE}
 use Rattle.si_syntax.specs.Trees.{stmt_of}
-use Rattle.si_parse.specs.inner.Reading.{separated_by, with_statement, statement_by, expression_at, line_by, after}
+use Rattle.si_parse.specs.inner.Lookahead.{after}
+use Rattle.si_parse.specs.inner.Lists.{separated_by}
+use Rattle.si_parse.specs.inner.Expressions.{expression_at}
+use Rattle.si_parse.specs.inner.Statements.{with_statement, statement_by, line_by}
 use Rattle.si_parse.specs.inner.Gives.{from}
 use Rattle.si_parse.proofs.statement.line.Given as goal
 

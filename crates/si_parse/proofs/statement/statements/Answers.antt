@@ -1,7 +1,7 @@
 use Rattle.std.proofs.Common.{◌+◌, ◌-◌, length, sym, ◌∙◌, map, arith}
 use Rattle.si_semantics.specs.Grammar.{max_nesting}
 use Rattle.si_syntax.specs.Trees.{stmt_of}
-use Rattle.si_parse.specs.inner.Reading.{block_at, is_end}
+use Rattle.si_parse.specs.inner.Lines.{block_at, is_end}
 use Rattle.si_parse.specs.inner.Gives.{from}
 use Rattle.si_parse.proofs.Turns.{many_on}
 use Rattle.si_parse.proofs.statement.statements.Goals as goal

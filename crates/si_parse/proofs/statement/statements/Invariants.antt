@@ -1,7 +1,8 @@
 use Rattle.std.proofs.Common.{◌≡◌, ◌-◌, length, map}
 use Rattle.si_semantics.specs.Grammar.{max_nesting}
 use Rattle.si_syntax.specs.Trees.{stmt_of}
-use Rattle.si_parse.specs.inner.Reading.{many_by, block_at, is_end, module_by}
+use Rattle.si_parse.specs.inner.Lists.{many_by}
+use Rattle.si_parse.specs.inner.Lines.{block_at, is_end, module_by}
 use Rattle.si_parse.specs.inner.Gives.{from}
 use Rattle.si_parse.proofs.statement.statements.Given as goal
 

@@ -24,7 +24,7 @@ invariant_of-self-2 c =
     let values = subst (λ n. c.in-Some.size.values ≡ count_of (tuple_of (all_of n xs))) (sym own) c.in-Some.ensures.1 in
     let levels = subst (λ n. c.in-Some.size.levels ≡ levels_of (tuple_of (all_of n xs))) (sym own) c.in-Some.ensures.2 in
     let p = c.in_ok-place.ensures.ok in
-    rw (p.items, p.tuples) (tuple_kept _ _ _ _ _ _ c.self.invariant xs c.in-Some.size lie values levels)
+    rw (p.items, p.tuples) (tuple_kept _ _ _ _ _ _ _ c.self.invariant xs c.in-Some.size lie values levels)
 
 pub returns : goal.returns
 returns c =
@@ -35,4 +35,4 @@ returns c =
     let values = subst (λ n. c.in-Some.size.values ≡ count_of (tuple_of (all_of n xs))) (sym own) c.in-Some.ensures.1 in
     let levels = subst (λ n. c.in-Some.size.levels ≡ levels_of (tuple_of (all_of n xs))) (sym own) c.in-Some.ensures.2 in
     let p = c.in_ok-place.ensures.ok in
-    (c.in-Some.ensures.0, rw (p.items, p.tuples, ← c.self.view_is) (tuple_placed _ _ _ _ _ _ c.self.invariant xs c.in-Some.size lie values levels c.in_ok-place.place p.place))
+    (c.in-Some.ensures.0, rw (p.items, p.tuples, ← c.self.view_is) (tuple_placed _ _ _ _ _ _ _ c.self.invariant xs c.in-Some.size lie values levels c.in_ok-place.place p.place))

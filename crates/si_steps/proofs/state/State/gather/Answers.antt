@@ -1,4 +1,5 @@
-use Rattle.std.proofs.Common.{Ok, Err, take, subst}
+use Rattle.std.proofs.Common.{◌+◌, Ok, Err, take, subst}
+use Rattle.si_semantics.specs.Operations.{tuple_within}
 use Rattle.si_arena.specs.declared.cause.Cause.{Cause}
 use Rattle.si_arena.specs.declared.cause.Fault.{Fault}
 use Rattle.si_arena.specs.declared.cause.Fault.TheVariants.{Raises}
@@ -14,17 +15,17 @@ use Rattle.si_steps.proofs.Displayed.{items_there, items_lie, display_is, gather
 use Rattle.si_steps.proofs.state.State.gather.Goals as goal
 
 pub arguments-items-requires : goal.arguments-items-requires
-arguments-items-requires g c = items_there (target_of c.args.target) c.args.at c.args.count c.args.self.now g.p c.requires
+arguments-items-requires g c = items_there tuple_within (target_of c.args.target) c.args.at c.args.count (c.args.self.now.pc + 1) c.args.self.now g.p c.requires.at c.requires.open_line
 
 pub place_tuple-requires : goal.place_tuple-requires
-place_tuple-requires g c = items_lie (target_of c.args.target) c.args.at c.args.count c.args.self.now g.p c.arguments-items.result.now c.requires c.arguments-items.ensures
+place_tuple-requires g c = items_lie tuple_within (target_of c.args.target) c.args.at c.args.count (c.args.self.now.pc + 1) c.args.self.now g.p c.arguments-items.result.now c.requires.at c.requires.open_line c.arguments-items.ensures
 
 pub returns-in-Ok : goal.returns-in-Ok
 returns-in-Ok g c =
     let s = c.args.self.now in
     let rs = c.arguments-items.result.now in
     let runs = placed_runs (all_of s.arena rs) s.arena c.place_tuple.new.self (Ok c.in-Ok.tuple) c.in-Ok.ensures in
-    alike _ _ g.p s c.put.new.self c.put.result (display_is (target_of c.args.target) c.args.at c.args.count s g.p rs c.requires c.arguments-items.ensures)
+    alike _ _ g.p s c.put.new.self c.put.result (display_is tuple_within (target_of c.args.target) c.args.at c.args.count (s.pc + 1) s g.p rs c.requires.at c.requires.open_line c.arguments-items.ensures)
     (given_anew c.args.target (gathered s rs) c.in-Ok.tuple g.p (take c.args.at g.p.ts) s c.put.new.self c.place_tuple.new.self c.put.result c.requires.at c.requires.running
     (keeps_fewer s.arena s.frames.temporaries g.p.ts c.args.at c.requires.at.0.temporaries) runs c.put.ensures)
 
@@ -38,5 +39,5 @@ returns-in-Err-Raises g c =
     let runs = placed_runs (all_of s.arena rs) s.arena m (Err (Raises k.cause)) placed in
     let mid : State = record s { arena = m } in
     let did = subst (λ (a : Cause). Did (raised_line a mid g.p) g.p mid c.raise.new.self c.raise.result) k.cause-is c.raise.ensures in
-    alike _ _ g.p s c.raise.new.self c.raise.result (display_is (target_of c.args.target) c.args.at c.args.count s g.p rs c.requires c.arguments-items.ensures)
+    alike _ _ g.p s c.raise.new.self c.raise.result (display_is tuple_within (target_of c.args.target) c.args.at c.args.count (s.pc + 1) s g.p rs c.requires.at c.requires.open_line c.arguments-items.ensures)
     (thrown_over (target_of c.args.target) (gathered s rs) k.cause g.p (take c.args.at g.p.ts) s c.raise.new.self m c.raise.result c.requires.at runs.0 runs.1 did)

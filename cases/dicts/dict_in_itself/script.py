@@ -1,0 +1,3 @@
+d = {}; d[1] = d; d['l'] = [d]
+print(d)
+print([d])

@@ -1,0 +1,4 @@
+-- What stands between code and definitions: devices of the proofs, which a reader need not believe.
+pub mod Words
+pub mod Keys
+pub mod Changes

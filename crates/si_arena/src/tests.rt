@@ -1,0 +1,164 @@
+// Lists and dicts, as a host of scripts would use them.
+
+ghost use Rattle.std.specs.Prelude.{◌<◌, length};
+
+use crate::{Arena, Contents, Ref};
+use std::test::Fail;
+
+// Whether the items of the list at an address are these integers.
+fn shows(arena: &Arena, address: usize, wanted: &[i64]) -> bool
+    requires { address < length arena.now.store }
+{
+    match arena.list(address) {
+        Some(items) => are_integers(items, wanted),
+        None => false,
+    }
+}
+
+fn are_integers(items: &[Ref], wanted: &[i64]) -> bool {
+    if items.len() != wanted.len() {
+        return false;
+    }
+    for i in 0..items.len() {
+        let same = match items[i] {
+            Ref::Int(n) => n == wanted[i],
+            _ => false,
+        };
+        if !same {
+            return false;
+        }
+    }
+    true
+}
+
+// Whether the keys of the dict at an address are these integers, in this order, and so its values.
+fn has_pairs(arena: &Arena, address: usize, keys: &[i64], values: &[i64]) -> bool
+    requires { address < length arena.now.store }
+{
+    match arena.object(address) {
+        Contents::Dict(dict) => {
+            if dict.len() != keys.len() || dict.len() != values.len() {
+                return false;
+            }
+            for i in 0..dict.len() {
+                let pair = dict.pair(i);
+                if !are_integers(&[pair.key, pair.value], &[keys[i], values[i]]) {
+                    return false;
+                }
+            }
+            true
+        }
+        _ => false,
+    }
+}
+
+#[test]
+fn a_list_grows_by_itself(rt: HostRuntime) -> Result<(), Fail> {
+    let mut arena = Arena::new(rt.alloc());
+    let _list = arena.make_list_of(&[Ref::Int(1), Ref::Int(2)])?;
+    arena.append(0, Ref::Int(3))?;
+    arena.extend_from(0, Ref::Object(0))?;
+    assert!(rt; shows(&arena, 0, &[1, 2, 3, 1, 2, 3]));
+    Ok(())
+}
+
+#[test]
+fn an_item_is_changed_and_taken(rt: HostRuntime) -> Result<(), Fail> {
+    let mut arena = Arena::new(rt.alloc());
+    let _list = arena.make_list_of(&[Ref::Int(5), Ref::Int(6), Ref::Int(7)])?;
+    arena.set_item(0, 2, Ref::Int(8));
+    assert!(rt; matches!(arena.remove_item(0, 0), Ref::Int(5)));
+    assert!(rt; shows(&arena, 0, &[6, 8]));
+    Ok(())
+}
+
+#[test]
+fn two_lists_are_two(rt: HostRuntime) -> Result<(), Fail> {
+    let mut arena = Arena::new(rt.alloc());
+    let row = Vec::from_slice(rt.alloc(), &[Ref::Int(1)])?;
+    let _first = arena.make_list(row)?;
+    let second = arena.make_list_of(&[Ref::Int(1)])?;
+    assert!(rt; matches!(second, Ref::Object(1)));
+    arena.extend(1, &[Ref::Int(2), Ref::Int(3)])?;
+    assert!(rt; shows(&arena, 0, &[1]));
+    assert!(rt; shows(&arena, 1, &[1, 2, 3]));
+    Ok(())
+}
+
+#[test]
+fn a_dict_keeps_the_order_of_its_keys(rt: HostRuntime) -> Result<(), Fail> {
+    let mut arena = Arena::new(rt.alloc());
+    let operands = [Ref::Int(3), Ref::Int(30), Ref::Int(1), Ref::Int(10)];
+    let _dict = arena.make_dict(&operands)?;
+    assert!(rt; has_pairs(&arena, 0, &[3, 1], &[30, 10]));
+    Ok(())
+}
+
+#[test]
+fn a_later_value_keeps_the_place_of_its_key(rt: HostRuntime) -> Result<(), Fail> {
+    let mut arena = Arena::new(rt.alloc());
+    let operands = [
+        Ref::Int(3),
+        Ref::Int(30),
+        Ref::Int(1),
+        Ref::Int(10),
+        Ref::Int(3),
+        Ref::Int(33),
+    ];
+    let _dict = arena.make_dict(&operands)?;
+    assert!(rt; has_pairs(&arena, 0, &[3, 1], &[33, 10]));
+    Ok(())
+}
+
+// Keys of each form of a text: in the value itself, of one byte a character, and wide.
+#[test]
+fn texts_are_keys_by_their_characters(rt: HostRuntime) -> Result<(), Fail> {
+    let mut arena = Arena::new(rt.alloc());
+    for text in [
+        "a",
+        "a name of more than fourteen",
+        "5 \u{20ac} for a caf\u{e9}",
+    ] {
+        let Ok(key) = arena.place_text(text) else {
+            return Ok(());
+        };
+        let address = match arena.make_dict(&[key, Ref::Int(5)])? {
+            Some(Ref::Object(address)) => address,
+            _ => return Ok(()),
+        };
+        let Ok(again) = arena.place_text(text) else {
+            return Ok(());
+        };
+        let found = match arena.find(address, again) {
+            Some(Ref::Int(n)) => n == 5,
+            _ => false,
+        };
+        assert!(rt; found);
+        let Ok(other) = arena.place_text("another name of more than fourteen") else {
+            return Ok(());
+        };
+        assert!(rt; arena.find(address, other).is_none());
+    }
+    Ok(())
+}
+
+#[test]
+fn what_is_no_key_makes_no_dict(rt: HostRuntime) -> Result<(), Fail> {
+    let mut arena = Arena::new(rt.alloc());
+    assert!(rt; arena.make_dict(&[Ref::Truth(true), Ref::Int(1)])?.is_none());
+    let dict = arena.make_dict(&[Ref::Int(1), Ref::Int(1)])?;
+    assert!(rt; matches!(dict, Some(Ref::Object(0))));
+    assert!(rt; arena.find(0, Ref::Truth(true)).is_none());
+    Ok(())
+}
+
+#[test]
+fn a_key_is_set_and_taken(rt: HostRuntime) -> Result<(), Fail> {
+    let mut arena = Arena::new(rt.alloc());
+    let _dict = arena.make_dict(&[Ref::Int(1), Ref::Int(10), Ref::Int(2), Ref::Int(20)])?;
+    arena.set_pair(0, Ref::Int(3), Ref::Int(30))?;
+    assert!(rt; matches!(arena.remove_pair(0, Ref::Int(1)), Some(Ref::Int(10))));
+    assert!(rt; arena.remove_pair(0, Ref::Int(1)).is_none());
+    assert!(rt; has_pairs(&arena, 0, &[2, 3], &[20, 30]));
+    Ok(())
+}

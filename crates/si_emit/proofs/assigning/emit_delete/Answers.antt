@@ -1,0 +1,6 @@
+use Rattle.std.proofs.lemmas.Result.{on_ok_weaker}
+use Rattle.si_slots.specs.Machine as machine
+use Rattle.si_emit.proofs.assigning.emit_delete.Goals as goal
+
+pub returns-clause-ok : goal.returns-clause-ok
+returns-clause-ok c = on_ok_weaker c.put.result (λ h. c.in_ok-object.ensures.ok (λ s t. machine.DeleteItem s t) c.put.new.self h) c.put.ensures.ok

@@ -1,0 +1,16 @@
+-- To set an item by one instruction. Devices of the proofs: si_slots/specs/Code.antt says what the code of an assignment is.
+use Rattle.std.specs.Prelude.{List, [], ◌∷◌, Option, Some, None}
+use Rattle.si_slots.specs.Machine as machine
+use Rattle.si_slots.specs.Machine.{Source, Instr}
+
+-- the instruction, where the value, the object and the index are in place
+abbrev pub stored : (value object index : Option Source) → Option Instr
+stored (Some a) (Some b) (Some c) = Some (machine.StoreItem a b c)
+stored (Some a) (Some b) None = None
+stored (Some a) None o = None
+stored None o p = None
+
+-- an instruction, where there is one, or else this code
+abbrev pub one_or : Option Instr → List Instr → List Instr
+one_or (Some i) code = i ∷ []
+one_or None code = code

@@ -1,0 +1,141 @@
+// The code of assignments, and of `del`.
+ghost use Rattle.std.specs.Prelude.{◌≡◌, ◌+◌, ◌<◌, [], ◌∷◌, ◌++◌, length, IfSome, MatchOption, OnOk};
+ghost use Rattle.std.specs.Option.{option_map};
+ghost use Rattle.si_semantics.specs.Tree as tree;
+ghost use Rattle.si_syntax.specs.Trees.{expr_of, index_of, object_of, target_of, targets_of};
+ghost use Rattle.si_slots.specs.Code.{assign_all_code, assign_target_code, delete_code, in_place};
+ghost use Rattle.si_slots.specs.Contents.{Extends, FullResolves};
+ghost use Rattle.si_slots.specs.Views.{Gains, Words, full_of, locals_now};
+ghost use Rattle.si_emit.specs.inner.Stores.{stored};
+
+use crate::expression::{emit_expr, emit_operand};
+use crate::naming::bind_value;
+use crate::operand::operand_of;
+use crate::targets::{emit_item, emit_store, emit_target, emit_unpack};
+use si_plain::{Names, NoMemory};
+use si_slots::{CodeTable, FullInstr, Source};
+use si_syntax::{Assign, Expr, Item, Target};
+
+/// Each of some targets is bound to the value of an expression.
+pub(crate) fn emit_assign(
+    table: &mut CodeTable,
+    locals: &Names,
+    statement: &Assign,
+) -> Result<(), NoMemory>
+    requires { locals_now table.old ≡ locals.now }
+    ensures ok { OnOk result (Gains table.old table.new (assign_all_code locals.now (targets_of statement.now.targets.items) (expr_of statement.now.value))) }
+    ensures extends { Extends table.old table.new }
+{
+    match last_of(&statement.targets) {
+        Some((last, others)) => {
+            if others.is_empty() {
+                return assign_one(table, locals, last, &statement.value);
+            }
+            assign_each(table, locals, others, last, &statement.value)
+        }
+        None => emit_expr(
+            table,
+            locals,
+            0,
+            si_slots::Target::Nowhere,
+            &statement.value,
+        ),
+    }
+}
+
+// The last of some targets, and those in front of it.
+fn last_of(targets: &[Target]) -> Option<(&Target, &[Target])>
+    ensures { MatchOption result (targets.now ≡ []) (λ row. targets.now ≡ row.1.now ++ row.0.now ∷ []) }
+{
+    let (last, others) = targets.split_last()?;
+    Some((last, others))
+}
+
+// Two targets or more are bound to the value of an expression, from the left. It lies in the first temporary, of which each
+// but the last gets a copy.
+fn assign_each(
+    table: &mut CodeTable,
+    locals: &Names,
+    others: &[Target],
+    last: &Target,
+    value: &Expr,
+) -> Result<(), NoMemory>
+    requires names { locals_now table.old ≡ locals.now }
+    requires some { 0 < length others.now }
+    ensures ok { OnOk result (Gains table.old table.new (assign_all_code locals.now (targets_of (others.now ++ last.now ∷ [])) (expr_of value.now))) }
+    ensures extends { Extends table.old table.new }
+{
+    emit_expr(table, locals, 0, si_slots::Target::Temporary(0), value)?;
+    for target in others {
+        let copy = si_slots::Target::Temporary(1);
+        table.put(FullInstr::Copy(copy, Source::Kept(0)))?;
+        emit_target(table, locals, 1, target)?;
+    }
+    emit_target(table, locals, 0, last)
+}
+
+// One target is bound to the value of an expression.
+fn assign_one(
+    table: &mut CodeTable,
+    locals: &Names,
+    target: &Target,
+    value: &Expr,
+) -> Result<(), NoMemory>
+    requires { locals_now table.old ≡ locals.now }
+    ensures ok { OnOk result (Gains table.old table.new (assign_target_code locals.now (target_of target.now) (expr_of value.now))) }
+    ensures extends { Extends table.old table.new }
+{
+    match target {
+        Target::Named(name) => bind_value(table, locals, name.as_str(), value),
+        Target::Item(item) => assign_item(table, locals, item, value),
+        Target::Unpack(targets) => {
+            let operand = emit_operand(table, locals, 0, true, value)?;
+            emit_unpack(table, locals, operand, 0, targets)
+        }
+    }
+}
+
+// An item is set to the value of an expression: by one instruction, where the value, the object and the index need none.
+fn assign_item(
+    table: &mut CodeTable,
+    locals: &Names,
+    item: &Item,
+    value: &Expr,
+) -> Result<(), NoMemory>
+    requires { locals_now table.old ≡ locals.now }
+    ensures ok { OnOk result (Gains table.old table.new (assign_target_code locals.now (tree.Item (object_of item.now) (index_of item.now)) (expr_of value.now))) }
+    ensures extends { Extends table.old table.new }
+{
+    match store_in_place(locals, item, value) {
+        Some(instr) => table.put(instr),
+        None => {
+            emit_expr(table, locals, 0, si_slots::Target::Temporary(0), value)?;
+            emit_store(table, locals, 0, item)
+        }
+    }
+}
+
+// The instruction that sets an item to the value of an expression, where the value, the object and the index need none.
+fn store_in_place(locals: &Names, item: &Item, value: &Expr) -> Option<FullInstr>
+    ensures is { (w : Words) → w.locals ≡ locals.now → option_map (full_of w) result ≡ stored (in_place locals.now (expr_of value.now)) (in_place locals.now (object_of item.now)) (in_place locals.now (index_of item.now)) }
+    ensures resolves { IfSome result (λ instr. FullResolves 0 0 instr) }
+{
+    let operand = operand_of(locals, value)?;
+    let object = operand_of(locals, &item.object)?;
+    let index = operand_of(locals, &item.index)?;
+    Some(FullInstr::StoreItem(operand, object, index))
+}
+
+/// An item is deleted.
+pub(crate) fn emit_delete(
+    table: &mut CodeTable,
+    locals: &Names,
+    item: &Item,
+) -> Result<(), NoMemory>
+    requires { locals_now table.old ≡ locals.now }
+    ensures ok { OnOk result (Gains table.old table.new (delete_code locals.now (object_of item.now) (index_of item.now))) }
+    ensures extends { Extends table.old table.new }
+{
+    let (object, index) = emit_item(table, locals, 0, item)?;
+    table.put(FullInstr::DeleteItem(object, index))
+}

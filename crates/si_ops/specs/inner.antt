@@ -1,0 +1,4 @@
+pub mod Written
+pub mod Equal
+pub mod Held
+pub mod Objects
