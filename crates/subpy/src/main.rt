@@ -10,6 +10,7 @@ mod tests;
 use si_cli::{
     CliFault, MAX_SCHEDULE_BYTES, Request, WordsFault, read_input, request, serve, serve_run,
 };
+use si_hints::hint;
 use si_plain::limits::MAX_FILE_BYTES;
 use si_workers::Gate;
 use std::alloc::AllocError;
@@ -53,14 +54,41 @@ fn tell<D: fmt::Display + Drop>(rt: &HostRuntime, message: D, status: u8) -> u8 
     status
 }
 
+/// The file at a path, which is there, may be read, and is no directory, or the status after telling what it is.
+fn opened(rt: &HostRuntime, source: &Source, path: &str, limit: u64) -> Result<File, u8> {
+    let file = match File::open(rt, path) {
+        Ok(file) => file,
+        Err(error) => {
+            let why = match error.kind() {
+                io::ErrorKind::NotFound => "there is no such file",
+                io::ErrorKind::PermissionDenied => "it may not be read",
+                _ => "it can't be opened",
+            };
+            return Err(tell(rt, format_args!("can't open {source}: {why}"), 2));
+        }
+    };
+    match file.metadata() {
+        Ok(about) if about.is_dir() => {
+            let message = format_args!("can't read {source}: it is a directory");
+            Err(tell(rt, message, 2))
+        }
+        Ok(about) if about.len() > limit => {
+            let size = about.len();
+            let message = format_args!("{source} has {size} bytes, and at most {limit} are read");
+            Err(tell(rt, message, 2))
+        }
+        _ => Ok(file),
+    }
+}
+
 /// All bytes of a file, at most `limit`, or the status after telling why there are none.
 fn bytes_of(rt: &HostRuntime, source: &Source, limit: u64) -> Result<Vec<u8>, u8> {
     let read = match source.0 {
         None => read_input(rt.alloc(), &mut rt.stdin(), limit),
-        Some(path) => match File::open(rt, path) {
-            Ok(mut file) => read_input(rt.alloc(), &mut file, limit),
-            Err(_) => return Err(tell(rt, format_args!("can't open {source}"), 2)),
-        },
+        Some(path) => {
+            let mut file = opened(rt, source, path, limit)?;
+            read_input(rt.alloc(), &mut file, limit)
+        }
     };
     match read {
         Ok(bytes) => Ok(bytes),
@@ -84,18 +112,33 @@ fn schedule_bytes(rt: &HostRuntime, request: &Request) -> Result<Vec<u8>, u8> {
     }
 }
 
-/// Tells why a request is not carried out, by the names of the files, and gives the program's status.
-fn tell_fault(rt: &HostRuntime, request: &Request, fault: CliFault) -> u8 {
-    let status = fault.status();
-    match fault {
-        CliFault::Script(line) => {
-            let source = Source(request.script());
+/// Tells where and why a script is refused, or in which line where nothing more is found, and gives the status, which is
+/// another one where memory is refused meanwhile.
+fn tell_script(rt: &HostRuntime, request: &Request, script: &[u8], line: usize, status: u8) -> u8 {
+    let source = Source(request.script());
+    match hint(rt.alloc(), script, line) {
+        Ok(Some(found)) => {
+            let (line, column, reason) = (found.line, found.column, found.reason);
             tell(
                 rt,
-                format_args!("{source}: line {line}: invalid syntax"),
+                format_args!("{source}:{line}:{column}: {reason}"),
                 status,
             )
         }
+        Ok(None) => tell(
+            rt,
+            format_args!("{source}: line {line}: invalid syntax"),
+            status,
+        ),
+        Err(_) => tell(rt, CliFault::NoMemory, CliFault::NoMemory.status()),
+    }
+}
+
+/// Tells why a request is not carried out, by the names of the files, and gives the program's status.
+fn tell_fault(rt: &HostRuntime, request: &Request, script: &[u8], fault: CliFault) -> u8 {
+    let status = fault.status();
+    match fault {
+        CliFault::Script(line) => tell_script(rt, request, script, line, status),
         CliFault::Schedule(line) => {
             let source = Source(request.schedule());
             tell(
@@ -134,7 +177,7 @@ fn carry_out_on<W: Write, T: Threads + Wait + Sync>(
     };
     match answer {
         Ok(status) => status,
-        Err(fault) => tell_fault(rt, request, fault),
+        Err(fault) => tell_fault(rt, request, script, fault),
     }
 }
 

@@ -1,0 +1,229 @@
+// Behind an operand.
+
+use crate::fault::Stop;
+use crate::form::{Form, Slip};
+use crate::level::Bracket;
+use crate::reason::Reason;
+use crate::shape::Shape;
+use crate::state::{Part, State};
+use crate::statement::form_of;
+use crate::walk::Walk;
+use si_token::{Keyword, Symbol, Token, TokenKind};
+
+// Whether a symbol is an operator of arithmetic between two operands.
+fn is_arithmetic(symbol: Symbol) -> bool {
+    matches!(
+        symbol,
+        Symbol::Plus
+            | Symbol::Minus
+            | Symbol::Star
+            | Symbol::DoubleStar
+            | Symbol::DoubleSlash
+            | Symbol::Percent
+            | Symbol::Ampersand
+            | Symbol::Bar
+            | Symbol::Caret
+            | Symbol::LeftShift
+            | Symbol::RightShift
+    )
+}
+
+// Whether a symbol compares.
+fn is_comparison(symbol: Symbol) -> bool {
+    matches!(
+        symbol,
+        Symbol::Less
+            | Symbol::Greater
+            | Symbol::LessEqual
+            | Symbol::GreaterEqual
+            | Symbol::EqualEqual
+            | Symbol::NotEqual
+    )
+}
+
+// Whether a word before a text makes it an f-string or a t-string.
+fn is_format(word: &str) -> bool {
+    matches!(
+        word.as_bytes(),
+        [b'f' | b'F' | b't' | b'T']
+            | [b'f' | b'F' | b't' | b'T', b'r' | b'R']
+            | [b'r' | b'R', b'f' | b'F' | b't' | b'T']
+    )
+}
+
+impl<'a> Walk<'a> {
+    // Behind an operand.
+    pub(crate) fn behind(&mut self, token: Token<'a>) -> Result<(), Stop<'a>> {
+        match token.kind {
+            TokenKind::Symbol(symbol) => self.behind_symbol(symbol, token),
+            TokenKind::Keyword(keyword) => self.behind_keyword(keyword, token),
+            TokenKind::Str | TokenKind::Bytes => self.another_literal(token),
+            TokenKind::Newline => self.end_of_expression(token),
+            _ => self.no_operator(token),
+        }
+    }
+
+    // A symbol behind an operand.
+    fn behind_symbol(&mut self, symbol: Symbol, token: Token<'a>) -> Result<(), Stop<'a>> {
+        if is_comparison(symbol) {
+            return self.operator(token, State::Tight);
+        }
+        let goes_on = is_arithmetic(symbol)
+            || matches!(
+                symbol,
+                Symbol::LeftParenthesis | Symbol::LeftBracket | Symbol::Dot
+            );
+        if goes_on && self.state == State::BehindIs {
+            return Err(Stop::at(token.span.start, Reason::LeftOut(Form::Is)));
+        }
+        if is_arithmetic(symbol) {
+            return self.operator(token, State::Tight);
+        }
+        match symbol {
+            Symbol::LeftParenthesis => self.open(Bracket::Call, token),
+            Symbol::LeftBracket => self.open(Bracket::Index, token),
+            Symbol::Dot => {
+                self.state = State::Attribute;
+                Ok(())
+            }
+            Symbol::RightParenthesis | Symbol::RightBracket | Symbol::RightBrace => {
+                self.close(symbol, token)
+            }
+            Symbol::Comma => self.comma(token),
+            Symbol::Colon => self.inner_colon(token),
+            Symbol::Equal => self.equal(token),
+            Symbol::Semicolon => self.end_of_expression(token),
+            Symbol::LeftBrace | Symbol::Tilde => self.no_operator(token),
+            _ => self.augmented(token),
+        }
+    }
+
+    // An operator behind an operand.
+    fn operator(&mut self, token: Token<'a>, state: State) -> Result<(), Stop<'a>> {
+        self.doubled = self.is_doubled(token);
+        self.level.operator(token);
+        self.state = state;
+        Ok(())
+    }
+
+    // Whether the same symbol follows at once.
+    fn is_doubled(&self, token: Token<'a>) -> bool {
+        match self.next {
+            Some(next) => next.kind == token.kind && next.span.start == token.span.end,
+            None => false,
+        }
+    }
+
+    // A keyword behind an operand.
+    fn behind_keyword(&mut self, keyword: Keyword, token: Token<'a>) -> Result<(), Stop<'a>> {
+        match keyword {
+            Keyword::In if self.part == Part::Targets && self.frames.is_empty() => {
+                self.end_of_targets(token)
+            }
+            Keyword::And | Keyword::Or => self.operator(token, State::Operand),
+            Keyword::In => self.operator(token, State::Tight),
+            Keyword::Is => self.operator(token, State::Is),
+            Keyword::Not => self.operator(token, State::NotIn),
+            Keyword::If if !self.level.choosing => {
+                self.level.choosing = true;
+                self.operator(token, State::Operand)
+            }
+            Keyword::Else if self.level.choosing => {
+                self.level.choosing = false;
+                self.operator(token, State::Operand)
+            }
+            Keyword::For | Keyword::Async if !self.frames.is_empty() => Err(Stop::at(
+                token.span.start,
+                Reason::LeftOut(Form::Comprehensions),
+            )),
+            Keyword::As if self.part == Part::Except && self.frames.is_empty() => {
+                self.whole(token)?;
+                self.state = State::As;
+                Ok(())
+            }
+            Keyword::From if self.part == Part::Raise && self.frames.is_empty() => Err(Stop::at(
+                token.span.start,
+                Reason::LeftOut(Form::RaiseFrom),
+            )),
+            _ => self.no_operator(token),
+        }
+    }
+
+    // A literal behind an operand.
+    fn another_literal(&mut self, token: Token<'a>) -> Result<(), Stop<'a>> {
+        let Some(before) = self.before else {
+            return self.no_operator(token);
+        };
+        match before.kind {
+            TokenKind::Str | TokenKind::Bytes if before.kind == token.kind => Ok(()),
+            TokenKind::Str | TokenKind::Bytes => { Err(Stop::at(token.span.start, Reason::Mixed)) }
+            TokenKind::Name if before.span.end == token.span.start && is_format(before.text) => {
+                Err(Stop::at(before.span.start, Reason::LeftOut(Form::FStrings)))
+            }
+            _ => self.no_operator(token),
+        }
+    }
+
+    // Neither an operator nor an end, behind an operand.
+    pub(crate) fn no_operator(&mut self, token: Token<'a>) -> Result<(), Stop<'a>> {
+        if self.frames.is_empty() && self.part == Part::Plain {
+            if let Some(reason) = self.first_word(token) {
+                return Err(Stop::at(self.level.first_or(token.span.start), reason));
+            }
+        }
+        self.unclosed(token)?;
+        if let TokenKind::Keyword(keyword) = token.kind {
+            if let Some(form) = form_of(keyword) {
+                return Err(Stop::at(token.span.start, Reason::LeftOut(form)));
+            }
+        }
+        self.expected(self.wanted(), token)
+    }
+
+    // What a statement is that begins with a name and an operand.
+    fn first_word(&self, token: Token<'a>) -> Option<Reason<'a>> {
+        let name = self.level.one_name()?;
+        let is_operand = matches!(
+            token.kind,
+            TokenKind::Name | TokenKind::Int | TokenKind::Str | TokenKind::Bytes
+        );
+        match name {
+            "print" => Some(Reason::Slip(Slip::Print)),
+            "match" if is_operand => Some(Reason::LeftOut(Form::Match)),
+            "elseif" | "elsif" if is_operand => Some(Reason::Slip(Slip::ElseIf)),
+            _ => None,
+        }
+    }
+
+    // What may stand behind the expression where it is complete.
+    pub(crate) fn wanted(&self) -> &'static str {
+        if self.level.choosing {
+            return "`else`";
+        }
+        match self.frames.last() {
+            Some(frame) if frame.bracket == Bracket::Dict && !self.level.named => "`:`",
+            Some(frame) => frame.bracket.closing(),
+            None => match self.part {
+                Part::Test | Part::Over | Part::Except => "`:`",
+                Part::Targets => "`in`",
+                _ => "a line's end",
+            },
+        }
+    }
+
+    // The targets of a `for` end.
+    fn end_of_targets(&mut self, token: Token<'a>) -> Result<(), Stop<'a>> {
+        self.whole(token)?;
+        self.assignable()?;
+        self.expression(Part::Over, State::Operand);
+        Ok(())
+    }
+
+    // What is bound is a target.
+    pub(crate) fn assignable(&self) -> Result<(), Stop<'a>> {
+        match self.level.no_target() {
+            Some((at, shape)) => Err(Stop::at(at, Reason::NoTarget(shape))),
+            None => Ok(()),
+        }
+    }
+}
