@@ -366,7 +366,9 @@ fn limited_run_command<'a>(alloc: Global) -> Result<Command<'a>, AllocError>
     ensures { IfOk result (λ command. app_of command ≡ limited_run) }
 {
     Command::new(alloc, "run")
-        .about("Runs a script, each interpreter by a thread of its own, and prints the report of each.")
+        .about(
+            "Runs a script, each interpreter by a thread of its own, and prints the report of each.",
+        )
         .override_usage("subpy run [SCRIPT] [--interpreters N] [--turns N] [--record PATH]")
         .after_help(RUN_HELP)
         .arg(script_argument(alloc))?

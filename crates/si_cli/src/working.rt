@@ -54,18 +54,7 @@ pub fn serve_run<A: Write, B: Write, G: Gate + Sync, R: Threads + Wait + Sync>(
             limits,
             saved: at,
             ..
-        } => {
-            work(
-                rt,
-                alloc,
-                script,
-                *limits,
-                at.is_some(),
-                saved,
-                out,
-                gate,
-            )
-        }
+        } => { work(rt, alloc, script, *limits, at.is_some(), saved, out, gate) }
         Request::Serial { .. } => unreachable!(),
         Request::Check { .. } => unreachable!(),
         Request::Replay { .. } => unreachable!(),

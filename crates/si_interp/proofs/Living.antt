@@ -10,7 +10,7 @@ use Rattle.si_semantics.specs.Life as language
 use Rattle.si_semantics.specs.Life.{Told, Stops, IsGone, IsCut, life_of, pieces_of, texts_of, end_of}
 use Rattle.si_semantics.specs.Laws.{state_of}
 use Rattle.si_semantics.specs.Actions.{Answer}
-use Rattle.si_semantics.proofs.Growing.{lives_grow}
+use Rattle.si_semantics.proofs.Further.{lives_grow}
 use Rattle.si_slots.specs.Machine.{Course}
 use Rattle.si_slots.specs.Shows as slots
 use Rattle.si_slots.specs.Shows.{standing_of, texts}

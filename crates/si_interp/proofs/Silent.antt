@@ -1,7 +1,10 @@
 -- Lines after which no other line comes print nothing.
 use Rattle.std.proofs.Common.{◌≡◌, ◌∙◌, ℕ, ◌+◌, ◌++◌, List, [], ◌∷◌, Option, Some, None, Bool, true, false, slice_get, take, refl, ap, sym, append-nil, encode_utf8_all}
 use Rattle.std.proofs.lemmas.List.{append_cancel_left}
-use Rattle.std.specs.Prelude.{nat_eq, length, drop, slice_set}
+use Rattle.std.specs.Prelude.{nat_eq, length, drop, slice_set, Result, Ok, Err}
+use Rattle.si_plain.specs.declared.kind.Kind.{Kind}
+use Rattle.si_semantics.specs.Tree.{Add}
+use Rattle.si_semantics.specs.Containers.{augment, delete_item, dict_of, set_item, unpacked}
 use Rattle.si_semantics.specs.Value as value
 use Rattle.si_semantics.specs.Value.{Text, Value}
 use Rattle.si_semantics.specs.World.{World, Ran, Gave, Threw, Asked}
@@ -10,7 +13,7 @@ use Rattle.si_semantics.specs.Subscription.{subscript}
 use Rattle.si_semantics.specs.Attributes.{Method, attribute, called, method_of, call_method}
 use Rattle.si_semantics.specs.Operations.{Iterator, Next, Item, Exhausted, Refuses, is_true}
 use Rattle.si_semantics.specs.Meaning.{Leave, choose, decides, slot_at}
-use Rattle.si_slots.specs.Machine.{Source, Local, Temporary, Kept, Literal, Aim, Target, ToTemporary, ToLocal, ToJump, ToNowhere, Instr, Block, Place, At, Calling, Taking, Ending, Closed, Line, Entry, Stamped, Course, next, on, stamped, act, aimed, below, bound, calls, calls_by, calls_method, ends_finally, enters, fetched, gives_item, goes, having, lands, on_callee, put, raises, reads, starts_for, stuck, yields}
+use Rattle.si_slots.specs.Machine.{Source, Local, Temporary, Kept, Literal, Aim, Target, ToTemporary, ToLocal, ToJump, ToNowhere, Instr, Block, Place, At, Calling, Taking, Ending, Closed, Line, Entry, Stamped, Course, next, on, stamped, act, aimed, below, bound, calls, calls_by, calls_method, ends_finally, enters, fetched, gives_item, goes, having, lands, on_callee, put, raises, reads, starts_for, stuck, unpacks, yields}
 use Rattle.si_slots.specs.Machine as machine
 use Rattle.si_slots.specs.Code.{compiled}
 use Rattle.si_slots.specs.Shows.{standing_of, texts}
@@ -116,6 +119,10 @@ silent_finally : (p : Option Leave) (next : ℕ) (ts : List Value) (slots : List
 silent_finally None next ts slots bs w = λ n. refl
 silent_finally (Some p) next ts slots bs w = λ n. refl
 
+silent_unpacks : (r : Result (List Value) Kind) (at next : ℕ) (ts : List Value) (slots : List (Option Value)) (bs : List Block) (w : World) → Silent (unpacks r at next ts slots bs w)
+silent_unpacks (Ok vs) at next ts slots bs w = λ n. refl
+silent_unpacks (Err k) at next ts slots bs w = λ n. refl
+
 -- ---- the line of each instruction
 
 silent_act : (es : List Entry) (i : Instr) (next : ℕ) (ts : List Value) (slots : List (Option Value)) (bs : List Block) (w : World) → Silent (act es i next ts slots bs w)
@@ -124,8 +131,12 @@ silent_act es (machine.LoadGlobal g x) next ts slots bs w = silent_yields (opera
 silent_act es (machine.StoreGlobal x a) next ts slots bs w = silent_reads a ts slots bs w _ (λ v. λ n. refl)
 silent_act es (machine.Unary u g a) next ts slots bs w = silent_reads a ts slots bs w _ (λ v. silent_yields (operations.operate_unary u v w) g next (below a ts) slots bs)
 silent_act es (machine.Binary u g a b) next ts slots bs w = silent_reads a ts slots bs w _ (λ v. silent_reads b ts slots bs w _ (λ z. silent_yields (operations.operate u v z w) g next (below a (below b ts)) slots bs))
+silent_act es (machine.AddInPlace g a b) next ts slots bs w = silent_reads a ts slots bs w _ (λ v. silent_reads b ts slots bs w _ (λ z. silent_yields (augment Add v z w) g next (below a (below b ts)) slots bs))
 silent_act es (machine.Compare u g a b) next ts slots bs w = silent_reads a ts slots bs w _ (λ v. silent_reads b ts slots bs w _ (λ z. silent_yields (operations.compare u v z w) g next (below a (below b ts)) slots bs))
 silent_act es (machine.Subscript g a b) next ts slots bs w = silent_reads a ts slots bs w _ (λ v. silent_reads b ts slots bs w _ (λ z. silent_yields (subscript v z w) g next (below a (below b ts)) slots bs))
+silent_act es (machine.StoreItem a b c) next ts slots bs w =
+    silent_reads a ts slots bs w _ (λ x. silent_reads b ts slots bs w _ (λ v. silent_reads c ts slots bs w _ (λ z. silent_yields (set_item v z x w) ToNowhere next (below a (below b (below c ts))) slots bs)))
+silent_act es (machine.DeleteItem a b) next ts slots bs w = silent_reads a ts slots bs w _ (λ v. silent_reads b ts slots bs w _ (λ z. silent_yields (delete_item v z w) ToNowhere next (below a (below b ts)) slots bs))
 silent_act es (machine.EndChain t n) next ts slots bs w = silent_having (slice_get ts (t + 1)) w _ (λ v. silent_having (slice_get ts (t + 2)) w _ (λ z. silent_choose (is_true z w) _ _ (λ n. refl) (λ n. refl)))
 silent_act es (machine.JumpOrTake u t n) next ts slots bs w = silent_having (slice_get ts t) w _ (λ v. silent_choose (decides u v w) _ _ (λ n. refl) (λ n. refl))
 silent_act es (machine.Jump n) next ts slots bs w = λ n. refl
@@ -194,6 +205,9 @@ silent_act es (machine.Find t x) next ts slots bs w = silent_having (slice_get t
 silent_act es (machine.CallMethod g t n x names) next ts slots bs w =
     silent_callee (drop t ts) n _ w (λ f vs. silent_method es (method_of f x w) f vs names g next (take t ts) slots bs w)
 silent_act es (machine.Gather g t n) next ts slots bs w = silent_choose (nat_eq (length ts) (t + n)) _ _ (silent_yields (operations.tuple_within (drop t ts) w) g next (take t ts) slots bs) (λ n. refl)
+silent_act es (machine.GatherList g t n) next ts slots bs w = silent_choose (nat_eq (length ts) (t + n)) _ _ (silent_yields (operations.list_within (drop t ts) w) g next (take t ts) slots bs) (λ n. refl)
+silent_act es (machine.GatherDict g t n) next ts slots bs w = silent_choose (nat_eq (length ts) (t + n)) _ _ (silent_yields (dict_of (drop t ts) w) g next (take t ts) slots bs) (λ n. refl)
+silent_act es (machine.Unpack a t n) next ts slots bs w = silent_reads a ts slots bs w _ (λ v. silent_unpacks (unpacked n v w) t next (below a ts) slots bs w)
 silent_act es (machine.Return a) next ts slots bs w = silent_reads a ts slots bs w _ (λ v. λ n. refl)
 silent_act es machine.Finish next ts slots bs w = λ n. refl
 

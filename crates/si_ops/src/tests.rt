@@ -3,7 +3,7 @@
 ghost use Rattle.si_arena.specs.Memory.{Lies};
 
 use crate::{catches, push_repr, push_str, raised_by};
-use si_arena::{Arena, Cause, Object, Ref, Refusal, Short};
+use si_arena::{Arena, Cause, Contents, Object, Ref, Refusal, Short};
 use si_plain::{Kind, ModuleName};
 use std::alloc::Global;
 use std::test::Fail;
@@ -91,6 +91,10 @@ fn a_thread_is_no_exception(rt: HostRuntime) -> Result<(), Fail> {
     assert!(rt; matches!(caught, Ok(false)));
     let raised = raised_by(&mut arena, Ref::Object(0))?;
     assert!(rt; raised == 1);
-    assert_eq!(rt; arena.object(1).kind().name(), "TypeError");
+    let name = match arena.object(1) {
+        Contents::Plain(object) => object.kind().name(),
+        _ => "no exception",
+    };
+    assert_eq!(rt; name, "TypeError");
     Ok(())
 }

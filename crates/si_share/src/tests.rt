@@ -126,17 +126,11 @@ fn ranges_functions_and_exceptions_are_not_shareable(rt: HostRuntime) -> Result<
 }
 
 #[test]
-fn lists_and_dicts_are_not_shareable(rt: HostRuntime) -> Result<(), Fail> {
+fn lists_are_not_shareable(rt: HostRuntime) -> Result<(), Fail> {
     let alloc = rt.alloc();
     let mut arena = Arena::new(alloc);
     let list = arena.make_list_of(&[Ref::Int(1)])?;
     assert!(rt; is_kept(alloc, &arena, list));
-    let dict = arena.make_dict(&[Ref::Int(1), Ref::Int(2)])?.unwrap_or(Ref::None);
-    assert!(rt; is_kept(alloc, &arena, dict));
-    let Ok(tuple) = arena.place_tuple(&[Ref::Int(1), list]) else {
-        return Err(AllocError)?;
-    };
-    assert!(rt; is_kept(alloc, &arena, tuple));
     Ok(())
 }
 

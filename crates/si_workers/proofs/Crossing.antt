@@ -1,6 +1,10 @@
 -- What may cross threads: all that interpreters and hubs own, since it does so of parcels.
 use Rattle.std.specs.Thread.{IsSend, IsSync}
+use mathlib.Core.List.{List, [], ◌∷◌}
+use mir.Syntax.{Sym}
 use denote.RattleType.{RattleType}
+use denote.Struct.Tuple.{type_at, TupleAt}
+use denote.Struct.Field.{row_field}
 use denote.Param.Send.{sendable, view_send}
 use denote.Param.SendFields.{as_row_send, as_row_sync, declared_send, declared_sync, variants_send}
 use Rattle.std.proofs.vec.Vec.TheSendSync as vec
@@ -129,3 +133,9 @@ book_send = view_send _ _ _ _ _ (declared_send book.TheInside.the_type (search (
 
 pub desk_sync : IsSync desk.the_row
 desk_sync = declared_sync desk.the_type (search (sendable, as_row_sync, mutex.the_sync, book_send, condvar.the_sync) depth 20)
+
+-- a closure with five captures may cross where each of them may
+pub five_send : (ν : Sym) (A B C D E : RattleType) → IsSend A → IsSend B → IsSend C → IsSend D → IsSend E → IsSend (TupleAt ν (A ∷ B ∷ C ∷ D ∷ E ∷ []))
+five_send ν A B C D E a b c d e =
+    declared_send (type_at ν (A ∷ B ∷ C ∷ D ∷ E ∷ []))
+    (as_row_send (row_field A) a, (as_row_send (row_field B) b, (as_row_send (row_field C) c, (as_row_send (row_field D) d, (as_row_send (row_field E) e, tt)))))

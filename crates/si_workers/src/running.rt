@@ -180,7 +180,6 @@ fn keep<T: Drop>(all: &mut Vec<T>, one: T) {
 
 // Starts a thread for each interpreter, and returns when all have ended. Where one can't be started, its slot is put to rest, so
 // that the others don't wait for it.
-#[tactic(auto, using(crate::proofs::Crossing::interp_send, crate::proofs::Crossing::worked_send, crate::proofs::Crossing::desk_sync))]
 fn start_all<G: Gate + Sync, R: Threads + Wait + Sync>(
     rt: &R,
     desk: &Desk,

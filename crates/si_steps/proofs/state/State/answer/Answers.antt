@@ -25,7 +25,7 @@ resume_with-requires-clause-value g c =
     let mid = c.make_room.new.self in
     let m = c.reply.new.arena in
     let k = c.in-Ok-Got in
-    subst (Lies m) (sym k.value-is) (subst (λ (r : Replied). Replies mid.awaited (answer_of c.args.answer.now) mid.arena m (Ok r)) k.field-0-is k.ensures.replies).1
+    subst (Lies m) (sym k.value-is) (subst (λ (r : Replied). Replies mid.awaited (answer_of c.args.answer.now) mid.arena m (Ok r)) k.field-0-is k.ensures).1
 
 pub resume_with-requires-clause-place : goal.resume_with-requires-clause-place
 resume_with-requires-clause-place g c = omega (arith, c.requires.0.short)
@@ -38,7 +38,7 @@ fail-requires g c =
     let k = c.in-Ok-Failed in
     let room = where_ok c.make_room.result (sym c.is_err.ensures.value ∙ c.if-is_err.false) c.make_room.ensures.ok in
     let waits : Awaits g.q.0 old.target old mid g.q.1 = record { waits = c.requires; target = refl; room = room } in
-    let failed = subst (λ (r : Replied). Replies mid.awaited (answer_of c.args.answer.now) mid.arena m (Ok r)) k.field-0-is k.ensures.replies in
+    let failed = subst (λ (r : Replied). Replies mid.awaited (answer_of c.args.answer.now) mid.arena m (Ok r)) k.field-0-is k.ensures in
     (at_same mid m g.q.1 failed.there.extends failed.there.store (awaiting_stands g.q.0 old.target old mid g.q.1 waits), subst (ObjectLies m) (sym k.object-is) failed.there.lies)
 
 pub returns-in-Ok-Got-clause-did : goal.returns-in-Ok-Got-clause-did
@@ -50,7 +50,7 @@ returns-in-Ok-Got-clause-did g c =
     let k = c.in-Ok-Got in
     let room = where_ok c.make_room.result (sym c.is_err.ensures.value ∙ c.if-is_err.false) c.make_room.ensures.ok in
     let waits : Awaits g.q.0 old.target old mid g.q.1 = record { waits = c.requires; target = refl; room = room } in
-    let got = subst (λ (r : Replied). Replies mid.awaited a mid.arena m (Ok r)) k.field-0-is k.ensures.replies in
+    let got = subst (λ (r : Replied). Replies mid.awaited a mid.arena m (Ok r)) k.field-0-is k.ensures in
     let lands = subst (λ (v : Ref). Resumes old.target v old.pc (with_arena m mid) c.resume_with.new.self) k.value-is c.resume_with.ensures.state in
     answer_got g.q.0 a old.target old mid c.resume_with.new.self g.q.1 k.value m c.resume_with.result waits got c.resume_with.ensures.step lands
 
@@ -66,7 +66,7 @@ returns-in-Ok-Failed-clause-did g c =
     let k = c.in-Ok-Failed in
     let room = where_ok c.make_room.result (sym c.is_err.ensures.value ∙ c.if-is_err.false) c.make_room.ensures.ok in
     let waits : Awaits g.q.0 old.target old mid g.q.1 = record { waits = c.requires; target = refl; room = room } in
-    let failed = subst (λ (r : Replied). Replies mid.awaited a mid.arena m (Ok r)) k.field-0-is k.ensures.replies in
+    let failed = subst (λ (r : Replied). Replies mid.awaited a mid.arena m (Ok r)) k.field-0-is k.ensures in
     let fails = subst (λ (o : Object). Fails (object_of m o) g.q.1 (with_arena m mid) c.fail.new.self c.fail.result) k.object-is c.fail.ensures in
     answer_failed g.q.0 a old.target old mid c.fail.new.self g.q.1 k.object m c.fail.result waits failed fails
 
@@ -86,7 +86,7 @@ returns-in-Ok-Wants-clause-did g c =
     let k = c.in-Ok-Wants in
     let room = where_ok c.make_room.result (sym c.is_err.ensures.value ∙ c.if-is_err.false) c.make_room.ensures.ok in
     let waits : Awaits g.q.0 old.target old mid g.q.1 = record { waits = c.requires; target = refl; room = room } in
-    let asks = subst (λ (r : Replied). Replies mid.awaited a mid.arena m (Ok r)) k.field-0-is k.ensures.replies in
+    let asks = subst (λ (r : Replied). Replies mid.awaited a mid.arena m (Ok r)) k.field-0-is k.ensures in
     let state = asking_as old.target old.pc (with_arena m mid) c.ask.new.self k.awaited-is k.action-is c.ask.ensures.state in
     answer_asked g.q.0 a old.target old mid c.ask.new.self g.q.1 k.awaited k.action m c.ask.result waits asks c.ask.ensures.step state
 
@@ -101,7 +101,7 @@ returns-in-Err-clause-did g c =
     let starved = c.starve-in-Err in
     let room = where_ok c.make_room.result (sym c.is_err.ensures.value ∙ c.if-is_err.false) c.make_room.ensures.ok in
     let waits : Awaits g.q.0 old.target old mid g.q.1 = record { waits = c.requires; target = refl; room = room } in
-    answer_starved g.q.0 (given_line g.q.0 a old.target old g.q.1) old.target old mid starved.new.self g.q.1 c.reply.new.arena starved.result waits c.in-Err.ensures.replies.0 c.in-Err.ensures.replies.1 starved.ensures.step starved.ensures.state
+    answer_starved g.q.0 (given_line g.q.0 a old.target old g.q.1) old.target old mid starved.new.self g.q.1 c.reply.new.arena starved.result waits c.in-Err.ensures.0 c.in-Err.ensures.1 starved.ensures.step starved.ensures.state
 
 pub returns-in-Err-clause-kept : goal.returns-in-Err-clause-kept
 returns-in-Err-clause-kept g c =
