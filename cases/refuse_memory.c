@@ -1,5 +1,5 @@
 /* Preloaded into a program: refuses it one allocation, that of the number in REFUSED (counted from 1), and tells so by
-   one byte to the file descriptor in TELL. */
+   one byte to the file descriptor in TELL. Threads are counted together. */
 
 typedef unsigned long size;
 
@@ -13,7 +13,7 @@ static int made;
 
 static int is_refused(void)
 {
-    if (++made != atoi(getenv("REFUSED")))
+    if (__atomic_add_fetch(&made, 1, __ATOMIC_SEQ_CST) != atoi(getenv("REFUSED")))
         return 0;
     write(atoi(getenv("TELL")), "x", 1);
     return 1;

@@ -5,7 +5,7 @@ def f():
 i = interpreters.create()
 q = interpreters.create_queue()
 t = threading.Thread(target=i.exec, args=('1',))
-for value in (range(3), f, print, ValueError, ValueError('x'), i, i.exec, t, interpreters, threading, (1, (2, range(3)))):
+for value in (range(3), f, print, ValueError, ValueError('x'), i, i.exec, t, interpreters, threading, (1, (2, range(3))), [1], {'a': 1}, (1, [2]), ({},)):
     try:
         q.put(value)
     except interpreters.NotShareableError as e:

@@ -1,0 +1,4 @@
+from concurrent import interpreters
+print('waits')
+interpreters.create_queue().get()
+print('over')
