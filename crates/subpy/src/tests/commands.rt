@@ -422,14 +422,14 @@ fn numbers_that_are_refused(rt: HostRuntime) -> Result<(), Fail> {
 
 #[test]
 fn words_that_are_refused(rt: HostRuntime) -> Result<(), Fail> {
-    let none = "there is no command \"run\"; 'subpy --help' lists them";
+    let none = "there is no command \"walk\"; 'subpy --help' lists them";
     let cases: [(&[&str], &str); 6] = [
         (
             &["subpy"],
             "no command is named; 'subpy --help' lists the commands",
         ),
-        (&["subpy", "run"], none),
-        (&["subpy", "help", "run"], none),
+        (&["subpy", "walk"], none),
+        (&["subpy", "help", "walk"], none),
         (
             &["subpy", "serial", "--x"],
             "unexpected argument '--x' found",
