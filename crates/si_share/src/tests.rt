@@ -148,17 +148,25 @@ fn bytes_go_over(rt: HostRuntime) -> Result<(), Fail> {
     Ok(())
 }
 
+// A parcel that was copied into this arena, where it is shareable, and out of it.
+fn passed(alloc: Global, parcel: &Parcel, through: &mut Arena) -> Result<Parcel, AllocError> {
+    let Ok(value) = copy_in(through, parcel) else {
+        return Err(AllocError);
+    };
+    if !is_shareable(through, value) {
+        return Err(AllocError);
+    }
+    copy_out(alloc, through, value).or(Err(AllocError))
+}
+
 #[test]
 fn tuples_go_over(rt: HostRuntime) -> Result<(), Fail> {
     let alloc = rt.alloc();
     let mut from = Arena::new(alloc);
     let mut to = filled(alloc)?;
     let parcel = nested(alloc)?;
-    let placed = copy_in(&mut from, &parcel).map_err(|_| "refused")?;
-    let sent = copy_out(alloc, &from, placed).map_err(|_| "refused")?;
-    let received = copy_in(&mut to, &sent).map_err(|_| "refused")?;
-    assert!(rt; is_shareable(&to, received));
-    let back = copy_out(alloc, &to, received).map_err(|_| "refused")?;
+    let sent = passed(alloc, &parcel, &mut from)?;
+    let back = passed(alloc, &sent, &mut to)?;
     assert!(rt; back == parcel);
     let next = to.make(Object::Bare(Kind::TypeError))?;
     assert!(rt; matches!(next, Ref::Object(100)));
