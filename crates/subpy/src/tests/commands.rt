@@ -503,9 +503,12 @@ fn words_that_ask_for_help(rt: HostRuntime) -> Result<(), Fail> {
     let general = "Runs Python scripts in isolated interpreters";
     let serial = "Runs a script, one turn after another";
     let check = "Says whether a script is well formed";
-    let cases: [(&[&str], &str); 6] = [
+    let cases: [(&[&str], &str); 9] = [
+        (&["subpy", "--version"], "subpy 0"),
+        (&["subpy", "-V"], "subpy 0"),
         (&["subpy", "--help"], general),
         (&["subpy", "help"], general),
+        (&["subpy", "help", "help"], general),
         (&["subpy", "help", "serial"], serial),
         (&["subpy", "serial", "--help"], serial),
         (&["subpy", "help", "check"], check),
