@@ -1,5 +1,4 @@
-text = 'x' * 1048576
-print('one text is there')
-all = []
+print('it keeps texts')
+kept = []
 while True:
-    all.append(text + '')
+    kept.append('x' * 1000000)
