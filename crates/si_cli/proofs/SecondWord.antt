@@ -124,13 +124,13 @@ none_takes words word second not_serial not_run not_check not_replay not_history
 -- whether words with this second word ask for help
 abbrev asks : List (List ℕ) → Option (List ℕ) → Bool
 asks words second =
-    is_word second (codes "-h") || (is_word second (codes "--help")
+    is_word second (codes "-h") || (is_word second (codes "--help") || (is_word second (codes "-V") || (is_word second (codes "--version")
     || ((is_word second (codes "help") && is_topic (slice_get words 2))
     || ((is_word second (codes "serial") && helps serial (drop 1 words))
     || ((is_word second (codes "run") && helps run (drop 1 words))
     || ((is_word second (codes "check") && helps check (drop 1 words))
     || ((is_word second (codes "replay") && helps replay (drop 1 words))
-    || (is_word second (codes "history") && helps history (drop 1 words))))))))
+    || (is_word second (codes "history") && helps history (drop 1 words))))))))))
 
 or_none : (b : Bool) → b ≡ b || false
 or_none true = refl
@@ -171,16 +171,20 @@ help_tells words word fault second is told =
     let here : TellsHelp (asks words (Some (codes "help"))) fault = subst (λ (b : Bool). TellsHelp b fault) (or_none (is_topic (slice_get words 2))) told in
     subst (λ (name : Option (List ℕ)). TellsHelp (asks words name) fault) (sym (second ∙ ap Some is)) here
 
--- a flag of help tells it
-pub flag_tells : (words : List (List ℕ)) (word : List ℕ) (fault : WordsFault) → slice_get words 1 ≡ Some word → (word ≡ codes "-h") ⊎ (word ≡ codes "--help") → TellsHelp true fault → TellsHelp (asks_help words) fault
+-- a flag of help, or of the version, tells it
+pub flag_tells : (words : List (List ℕ)) (word : List ℕ) (fault : WordsFault) → slice_get words 1 ≡ Some word
+    → (word ≡ codes "-h") ⊎ ((word ≡ codes "--help") ⊎ ((word ≡ codes "-V") ⊎ (word ≡ codes "--version"))) → TellsHelp true fault → TellsHelp (asks_help words) fault
 flag_tells words word fault second (inl is) told = subst (λ (name : Option (List ℕ)). TellsHelp (asks words name) fault) (sym (second ∙ ap Some is)) told
-flag_tells words word fault second (inr is) told = subst (λ (name : Option (List ℕ)). TellsHelp (asks words name) fault) (sym (second ∙ ap Some is)) told
+flag_tells words word fault second (inr (inl is)) told = subst (λ (name : Option (List ℕ)). TellsHelp (asks words name) fault) (sym (second ∙ ap Some is)) told
+flag_tells words word fault second (inr (inr (inl is))) told = subst (λ (name : Option (List ℕ)). TellsHelp (asks words name) fault) (sym (second ∙ ap Some is)) told
+flag_tells words word fault second (inr (inr (inr is))) told = subst (λ (name : Option (List ℕ)). TellsHelp (asks words name) fault) (sym (second ∙ ap Some is)) told
 
 -- no other word does
 pub other_tells :
     (words : List (List ℕ)) (word : List ℕ) (fault : WordsFault) → slice_get words 1 ≡ Some word
-    → (word ≡ codes "-h" → ⊥) → (word ≡ codes "--help" → ⊥) → (word ≡ codes "help" → ⊥) → (word ≡ codes "serial" → ⊥) → (word ≡ codes "run" → ⊥) → (word ≡ codes "check" → ⊥)
+    → (word ≡ codes "-h" → ⊥) → (word ≡ codes "--help" → ⊥) → (word ≡ codes "-V" → ⊥) → (word ≡ codes "--version" → ⊥)
+    → (word ≡ codes "help" → ⊥) → (word ≡ codes "serial" → ⊥) → (word ≡ codes "run" → ⊥) → (word ≡ codes "check" → ⊥)
     → (word ≡ codes "replay" → ⊥) → (word ≡ codes "history" → ⊥) → TellsHelp false fault → TellsHelp (asks_help words) fault
-other_tells words word fault second h i j k l m n o told =
+other_tells words word fault second f g h i j k l m n o told =
     subst (λ (name : Option (List ℕ)). TellsHelp (asks words name) fault) (sym second)
-    (rw (is_not word _ h, is_not word _ i, is_not word _ j, is_not word _ k, is_not word _ l, is_not word _ m, is_not word _ n, is_not word _ o) told)
+    (rw (is_not word _ f, is_not word _ g, is_not word _ h, is_not word _ i, is_not word _ j, is_not word _ k, is_not word _ l, is_not word _ m, is_not word _ n, is_not word _ o) told)

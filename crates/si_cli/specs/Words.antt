@@ -191,27 +191,27 @@ abbrev pub is_word : Option Text → Text → Bool
 is_word None text = false
 is_word (Some word) text = bytes_eq word text
 
--- what help is asked of: the program where nothing is named, or a command
+-- what help is asked of: the program where nothing is named, or `help` itself, or a command
 abbrev pub is_topic : Option Text → Bool
 is_topic None = true
 is_topic (Some word) =
     bytes_eq word (codes "serial") || (bytes_eq word (codes "run") || (bytes_eq word (codes "check")
-    || (bytes_eq word (codes "replay") || bytes_eq word (codes "history"))))
+    || (bytes_eq word (codes "replay") || (bytes_eq word (codes "history") || bytes_eq word (codes "help")))))
 
--- the words ask for help: the second is `-h` or `--help`, or `help` with nothing or a command after it, or names a
--- command whose help the words from there on ask for
+-- the words ask for help or for the version: the second is `-h`, `--help`, `-V` or `--version`, or `help` with nothing, `help`
+-- or a command after it, or names a command whose help the words from there on ask for
 abbrev pub asks_help : List Text → Bool
 asks_help words =
     let second = slice_get words 1 in
-    is_word second (codes "-h") || (is_word second (codes "--help")
+    is_word second (codes "-h") || (is_word second (codes "--help") || (is_word second (codes "-V") || (is_word second (codes "--version")
     || ((is_word second (codes "help") && is_topic (slice_get words 2))
     || ((is_word second (codes "serial") && helps serial (drop 1 words))
     || ((is_word second (codes "run") && helps run (drop 1 words))
     || ((is_word second (codes "check") && helps check (drop 1 words))
     || ((is_word second (codes "replay") && helps replay (drop 1 words))
-    || (is_word second (codes "history") && helps history (drop 1 words))))))))
+    || (is_word second (codes "history") && helps history (drop 1 words))))))))))
 
--- a fault tells help just where it is asked for; one of memory tells nothing
+-- a fault tells help, or the version, just where that is asked for; one of memory tells nothing
 abbrev pub TellsHelp : Bool → WordsFault → Type 0
 TellsHelp asked (Words help text) = help ≡ asked
 TellsHelp asked NoMemory = Unit {0}

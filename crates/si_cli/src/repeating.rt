@@ -10,6 +10,7 @@ use crate::report::{write_recorded, write_text};
 use crate::serving::{flush, read_script};
 use crate::status::status_of_recording;
 use si_history::history;
+use si_notes::Notes;
 use si_plain::Limits;
 use si_replay::{ReplayFault, replay};
 use si_schedule::{ReadFault, Schedule};
@@ -17,13 +18,14 @@ use si_world::Recording;
 use std::alloc::Global;
 use std::io::Write;
 
-/// Makes the run of a script again that has this schedule, and reports it.
+/// Makes the run of a script again that has this schedule, reports it, and makes notes of it.
 pub(crate) fn repeat<W: Write>(
     alloc: Global,
     script: &[u8],
     schedule: &[u8],
     limits: Limits,
     out: &mut W,
+    notes: &mut Notes,
 ) -> Result<u8, CliFault>
     ensures reports { IfOk result (ReportsAgain limits script.now schedule.now (W.contents out.old) (W.contents out.new)) }
     ensures refused { IfErr result (λ fault. IsRefusal fault → (body : Stmts) → IsScript script.now body → ⊥) }
@@ -33,6 +35,7 @@ pub(crate) fn repeat<W: Write>(
     let recording = repeated(alloc, script, schedule, limits)?;
     write_recorded(out, &recording)?;
     flush(out)?;
+    *notes = Notes::of_recording(alloc, &recording);
     Ok(status_of_recording(&recording))
 }
 

@@ -12,6 +12,7 @@ use crate::repeating::{repeat, tell_history};
 use crate::report::{write_report, write_text};
 use crate::saving::save_schedule;
 use crate::status::status_of;
+use si_notes::Notes;
 use si_parse::ParseFault;
 use si_plain::{Limits, line_ends};
 use si_reading::read;
@@ -32,7 +33,8 @@ const MARK: [u8; 3] = [0xef, 0xbb, 0xbf];
 /// status is 0.
 ///
 /// `script` is the script's bytes, of which one byte order mark at their front is dropped, and `schedule` those of a
-/// schedule, which no command but `Replay` and `History` reads. No command but `Serial` writes to `saved`.
+/// schedule, which no command but `Replay` and `History` reads. No command but `Serial` writes to `saved`. What people are
+/// told beside a report is put into `notes`, of which no contract speaks.
 ///
 /// # Errors
 ///
@@ -46,6 +48,7 @@ pub fn serve<A: Write, B: Write>(
     schedule: &[u8],
     saved: &mut A,
     out: &mut B,
+    notes: &mut Notes,
 ) -> Result<u8, CliFault>
     requires { IsOfThreads request.now → ⊥ }
     ensures answers { IfOk result
@@ -64,15 +67,15 @@ pub fn serve<A: Write, B: Write>(
             limits,
             saved: at,
             ..
-        } => { serial(alloc, script, *limits, at.is_some(), saved, out) }
+        } => { serial(alloc, script, *limits, at.is_some(), saved, out, notes) }
         Request::Run { .. } => unreachable!(),
         Request::Check { .. } => check(alloc, script, out),
-        Request::Replay { limits, .. } => repeat(alloc, script, schedule, *limits, out),
+        Request::Replay { limits, .. } => repeat(alloc, script, schedule, *limits, out, notes),
         Request::History { limits, .. } => tell_history(alloc, script, schedule, *limits, out),
     }
 }
 
-/// Runs a script within these limits, saves its schedule where that is asked for, and reports its run.
+/// Runs a script within these limits, saves its schedule where that is asked for, reports its run, and makes notes of it.
 fn serial<A: Write, B: Write>(
     alloc: Global,
     script: &[u8],
@@ -80,6 +83,7 @@ fn serial<A: Write, B: Write>(
     is_saved: bool,
     saved: &mut A,
     out: &mut B,
+    notes: &mut Notes,
 ) -> Result<u8, CliFault>
     ensures reports { IfOk result (Reports limits is_saved script.now (B.contents out.old) (B.contents out.new) (A.contents saved.old) (A.contents saved.new)) }
     ensures refused { IfErr result (λ fault. IsRefusal fault → (body : Stmts) → IsScript script.now body → ⊥) }
@@ -91,7 +95,9 @@ fn serial<A: Write, B: Write>(
     if is_saved {
         save_schedule(alloc, &world, saved)?;
     }
-    report(out, &world)
+    let status = report(out, &world)?;
+    *notes = Notes::of_world(alloc, &world);
+    Ok(status)
 }
 
 /// The world of a script that is read, after all of its turns.

@@ -12,6 +12,7 @@ ghost use Rattle.si_cli.specs.inner.Requests.{repeat_in, run_in};
 use crate::asked::Request;
 use clap::error::ErrorKind;
 use clap::{Arg, ArgAction, Command, Error};
+use si_hints::Shortened;
 use si_plain::Limits;
 use std::alloc::{AllocError, Global};
 
@@ -30,9 +31,12 @@ Commands:
                   Makes a run again, and prints what its interpreters asked and were answered
   check [SCRIPT]  Prints 'ok' where a script is well formed, and runs nothing of it
   help [COMMAND]  Prints this text, or that of a command
+  --version       Prints the version
+
+Where SCRIPT is left out or is '-' the script is read from standard input.
 
 Statuses:
-  0  the script has run to its end, 'ok' was printed, or help was asked for
+  0  the script has run to its end, 'ok' was printed, or help or the version was asked for
   1  the script was left by an exception
   2  the words, the script or the schedule are refused, or a read or a write failed
   3  a run waits for what can't come
@@ -41,12 +45,20 @@ Statuses:
   6  a thread can't be started
 ";
 
+/// What `--version` prints.
+const VERSION: &str = "subpy 0.2.0\n";
+
+/// The most characters of a word that a message repeats.
+const MAX_REPEATED: usize = 60;
+
 const SERIAL_HELP: &str =
     "The report has for each interpreter the line '== interpreter N ==', what it printed, and the line
 'raised KIND: MESSAGE' for each of its runs that an exception left; and last the line 'end: finished',
 'end: stuck' where a run waits for what can't come, 'end: spent' where an interpreter's turns were
 used up, or 'end: starved' where memory was refused to one. With --record the order in which interpreters
-acted is written to a file, before the report: a schedule, from which replay makes the same run again.";
+acted is written to a file, before the report: a schedule, from which replay makes the same run again.
+Standard error has, once the report is out, the lines from which exceptions came that left runs, and what
+keeps a run that isn't finished.";
 
 const RUN_HELP: &str =
     "The report is as that of serial. The interpreters run at once, so the order in which they act may be another
@@ -84,8 +96,8 @@ pub(crate) enum Told {
 #[derive(Debug, Drop)]
 pub enum WordsFault {
     /// No command is named, its definition doesn't take the words after it, a number among them is none or outside its
-    /// limits, or they ask for help. `text` is for people: with `help` the lines of the help, else one message without
-    /// a line end.
+    /// limits, or they ask for help or for the version. `text` is for people: with `help` the lines of the help, or of the
+    /// version, else one message without a line end.
     Words { help: bool, text: String },
     /// Memory was refused.
     NoMemory,
@@ -102,7 +114,7 @@ impl From<AllocError> for WordsFault {
 }
 
 impl WordsFault {
-    /// The status of a program that stops for this: 0 where help was asked for, 5 where memory was refused, else 2.
+    /// The status of a program that stops for this: 0 where help or the version was asked for, 5 where memory was refused, else 2.
     pub fn status(&self) -> u8
         ensures { result ≡ status_of_words self.now }
     {
@@ -117,14 +129,14 @@ impl WordsFault {
 ///
 /// `WordsFault::Words` where no command is named, its definition doesn't take the words after it, no schedule is named
 /// where one is needed, the value of `--interpreters` is no number from 1 to 64, that of `--turns` none from 1 to
-/// 1,099,511,627,776, or help is asked for; `WordsFault::NoMemory` where memory was refused.
+/// 1,099,511,627,776, or help or the version is asked for; `WordsFault::NoMemory` where memory was refused.
 pub fn request<'a>(alloc: Global, words: &'a [&'a str]) -> Result<Request<'a>, WordsFault>
     ensures said { IfOk result (IsSaidBy (texts words.entry.now)) }
     // Words that no command takes are refused.
     ensures only { IfOk result (λ _. AreTaken (texts words.entry.now)) }
     // Words that a command takes are refused only for want of memory.
     ensures taken { IfErr result (λ fault. AreTaken (texts words.entry.now) → fault ≡ WordsFault.NoMemory) }
-    // Help is told where the words ask for it, and nowhere else.
+    // Help, or the version, is told where the words ask for it, and nowhere else.
     ensures help { IfErr result (TellsHelp (asks_help (texts words.entry.now))) }
 {
     let Some(name) = words.get(1) else {
@@ -147,7 +159,7 @@ pub fn request<'a>(alloc: Global, words: &'a [&'a str]) -> Result<Request<'a>, W
     }
     Err(match *name {
         "help" => help_of(alloc, words),
-        "-h" | "--help" => general_help(alloc),
+        "-h" | "--help" | "-V" | "--version" => told_by(alloc, name),
         _ => no_command(alloc, name),
     })
 }
@@ -429,7 +441,7 @@ fn script_argument<'a>(alloc: Global) -> Arg<'a>
     ensures local { result.global ≡ false }
 {
     Arg::new(alloc, "SCRIPT")
-        .help("The script's file; standard input where it is left out")
+        .help("The script's file; standard input where it is left out or is '-'")
         .action(ArgAction::Set)
 }
 
@@ -500,7 +512,7 @@ fn words_fault(alloc: Global, error: &Error) -> WordsFault
     }
 }
 
-/// The message of a refusal, without its mark `error:`, its usage and its line ends.
+/// The message of a refusal, without its mark `error:`, its usage and its line ends, and with the words in it shortened.
 fn one_line(alloc: Global, error: &Error) -> Result<String, AllocError> {
     let whole = error.to_string(alloc)?;
     let text = whole.as_str();
@@ -513,9 +525,27 @@ fn one_line(alloc: Global, error: &Error) -> Result<String, AllocError> {
         if !line.is_empty() {
             line.push_str(" ")?;
         }
-        line.push_str(part.trim())?;
+        push_shortened(&mut line, part.trim())?;
     }
     Ok(line)
+}
+
+/// Adds a text, of which each part between two quotes that is too long is shortened.
+fn push_shortened(line: &mut String, text: &str) -> Result<(), AllocError> {
+    let mut count: usize = 0;
+    for c in text.chars() {
+        count = if c == '\'' {
+            0
+        } else {
+            count.saturating_add(1)
+        };
+        if count <= MAX_REPEATED {
+            line.push(c)?;
+        } else if count == MAX_REPEATED + 1 {
+            line.push_str("..")?;
+        }
+    }
+    Ok(())
 }
 
 /// The fault of words that are refused for this reason.
@@ -532,7 +562,7 @@ fn refused(alloc: Global, why: &str) -> WordsFault
 fn no_interpreters(alloc: Global, interpreters: Option<&str>) -> WordsFault
     ensures { TellsHelp false result }
 {
-    let value = interpreters.unwrap_or("");
+    let value = Shortened::new(interpreters.unwrap_or(""), MAX_REPEATED);
     match format!(in alloc; "--interpreters takes a whole number from 1 to 64, not {value:?}") {
         Ok(text) => WordsFault::Words { help: false, text },
         Err(_) => WordsFault::NoMemory,
@@ -553,7 +583,7 @@ fn no_schedule(alloc: Global) -> WordsFault
 fn no_turns(alloc: Global, turns: Option<&str>) -> WordsFault
     ensures { TellsHelp false result }
 {
-    let value = turns.unwrap_or("");
+    let value = Shortened::new(turns.unwrap_or(""), MAX_REPEATED);
     match format!(in alloc; "--turns takes a whole number from 1 to 1099511627776, not {value:?}") {
         Ok(text) => WordsFault::Words { help: false, text },
         Err(_) => WordsFault::NoMemory,
@@ -564,7 +594,8 @@ fn no_turns(alloc: Global, turns: Option<&str>) -> WordsFault
 fn no_command(alloc: Global, name: &str) -> WordsFault
     ensures { TellsHelp false result }
 {
-    match format!(in alloc; "there is no command {name:?}; 'subpy --help' lists them") {
+    let word = Shortened::new(name, MAX_REPEATED);
+    match format!(in alloc; "there is no command {word:?}; 'subpy --help' lists them") {
         Ok(text) => WordsFault::Words { help: false, text },
         Err(_) => WordsFault::NoMemory,
     }
@@ -575,6 +606,26 @@ fn general_help(alloc: Global) -> WordsFault
     ensures { TellsHelp true result }
 {
     match String::from_str(alloc, HELP) {
+        Ok(text) => WordsFault::Words { help: true, text },
+        Err(_) => WordsFault::NoMemory,
+    }
+}
+
+/// What a flag of the program asks for: the version, or else the help that lists the commands.
+fn told_by(alloc: Global, flag: &str) -> WordsFault
+    ensures { TellsHelp true result }
+{
+    match flag {
+        "-V" | "--version" => version(alloc),
+        _ => general_help(alloc),
+    }
+}
+
+/// The version.
+fn version(alloc: Global) -> WordsFault
+    ensures { TellsHelp true result }
+{
+    match String::from_str(alloc, VERSION) {
         Ok(text) => WordsFault::Words { help: true, text },
         Err(_) => WordsFault::NoMemory,
     }
@@ -592,6 +643,7 @@ fn help_of(alloc: Global, words: &[&str]) -> WordsFault
             "check" => command_help(check_command(alloc)),
             "replay" => command_help(replay_command(alloc)),
             "history" => command_help(history_command(alloc)),
+            "help" => general_help(alloc),
             _ => no_command(alloc, name),
         },
     }

@@ -11,6 +11,7 @@ use crate::report::write_recorded;
 use crate::saving::save_schedule_of;
 use crate::serving::{flush, read_script};
 use crate::status::status_of_recording;
+use si_notes::Notes;
 use si_plain::Limits;
 use si_workers::{Gate, RunFault};
 use si_world::Recording;
@@ -23,7 +24,8 @@ use std::thread::Threads;
 ///
 /// The script is run by worker threads, one for each interpreter that the limits allow, and the report is appended to `out`;
 /// before its first byte the schedule that was taken is appended to `saved`, if that is asked for. The status is as for
-/// `serial`. `gate` is called by the worker of interpreter i before and after each stretch of local turns of it.
+/// `serial`. `gate` is called by the worker of interpreter i before and after each stretch of local turns of it. What people
+/// are told beside the report is put into `notes`, of which no contract speaks.
 ///
 /// # Errors
 ///
@@ -37,6 +39,7 @@ pub fn serve_run<A: Write, B: Write, G: Gate + Sync, R: Threads + Wait + Sync>(
     script: &[u8],
     saved: &mut A,
     out: &mut B,
+    notes: &mut Notes,
     gate: &G,
 ) -> Result<u8, CliFault>
     requires { IsOfThreads request.now }
@@ -54,7 +57,19 @@ pub fn serve_run<A: Write, B: Write, G: Gate + Sync, R: Threads + Wait + Sync>(
             limits,
             saved: at,
             ..
-        } => { work(rt, alloc, script, *limits, at.is_some(), saved, out, gate) }
+        } => {
+            work(
+                rt,
+                alloc,
+                script,
+                *limits,
+                at.is_some(),
+                saved,
+                out,
+                notes,
+                gate,
+            )
+        }
         Request::Serial { .. } => unreachable!(),
         Request::Check { .. } => unreachable!(),
         Request::Replay { .. } => unreachable!(),
@@ -62,7 +77,7 @@ pub fn serve_run<A: Write, B: Write, G: Gate + Sync, R: Threads + Wait + Sync>(
     }
 }
 
-// Runs a script by worker threads, saves its schedule where that is asked for, and reports its run.
+// Runs a script by worker threads, saves its schedule where that is asked for, reports its run, and makes notes of it.
 fn work<A: Write, B: Write, G: Gate + Sync, R: Threads + Wait + Sync>(
     rt: &R,
     alloc: Global,
@@ -71,6 +86,7 @@ fn work<A: Write, B: Write, G: Gate + Sync, R: Threads + Wait + Sync>(
     is_saved: bool,
     saved: &mut A,
     out: &mut B,
+    notes: &mut Notes,
     gate: &G,
 ) -> Result<u8, CliFault>
     ensures reports { IfOk result (ReportsWorked limits is_saved script.now (B.contents out.old) (B.contents out.new) (A.contents saved.old) (A.contents saved.new)) }
@@ -85,6 +101,7 @@ fn work<A: Write, B: Write, G: Gate + Sync, R: Threads + Wait + Sync>(
     }
     write_recorded(out, &recording)?;
     flush(out)?;
+    *notes = Notes::of_recording(alloc, &recording);
     Ok(status_of_recording(&recording))
 }
 

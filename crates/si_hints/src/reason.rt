@@ -2,6 +2,7 @@
 
 use crate::form::{Form, Slip};
 use crate::shape::Shape;
+use crate::shortened::Shortened;
 use si_plain::limits::{MAX_EXPRESSION_DEPTH, MAX_NESTING, MAX_PARAMETERS, MAX_TEXT_BYTES};
 use std::fmt;
 
@@ -38,15 +39,8 @@ struct Quoted<'a>(&'a str);
 
 impl fmt::Display for Quoted<'_> {
     fn fmt<W: fmt::Write>(&self, f: &mut fmt::Formatter<W>) -> fmt::Result {
-        f.write_char('`')?;
-        for (count, c) in self.0.chars().enumerate() {
-            if count == MAX_QUOTED {
-                f.write_str("..")?;
-                break;
-            }
-            f.write_char(if c.is_control() { ' ' } else { c })?;
-        }
-        f.write_char('`')
+        let word = Shortened::new(self.0, MAX_QUOTED);
+        write!(f, "`{word}`")
     }
 }
 

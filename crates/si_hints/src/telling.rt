@@ -26,22 +26,42 @@ pub fn hint<'a>(
     line: usize,
 ) -> Result<Option<Hint<'a>>, NoMemory> {
     let bytes = script.strip_prefix(&MARK).unwrap_or(script);
-    let found = match std::str::from_utf8(bytes) {
-        Ok(text) => first_fault(alloc, text, line)?,
-        Err(error) => Some(Fault {
-            at: error.valid_up_to(),
-            reason: Reason::NotUtf8,
-        }),
-    };
-    let Some(fault) = found else {
-        return Ok(None);
-    };
+    match std::str::from_utf8(bytes) {
+        Ok(text) => text_hint(alloc, text, line),
+        Err(error) => Ok(Some(placed(
+            bytes,
+            Fault {
+                at: error.valid_up_to(),
+                reason: Reason::NotUtf8,
+            },
+        ))),
+    }
+}
+
+/// The same of a text, of which nothing is dropped.
+///
+/// # Errors
+///
+/// `NoMemory` where memory was refused.
+pub fn text_hint<'a>(
+    alloc: Global,
+    text: &'a str,
+    line: usize,
+) -> Result<Option<Hint<'a>>, NoMemory> {
+    match first_fault(alloc, text, line)? {
+        Some(fault) => Ok(Some(placed(text.as_bytes(), fault))),
+        None => Ok(None),
+    }
+}
+
+// A fault by its line and column.
+fn placed<'a>(bytes: &[u8], fault: Fault<'a>) -> Hint<'a> {
     let (line, column) = line_and_column(bytes, fault.at);
-    Ok(Some(Hint {
+    Hint {
         line,
         column,
         reason: fault.reason,
-    }))
+    }
 }
 
 // The first fault of a text, of which reading stopped in a line.

@@ -10,7 +10,8 @@ mod tests;
 use si_cli::{
     CliFault, MAX_SCHEDULE_BYTES, Request, WordsFault, read_input, request, serve, serve_run,
 };
-use si_hints::hint;
+use si_hints::{Shortened, hint};
+use si_notes::Notes;
 use si_plain::limits::MAX_FILE_BYTES;
 use si_workers::Gate;
 use std::alloc::AllocError;
@@ -23,6 +24,15 @@ use std::{fmt, io};
 
 /// How many bytes of a report are gathered before they are written.
 const WRITE_SIZE: usize = 65_536;
+
+/// The most characters of a path that a message repeats.
+const MAX_PATH: usize = 300;
+
+/// What is told of a file whose path is empty.
+const NO_PATH: &str = "the path of a file is empty";
+
+/// The path of a script that stands for standard input.
+const STANDARD_INPUT: &str = "-";
 
 /// What is told of the stretches of worker threads: nothing is done then.
 struct Open;
@@ -41,9 +51,23 @@ impl fmt::Display for Source<'_> {
     fn fmt<W: fmt::Write>(&self, f: &mut fmt::Formatter<W>) -> fmt::Result {
         match self.0 {
             None => f.write_str("standard input"),
-            Some(path) if path.chars().any(char::is_control) => write!(f, "{path:?}"),
-            Some(path) => f.write_str(path),
+            Some(path) => {
+                let shown = Shortened::new(path, MAX_PATH);
+                if path.chars().any(char::is_control) {
+                    write!(f, "{shown:?}")
+                } else {
+                    write!(f, "{shown}")
+                }
+            }
         }
+    }
+}
+
+/// Where a request's script comes from.
+fn script_source<'a>(request: &Request<'a>) -> Source<'a> {
+    match request.script() {
+        Some(path) if path == STANDARD_INPUT => Source(None),
+        path => Source(path),
     }
 }
 
@@ -56,6 +80,9 @@ fn tell<D: fmt::Display + Drop>(rt: &HostRuntime, message: D, status: u8) -> u8 
 
 /// The file at a path, which is there, may be read, and is no directory, or the status after telling what it is.
 fn opened(rt: &HostRuntime, source: &Source, path: &str, limit: u64) -> Result<File, u8> {
+    if path.is_empty() {
+        return Err(tell(rt, NO_PATH, 2));
+    }
     let file = match File::open(rt, path) {
         Ok(file) => file,
         Err(error) => {
@@ -115,7 +142,7 @@ fn schedule_bytes(rt: &HostRuntime, request: &Request) -> Result<Vec<u8>, u8> {
 /// Tells where and why a script is refused, or in which line where nothing more is found, and gives the status, which is
 /// another one where memory is refused meanwhile.
 fn tell_script(rt: &HostRuntime, request: &Request, script: &[u8], line: usize, status: u8) -> u8 {
-    let source = Source(request.script());
+    let source = script_source(request);
     match hint(rt.alloc(), script, line) {
         Ok(Some(found)) => {
             let (line, column, reason) = (found.line, found.column, found.reason);
@@ -151,6 +178,12 @@ fn tell_fault(rt: &HostRuntime, request: &Request, script: &[u8], fault: CliFaul
     }
 }
 
+/// Tells what notes were made of a run, and gives its status. Where they can't be written nothing is left to tell it by.
+fn tell_notes(rt: &HostRuntime, notes: &Notes, status: u8) -> u8 {
+    let _ = eprint!(rt; "{}", notes.as_str());
+    status
+}
+
 /// Carries out a request on the bytes of its files, and gives the program's status.
 fn carry_out_on<W: Write, T: Threads + Wait + Sync>(
     rt: &HostRuntime,
@@ -163,6 +196,7 @@ fn carry_out_on<W: Write, T: Threads + Wait + Sync>(
     let Ok(mut out) = BufWriter::with_capacity(rt.alloc(), WRITE_SIZE, io::writer(rt)) else {
         return tell(rt, CliFault::NoMemory, CliFault::NoMemory.status());
     };
+    let mut notes = Notes::new(rt.alloc());
     let answer = match request {
         Request::Run { .. } => serve_run(
             threads,
@@ -171,12 +205,21 @@ fn carry_out_on<W: Write, T: Threads + Wait + Sync>(
             script,
             saved,
             &mut out,
+            &mut notes,
             &Open,
         ),
-        _ => serve(rt.alloc(), request, script, schedule, saved, &mut out),
+        _ => serve(
+            rt.alloc(),
+            request,
+            script,
+            schedule,
+            saved,
+            &mut out,
+            &mut notes,
+        ),
     };
     match answer {
-        Ok(status) => status,
+        Ok(status) => tell_notes(rt, &notes, status),
         Err(fault) => tell_fault(rt, request, script, fault),
     }
 }
@@ -190,6 +233,9 @@ fn carry_out_saving<T: Threads + Wait + Sync>(
     schedule: &[u8],
     path: &str,
 ) -> u8 {
+    if path.is_empty() {
+        return tell(rt, NO_PATH, 2);
+    }
     let Ok(file) = File::create(rt, path) else {
         return tell(rt, format_args!("can't write {}", Source(Some(path))), 2);
     };
@@ -205,7 +251,7 @@ fn carry_out<T: Threads + Wait + Sync>(
     threads: &T,
     request: &Request,
 ) -> Result<u8, u8> {
-    let script = bytes_of(rt, &Source(request.script()), MAX_FILE_BYTES)?;
+    let script = bytes_of(rt, &script_source(request), MAX_FILE_BYTES)?;
     let schedule = schedule_bytes(rt, request)?;
     let (script, schedule) = (script.as_slice(), schedule.as_slice());
     Ok(match request.saved() {
@@ -214,7 +260,7 @@ fn carry_out<T: Threads + Wait + Sync>(
     })
 }
 
-/// Prints the help that was asked for, or tells why the words are refused, and gives the program's status.
+/// Prints the help or the version that was asked for, or tells why the words are refused, and gives the program's status.
 fn answer_words(rt: &HostRuntime, fault: &WordsFault) -> u8 {
     let status = fault.status();
     match fault {

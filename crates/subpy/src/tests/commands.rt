@@ -1,6 +1,7 @@
 // What no clause says: worked cases, the text of help and refusals, and readers and writers that fail.
 
 use si_cli::{CliFault, Request, WordsFault, read_input, request, serve};
+use si_notes::Notes;
 use si_plain::Limits;
 use std::alloc::Global;
 use std::io;
@@ -80,7 +81,15 @@ fn serve_within<W: Write>(
         limits,
         saved: None,
     };
-    serve(alloc, &asked, script.as_bytes(), &[], &mut io::sink(), out)
+    serve(
+        alloc,
+        &asked,
+        script.as_bytes(),
+        &[],
+        &mut io::sink(),
+        out,
+        &mut Notes::new(alloc),
+    )
 }
 
 #[test]
@@ -112,7 +121,15 @@ fn a_run_is_made_again(rt: HostRuntime) -> Result<(), Fail> {
         limits,
         saved: Some("taken"),
     };
-    let status = serve(rt.alloc(), &asked, script, &[], &mut saved, &mut out)?;
+    let status = serve(
+        rt.alloc(),
+        &asked,
+        script,
+        &[],
+        &mut saved,
+        &mut out,
+        &mut Notes::new(rt.alloc()),
+    )?;
     assert_eq!(rt; status, 1);
     let taken = b"schedule 1\ninterpreters 8\nturns 2\n0\n0\nend\n".as_slice();
     assert!(rt; saved.as_slice() == taken);
@@ -123,7 +140,15 @@ fn a_run_is_made_again(rt: HostRuntime) -> Result<(), Fail> {
     };
     let mut report = Vec::new(rt.alloc());
     let sink = &mut io::sink();
-    let status = serve(rt.alloc(), &again, script, taken, sink, &mut report)?;
+    let status = serve(
+        rt.alloc(),
+        &again,
+        script,
+        taken,
+        sink,
+        &mut report,
+        &mut Notes::new(rt.alloc()),
+    )?;
     assert_eq!(rt; status, 1);
     assert!(rt; report.as_slice() == out.as_slice());
     Ok(())
@@ -139,7 +164,15 @@ fn the_history_of_a_run_is_told(rt: HostRuntime) -> Result<(), Fail> {
     let taken = b"schedule 1\ninterpreters 1\nturns 2\n0\n0\nend\n".as_slice();
     let mut out = Vec::new(rt.alloc());
     let sink = &mut io::sink();
-    let status = serve(rt.alloc(), &asked, b"print(1)", taken, sink, &mut out)?;
+    let status = serve(
+        rt.alloc(),
+        &asked,
+        b"print(1)",
+        taken,
+        sink,
+        &mut out,
+        &mut Notes::new(rt.alloc()),
+    )?;
     assert_eq!(rt; status, 0);
     let told = b"1 0 take = run 0\n2 0 end returned = done\n".as_slice();
     assert!(rt; out.as_slice() == told);
@@ -158,7 +191,15 @@ fn a_schedule_that_is_not_saved(rt: HostRuntime) -> Result<(), Fail> {
         let written = Vec::new(rt.alloc());
         let mut saved = Filling { written, room };
         let mut out = Vec::new(rt.alloc());
-        let answer = serve(rt.alloc(), &asked, b"print(1)", &[], &mut saved, &mut out);
+        let answer = serve(
+            rt.alloc(),
+            &asked,
+            b"print(1)",
+            &[],
+            &mut saved,
+            &mut out,
+            &mut Notes::new(rt.alloc()),
+        );
         assert!(rt; matches!(answer, Err(CliFault::Write)) && out.is_empty());
     }
     Ok(())
@@ -184,7 +225,15 @@ fn a_script_is_checked_and_not_run(rt: HostRuntime) -> Result<(), Fail> {
     ] {
         let mut out = Vec::new(rt.alloc());
         let bytes = script.as_bytes();
-        match serve(rt.alloc(), &asked, bytes, &[], &mut io::sink(), &mut out) {
+        match serve(
+            rt.alloc(),
+            &asked,
+            bytes,
+            &[],
+            &mut io::sink(),
+            &mut out,
+            &mut Notes::new(rt.alloc()),
+        ) {
             Ok(status) => assert!(rt;
                 is_right && status == 0 && out.as_slice() == b"ok\n".as_slice()
             ),
@@ -454,9 +503,12 @@ fn words_that_ask_for_help(rt: HostRuntime) -> Result<(), Fail> {
     let general = "Runs Python scripts in isolated interpreters";
     let serial = "Runs a script, one turn after another";
     let check = "Says whether a script is well formed";
-    let cases: [(&[&str], &str); 6] = [
+    let cases: [(&[&str], &str); 9] = [
+        (&["subpy", "--version"], "subpy 0"),
+        (&["subpy", "-V"], "subpy 0"),
         (&["subpy", "--help"], general),
         (&["subpy", "help"], general),
+        (&["subpy", "help", "help"], general),
         (&["subpy", "help", "serial"], serial),
         (&["subpy", "serial", "--help"], serial),
         (&["subpy", "help", "check"], check),

@@ -195,6 +195,6 @@ returns-clause-help c =
     elim c.match-name.branch [
       | in-help w ↦ subst P (sym w.result-is) (help_tells (texts words) word.now w.help_of.result second w.in-help.is w.help_of.ensures)
       | in_default-name w ↦ subst P (sym w.result-is) (other_tells (texts words) word.now w.no_command.result second
-          w.in_default-name.not-text w.in_default-name.not-text-2 w.in_default-name.not-help not_serial not_run not_check not_replay not_history w.no_command.ensures)
-      | in_default-name+in-text w ↦ subst P (sym w.result-is) (flag_tells (texts words) word.now w.general_help.result second w.in-text.is w.general_help.ensures)
+          w.in_default-name.not-text w.in_default-name.not-text-2 w.in_default-name.not-text-3 w.in_default-name.not-text-4 w.in_default-name.not-help not_serial not_run not_check not_replay not_history w.no_command.ensures)
+      | in_default-name+in-text w ↦ subst P (sym w.result-is) (flag_tells (texts words) word.now w.told_by.result second w.in-text.is w.told_by.ensures)
     ]

@@ -1,0 +1,4 @@
+print('it keeps texts')
+kept = []
+while True:
+    kept.append('x' * 1000000)

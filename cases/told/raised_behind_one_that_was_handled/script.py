@@ -1,0 +1,8 @@
+def f():
+    raise ValueError('first')
+
+try:
+    f()
+except ValueError:
+    print('seen')
+    1 // 0

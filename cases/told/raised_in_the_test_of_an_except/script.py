@@ -1,0 +1,7 @@
+try:
+    print('tried')
+    [][0]
+except KeyError:
+    print('key')
+except IndexFault:
+    print('index')

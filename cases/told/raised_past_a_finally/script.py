@@ -1,0 +1,7 @@
+def f():
+    try:
+        return [][1]
+    finally:
+        print('last')
+
+f()

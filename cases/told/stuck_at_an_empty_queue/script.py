@@ -1,0 +1,4 @@
+from concurrent import interpreters
+q = interpreters.create_queue()
+print('waits')
+q.get()

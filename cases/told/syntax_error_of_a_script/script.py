@@ -1,0 +1,4 @@
+def f():
+    raise SyntaxError('mine')
+
+f()
