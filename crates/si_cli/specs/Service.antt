@@ -1,5 +1,5 @@
 -- What it means to carry out a command (this project's own).
-use Rattle.std.specs.Prelude.{◌≡◌, ◌≢◌, ◌⊎◌, ℕ, Bool, true, false, List, [], ◌∷◌, IsUtf8, Option, bytes_eq, codes, drop, encode_utf8_all, if◌then◌else◌, is_some, take}
+use Rattle.std.specs.Prelude.{◌≡◌, ◌≢◌, ◌⊎◌, ◌<◌, ℕ, Bool, true, false, List, [], ◌∷◌, IfSome, IsUtf8, Option, bytes_eq, codes, drop, encode_utf8_all, if◌then◌else◌, is_some, length, take}
 use Rattle.std.specs.Io.KnownBytes.{Appends, Keeps}
 use Rattle.si_plain.specs.Characters.{characters_of}
 use Rattle.si_plain.specs.Ranges.{Numbers}
@@ -16,7 +16,7 @@ use Rattle.si_workers.specs.declared.fault.RunFault.TheVariants as run_faults
 use Rattle.si_replay.specs.declared.fault.ReplayFault.{ReplayFault}
 use Rattle.si_replay.specs.declared.fault.ReplayFault.TheVariants as replay_faults
 use Rattle.si_cli.specs.declared.fault.CliFault.{CliFault}
-use Rattle.si_cli.specs.declared.fault.CliFault.TheVariants.{Write, Script, Schedule as BadSchedule, Replay as NotFollowed, Run as NotRun, NoMemory, Input}
+use Rattle.si_cli.specs.declared.fault.CliFault.TheVariants.{Write, Script, Schedule as BadSchedule, Replay as NotFollowed, Run as NotRun, NoMemory, Input, TooLong}
 use Rattle.si_cli.specs.declared.asked.Request.{Request}
 use Rattle.si_cli.specs.declared.asked.Request.TheVariants.{Serial, Run, Check, Replay, History}
 use Rattle.si_cli.specs.Report.{report_of, status_of}
@@ -146,11 +146,12 @@ IsOfScript (Script line) = Unit {0}
 IsOfScript NoMemory = Unit {0}
 IsOfScript _ = ⊥
 
--- a fault of reading the input
-abbrev pub IsOfInput : CliFault → Type 0
-IsOfInput Input = Unit {0}
-IsOfInput NoMemory = Unit {0}
-IsOfInput _ = ⊥
+-- a fault of reading at most so many bytes of what a reader had left: only of more is it told that they are too many
+abbrev pub IsOfInput : (limit : ℕ) → (left : Option (List ℕ)) → CliFault → Type 0
+IsOfInput limit left Input = Unit {0}
+IsOfInput limit left TooLong = IfSome left (λ bytes. limit < length bytes)
+IsOfInput limit left NoMemory = Unit {0}
+IsOfInput limit left _ = ⊥
 
 -- a fault of running a script and reporting it
 abbrev pub IsOfRun : CliFault → Type 0
@@ -184,6 +185,7 @@ abbrev pub IsNotRepeated : Numbers → (script schedule : List ℕ) → CliFault
 IsNotRepeated limits script schedule (BadSchedule line) = IsBadSchedule schedule line
 IsNotRepeated limits script schedule (NotFollowed fault) = IsNotFollowed limits script schedule fault
 IsNotRepeated limits script schedule Input = ⊥
+IsNotRepeated limits script schedule TooLong = ⊥
 IsNotRepeated limits script schedule (NotRun fault) = ⊥
 IsNotRepeated limits script schedule _ = Unit {0}
 
@@ -204,6 +206,7 @@ LeavesAlone old new (NotFollowed fault) = Keeps old new
 LeavesAlone old new (NotRun fault) = Keeps old new
 LeavesAlone old new NoMemory = Keeps old new
 LeavesAlone old new Input = ⊥
+LeavesAlone old new TooLong = ⊥
 
 -- the schedule of a world that a run has left is saved
 pub record IsSaved (script : List ℕ) (limits : Numbers) (old new : Option (List ℕ)) : Type 0 where

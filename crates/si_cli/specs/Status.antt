@@ -1,7 +1,7 @@
 -- The statuses with which the program ends (this project's own choice).
 use Rattle.std.specs.Prelude.{ℕ, if◌then◌else◌}
 use Rattle.si_cli.specs.declared.fault.CliFault.{CliFault}
-use Rattle.si_cli.specs.declared.fault.CliFault.TheVariants.{Write, Script, Schedule, Replay, Run, NoMemory, Input}
+use Rattle.si_cli.specs.declared.fault.CliFault.TheVariants.{Write, Script, Schedule, Replay, Run, NoMemory, Input, TooLong}
 use Rattle.si_replay.specs.declared.fault.ReplayFault.{ReplayFault}
 use Rattle.si_replay.specs.declared.fault.ReplayFault.TheVariants as replay
 use Rattle.si_workers.specs.declared.fault.RunFault.{RunFault}
@@ -33,6 +33,7 @@ status_of_fault (Replay fault) = status_of_replay fault
 status_of_fault (Run fault) = status_of_run_fault fault
 status_of_fault NoMemory = 5
 status_of_fault Input = 2
+status_of_fault TooLong = 2
 
 -- where the words ask for no command: 0 where they ask for help, else 2, and 5 for want of memory
 abbrev pub status_of_words : WordsFault → ℕ

@@ -30,9 +30,12 @@ pub enum CliFault {
     /// Memory was refused.
     #[error("out of memory")]
     NoMemory,
-    /// A read failed, or what was to be read is too long.
-    #[error("a file can't be read, or is too long")]
+    /// A read failed.
+    #[error("a file can't be read")]
     Input,
+    /// What was to be read is longer than was asked for.
+    #[error("a file is too long")]
+    TooLong,
 }
 
 impl From<AllocError> for CliFault {
@@ -55,7 +58,11 @@ impl CliFault {
             CliFault::NoMemory => 5,
             CliFault::Replay(fault) => status_of_replay(*fault),
             CliFault::Run(fault) => status_of_run_fault(*fault),
-            CliFault::Write | CliFault::Script(_) | CliFault::Schedule(_) | CliFault::Input => 2,
+            CliFault::Write
+            | CliFault::Script(_)
+            | CliFault::Schedule(_)
+            | CliFault::Input
+            | CliFault::TooLong => 2,
         }
     }
 }

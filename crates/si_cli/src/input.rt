@@ -19,14 +19,14 @@ const MOST_READS: u32 = 16_777_216;
 
 /// All bytes that the reader has left, at most `limit`.
 ///
-/// `CliFault::Input` where a read failed, more than `limit` bytes came, or so many reads as `MOST_READS` met no end;
-/// `CliFault::NoMemory` where memory was refused. What was read is then lost.
+/// `CliFault::TooLong` where more than `limit` bytes came, `CliFault::Input` where a read failed or so many reads as `MOST_READS`
+/// met no end, `CliFault::NoMemory` where memory was refused. What was read is then lost.
 pub fn read_input<R: Read>(alloc: Global, from: &mut R, limit: u64) -> Result<Vec<u8>, CliFault>
     // The answer is what the reader had left, and the reader is at its end.
     ensures all { IfOk result (λ v. Consumes (R.remaining from.old) (R.remaining from.new) v.items
         × IsAtEnd (R.remaining from.new)) }
     ensures short { IfOk result (λ v. length v.items ≤ limit) }
-    ensures fault { IfErr result IsOfInput }
+    ensures fault { IfErr result (IsOfInput limit (R.remaining from.old)) }
 {
     let mut all = Vec::new(alloc);
     let mut buffer = [0u8; CHUNK];
@@ -38,7 +38,7 @@ pub fn read_input<R: Read>(alloc: Global, from: &mut R, limit: u64) -> Result<Ve
             return Ok(all);
         }
         if count as u64 > limit - all.len() as u64 {
-            return Err(CliFault::Input);
+            return Err(CliFault::TooLong);
         }
         all.extend_from_slice(&buffer[..count])?;
     }

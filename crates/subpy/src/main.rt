@@ -121,8 +121,13 @@ fn bytes_of(rt: &HostRuntime, source: &Source, limit: u64) -> Result<Vec<u8>, u8
         Ok(bytes) => Ok(bytes),
         Err(CliFault::Input) => Err(tell(
             rt,
-            format_args!("can't read {source}, or it is too long"),
+            format_args!("can't read {source}"),
             CliFault::Input.status(),
+        )),
+        Err(CliFault::TooLong) => Err(tell(
+            rt,
+            format_args!("{source} is too long: at most {limit} bytes are read"),
+            CliFault::TooLong.status(),
         )),
         Err(fault) => {
             let status = fault.status();
