@@ -1,4 +1,5 @@
-// Tests of what reads, resolves and compiles, through what these crates have public: worked texts, one file a subject.
+// Tests of what reads, resolves and compiles, and of what counts statements beside that, through what is public there: worked
+// texts, one file a subject.
 //
 // They stand in a crate of their own, since a crate with tests is proved twice, and this one has nothing else; they wait
 // for the compiler alone, and run while the machine is proved. The tests of commands stand in `subpy`.
@@ -6,6 +7,8 @@
 
 #[cfg(test)]
 mod code;
+#[cfg(test)]
+mod lines;
 #[cfg(test)]
 mod scope;
 #[cfg(test)]
