@@ -9,6 +9,8 @@ mod code;
 #[cfg(test)]
 mod scope;
 #[cfg(test)]
+mod spots;
+#[cfg(test)]
 mod tokens;
 #[cfg(test)]
 mod trees;
