@@ -15,3 +15,4 @@ pub mod LoopStmts
 pub mod TargetCode
 pub mod AssignCode
 pub mod UpdateCode
+pub mod Noted

@@ -37,7 +37,8 @@ pub(crate) fn emit_if(
     table.aim(end)
 }
 
-// Each `elif` of an `if`, and the else suite. The last of them has no jump after it where nothing follows.
+// Each `elif` of an `if`, and the else suite. The last of them has no jump after it where nothing follows. Each `elif` is
+// noted as a statement of its own.
 #[cycle(stmts)]
 fn emit_others(
     table: &mut CodeTable,
@@ -55,6 +56,7 @@ fn emit_others(
     let mut ends = Vec::new(table.allocator());
     for branch in &statement.elifs {
         left -= 1;
+        table.note_statement()?;
         if ends_here(quiet, left) {
             emit_alone(table, locals, next, branch)?;
             continue;

@@ -68,7 +68,8 @@ pub(crate) fn emit_try(
     table.aim(end)
 }
 
-// The except clauses of a `try`. Where none matches, the exception goes on: so it does where there is none.
+// The except clauses of a `try`, each noted as a statement of its own. Where none matches, the exception goes on: so it
+// does where there is none.
 #[cycle(stmts)]
 fn emit_clauses(
     table: &mut CodeTable,
@@ -83,6 +84,7 @@ fn emit_clauses(
 {
     let mut ends = Vec::new(table.allocator());
     for clause in clauses {
+        table.note_statement()?;
         ends.push(emit_clause(table, locals, next, clause)?)?;
     }
     table.put(FullInstr::RaiseAgain)?;

@@ -18,10 +18,11 @@ use si_syntax::Expr;
 use std::alloc::AllocError;
 
 /// What follows the suite of a `while` that begins at a place: the test, which leads back there where it is true, and the
-/// end of the loop's block.
+/// end of the loop's block. It is noted as code of the loop's statement, by its number.
 pub(crate) fn emit_turn(
     table: &mut CodeTable,
     locals: &Names,
+    number: u32,
     body: usize,
     test: &Expr,
 ) -> Result<(), NoMemory>
@@ -30,6 +31,7 @@ pub(crate) fn emit_turn(
     ensures ok { OnOk result (Gains table.old table.new (turn_code (condition_code locals.now (expr_of test.now)) (length table.old.lines - body))) }
     ensures extends { Extends table.old table.new }
 {
+    table.note_again(number)?;
     let at = emit_repeat(table, locals, test)?;
     table.aim_back(at, body)?;
     table.put(FullInstr::LeaveBlock)
@@ -85,17 +87,19 @@ fn bind_item(table: &mut CodeTable, locals: &Names, name: &str) -> Result<(), No
     }
 }
 
-/// What follows the suite of a `for` whose entry is at a place: its next item, which leads back to after that. A loop of
-/// 2^32 instructions or more counts as memory refused.
+/// What follows the suite of a `for` whose entry is at a place: its next item, which leads back to after that. It is noted
+/// as code of the loop's statement, by its number. A loop of 2^32 instructions or more counts as memory refused.
 pub(crate) fn emit_next(
     table: &mut CodeTable,
     locals: &Names,
+    number: u32,
     target: &si_syntax::Target,
     entry: usize,
 ) -> Result<(), NoMemory>
     ensures ok { OnOk result (Gains table.old table.new (machine.NextItem (item_target locals.now (tree_target target.now)) (length table.old.lines - entry) ∷ [])) }
     ensures extends { Extends table.old table.new }
 {
+    table.note_again(number)?;
     let lines = table.len().saturating_sub(entry);
     let back = u32::try_from(lines).map_err(|_| AllocError)?;
     table.put(FullInstr::NextItem(place_of_item(locals, target), back))

@@ -25,12 +25,13 @@ pub(crate) fn emit_while(
     ensures next { OnOk result (next.new ≡ next.old + length (functions_of (while_of statement.now))) }
     ensures extends { Extends table.old table.new }
 {
+    let number = table.statement();
     let start = table.len();
     table.put(FullInstr::EnterLoop(0, 0))?;
     let body = table.len();
     emit_suite(table, locals, next, &statement.body)?;
     let turn = table.len();
-    emit_turn(table, locals, body, &statement.test)?;
+    emit_turn(table, locals, number, body, &statement.test)?;
     emit_suite(table, locals, next, &statement.last)?;
     table.aim_loop(start, turn)
 }
@@ -48,10 +49,11 @@ pub(crate) fn emit_for(
     ensures next { OnOk result (next.new ≡ next.old + length (functions_of (for_of statement.now))) }
     ensures extends { Extends table.old table.new }
 {
+    let number = table.statement();
     let entry = emit_entry(table, locals, &statement.target, &statement.items)?;
     emit_suite(table, locals, next, &statement.body)?;
     let item = table.len();
-    emit_next(table, locals, &statement.target, entry)?;
+    emit_next(table, locals, number, &statement.target, entry)?;
     emit_suite(table, locals, next, &statement.last)?;
     table.aim_loop(entry, item)
 }

@@ -40,13 +40,15 @@ pub fn compile(tree: &Scoped, table: &mut CodeTable) -> Result<usize, NoMemory>
     }
 }
 
-// The functions of a script, and then its statements. Says where the code of these begins.
+// The functions of a script, and then its statements, noted as a text of its own. Says where the code of the statements
+// begins.
 fn emit_script(table: &mut CodeTable, tree: &Scoped) -> Result<usize, NoMemory>
     ensures ok { let functions = functions_in (script_of tree.now) in
         OnOk result (GainsRoutines table.old table.new (functions_code functions ++ module_code (length table.old.routines) (script_of tree.now)) (entries_from (length table.old.lines) functions)) }
     ensures at { IfOk result (λ at. at ≡ length table.old.lines + length (functions_code (functions_in (script_of tree.now)))) }
     ensures extends { Extends table.old table.new }
 {
+    table.begin_text()?;
     let first = u32::try_from(table.routines()).map_err(|_| AllocError)?;
     let mut number = 0;
     emit_functions(table, tree, &mut number, tree.body())?;

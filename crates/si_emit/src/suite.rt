@@ -19,7 +19,7 @@ use si_slots::{CodeTable, FullInstr, Target};
 use si_syntax::Stmt;
 
 /// Statements one after another, where these names are local. The functions that they define are numbered from `next`
-/// on, which moves past the last of them.
+/// on, which moves past the last of them. The table is told where the code of each begins.
 #[cycle(stmts)]
 pub(crate) fn emit_suite(
     table: &mut CodeTable,
@@ -33,6 +33,7 @@ pub(crate) fn emit_suite(
     ensures extends { Extends table.old table.new }
 {
     for stmt in body {
+        table.note_statement()?;
         emit_stmt(table, locals, next, stmt)?;
     }
     Ok(())

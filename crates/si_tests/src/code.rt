@@ -4,7 +4,7 @@ use si_emit::compile;
 use si_parse::parse;
 use si_plain::{BinaryOperator, UnaryOperator};
 use si_scope::{Scoped, resolve};
-use si_slots::{Aim, CodeTable, Constant, FullInstr, Routine, Source, Target};
+use si_slots::{Aim, CodeTable, Constant, FullInstr, Routine, Source, Spot, Target};
 use std::alloc::Global;
 use std::test::Fail;
 
@@ -105,6 +105,11 @@ fn refused_memory_leaves_no_half_of_a_try(rt: HostRuntime) -> Result<(), Fail> {
     };
     assert_eq!(rt; at, 3);
     assert_eq!(rt; table.literals().len(), 3);
+    let spot = Spot {
+        text: 1,
+        statement: 0,
+    };
+    assert_eq!(rt; table.spot(at), Some(spot));
     Ok(())
 }
 

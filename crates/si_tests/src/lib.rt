@@ -12,6 +12,8 @@ mod lines;
 #[cfg(test)]
 mod scope;
 #[cfg(test)]
+mod spots;
+#[cfg(test)]
 mod tokens;
 #[cfg(test)]
 mod trees;

@@ -20,6 +20,7 @@ use Rattle.si_slots.specs.Code.{stmts_code, named_code}
 use Rattle.si_slots.specs.Views.{Gains}
 use Rattle.si_slots.proofs.Gained.{Extends-trans, Gains-append, locals_kept}
 use Rattle.si_slots.proofs.Growth.{Extends-same}
+use Rattle.si_emit.proofs.Noted.{noted_gains, noted_extends, noted_behind}
 use Rattle.si_emit.proofs.Branches.{MakesAll-step, all_aimed}
 use Rattle.si_emit.proofs.LoopCode.{put_extends}
 use Rattle.si_emit.proofs.TryCode.{clause_test_behind}
@@ -92,15 +93,16 @@ handlers::emit_clauses-loop-clause-preserved t c =
     let old = c.loop-clause.invariant in
     let cs = c.args.clauses.now in
     let at = c.in_ok-emit_clause.field-0 in
+    let gains = noted_gains c.note_statement.ensures c.in_ok-emit_clause.ensures.ok in
     record {
       due = MakesAll-step c.loop-clause.ends.items _ _ _ _ at c.in_ok-push.ensures.items
           (next_clause c.args.locals.now cs c.loop-clause.clause-index c.clause-item.result at _ _ c.loop-clause-test.true (sym c.clause-item.is)
-          c.in_ok-emit_clause.ensures.next c.in_ok-emit_clause.ensures.at c.in_ok-emit_clause.ensures.ok)
+          c.in_ok-emit_clause.ensures.next c.in_ok-emit_clause.ensures.at gains)
           old.due;
-      behind = jump_more c.loop-clause.ends.items at c.in_ok-push.ensures.items (clause_behind _ at c.in_ok-emit_clause.ensures.at c.in_ok-emit_clause.ensures.ok) old.extends old.behind;
+      behind = jump_more c.loop-clause.ends.items at c.in_ok-push.ensures.items (clause_behind _ at c.in_ok-emit_clause.ensures.at gains) old.extends old.behind;
       number = next_clause_number cs c.loop-clause.clause-index c.clause-item.result _ _ _ c.loop-clause-test.true (sym c.clause-item.is) c.in_ok-emit_clause.ensures.next old.number;
-      extends = Extends-trans _ _ _ old.extends c.in_ok-emit_clause.ensures.extends;
-      names = locals_kept c.in_ok-emit_clause.ensures.ok old.names;
+      extends = Extends-trans _ _ _ old.extends (noted_extends c.note_statement.ensures c.in_ok-emit_clause.ensures.extends);
+      names = locals_kept gains old.names;
     }
 
 pub handlers::emit_clauses-returns-clause-ok : goal.handlers::emit_clauses-returns-clause-ok
@@ -198,11 +200,12 @@ handlers::emit_try-returns-clause-extends t c =
 pub suite::emit_suite-loop-stmt-preserved : goal.suite::emit_suite-loop-stmt-preserved
 suite::emit_suite-loop-stmt-preserved t c =
     let old = c.loop-stmt.invariant in
+    let gains = noted_gains c.note_statement.ensures c.in_ok-emit_stmt.ensures.ok in
     record {
-      gains = next_stmt c.args.locals.now c.args.body.now c.loop-stmt.stmt-index c.stmt-item.result _ _ _ c.loop-stmt-test.true (sym c.stmt-item.is) c.in_ok-emit_stmt.ensures.next old.gains c.in_ok-emit_stmt.ensures.ok;
+      gains = next_stmt c.args.locals.now c.args.body.now c.loop-stmt.stmt-index c.stmt-item.result _ _ _ c.loop-stmt-test.true (sym c.stmt-item.is) c.in_ok-emit_stmt.ensures.next old.gains gains;
       number = next_number c.args.body.now c.loop-stmt.stmt-index c.stmt-item.result _ _ _ c.loop-stmt-test.true (sym c.stmt-item.is) c.in_ok-emit_stmt.ensures.next old.number;
-      extends = Extends-trans _ _ _ old.extends c.in_ok-emit_stmt.ensures.extends;
-      names = locals_kept c.in_ok-emit_stmt.ensures.ok old.names;
+      extends = Extends-trans _ _ _ old.extends (noted_extends c.note_statement.ensures c.in_ok-emit_stmt.ensures.extends);
+      names = locals_kept gains old.names;
     }
 
 pub suite::emit_suite-returns-clause-ok : goal.suite::emit_suite-returns-clause-ok
@@ -300,15 +303,16 @@ choosing::emit_others-loop-branch-preserved t c =
     let at = c.in_ok-emit_branch.field-0 in
     let many : c.loop-branch.left - 1 + (c.loop-branch.branch-index + 1) ≡ length elifs = omega (arith, old.left, c.loop-branch-test.true) in
     let quiet = subst (λ l. c.is_silent-quiet.result ≡ silent_suite (body_of l)) c.deref.ensures.value c.is_silent-quiet.ensures in
+    let gains = noted_gains c.note_statement.ensures c.in_ok-emit_branch.ensures.ok in
     record {
       due = MakesAll-step c.loop-branch.ends.items _ _ _ _ at c.in_ok-push.ensures.items
           (next_elif c.args.locals.now elifs c.loop-branch.branch-index c.branch-item.result last at _ _ c.loop-branch-test.true (sym c.branch-item.is) c.in_ok-emit_branch.ensures.next c.in_ok-emit_branch.ensures.at
-          (follows elifs last c.loop-branch.branch-index (c.loop-branch.left - 1) c.is_silent-quiet.result c.ends_here.result many quiet c.ends_here.ensures c.if-ends_here.false) c.in_ok-emit_branch.ensures.ok)
+          (follows elifs last c.loop-branch.branch-index (c.loop-branch.left - 1) c.is_silent-quiet.result c.ends_here.result many quiet c.ends_here.ensures c.if-ends_here.false) gains)
           old.due;
-      behind = jump_more c.loop-branch.ends.items at c.in_ok-push.ensures.items c.in_ok-emit_branch.ensures.behind old.extends old.behind;
+      behind = jump_more c.loop-branch.ends.items at c.in_ok-push.ensures.items (noted_behind c.note_statement.ensures c.in_ok-emit_branch.ensures.behind) old.extends old.behind;
       number = next_elif_number elifs c.loop-branch.branch-index c.branch-item.result last _ _ _ c.loop-branch-test.true (sym c.branch-item.is) c.in_ok-emit_branch.ensures.next old.number;
-      extends = Extends-trans _ _ _ old.extends c.in_ok-emit_branch.ensures.extends;
-      names = locals_kept c.in_ok-emit_branch.ensures.ok old.names;
+      extends = Extends-trans _ _ _ old.extends (noted_extends c.note_statement.ensures c.in_ok-emit_branch.ensures.extends);
+      names = locals_kept gains old.names;
       left = many;
     }
 
@@ -319,15 +323,16 @@ choosing::emit_others-loop-branch-preserved-then-ends_here t c =
     let last = body_of (out-If c.args.statement.now).last.items in
     let many : c.loop-branch.left - 1 + (c.loop-branch.branch-index + 1) ≡ length elifs = omega (arith, old.left, c.loop-branch-test.true) in
     let quiet = subst (λ l. c.is_silent-quiet.result ≡ silent_suite (body_of l)) c.deref.ensures.value c.is_silent-quiet.ensures in
+    let gains = noted_gains c.note_statement.ensures c.in_ok-emit_alone.ensures.ok in
     record {
       due = last_elif c.args.locals.now elifs c.loop-branch.branch-index c.branch-item.result last c.loop-branch.ends.items _ _ _ c.loop-branch-test.true (sym c.branch-item.is) c.in_ok-emit_alone.ensures.next
           (none_left elifs c.loop-branch.branch-index (c.loop-branch.left - 1) c.is_silent-quiet.result c.ends_here.result many c.ends_here.ensures c.if-ends_here.true)
           (stays_quiet last (c.loop-branch.left - 1) c.is_silent-quiet.result c.ends_here.result quiet c.ends_here.ensures c.if-ends_here.true)
-          c.in_ok-emit_alone.ensures.ok old.due;
+          gains old.due;
       behind = old.behind;
       number = next_elif_number elifs c.loop-branch.branch-index c.branch-item.result last _ _ _ c.loop-branch-test.true (sym c.branch-item.is) c.in_ok-emit_alone.ensures.next old.number;
-      extends = Extends-trans _ _ _ old.extends c.in_ok-emit_alone.ensures.extends;
-      names = locals_kept c.in_ok-emit_alone.ensures.ok old.names;
+      extends = Extends-trans _ _ _ old.extends (noted_extends c.note_statement.ensures c.in_ok-emit_alone.ensures.extends);
+      names = locals_kept gains old.names;
       left = many;
     }
 
