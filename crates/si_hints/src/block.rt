@@ -6,7 +6,7 @@ pub(crate) enum Clause {
     // None is before.
     None,
     If,
-    // An `else` or a `finally`, behind which no other stands.
+    // An `else` or a `finally`, after which no other stands.
     Last,
     While,
     For,
@@ -21,7 +21,7 @@ pub(crate) enum Clause {
 }
 
 impl Clause {
-    // Whether an `else` may stand behind it.
+    // Whether an `else` may stand after it.
     pub(crate) fn takes_else(self) -> bool {
         matches!(
             self,

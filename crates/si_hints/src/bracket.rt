@@ -43,7 +43,7 @@ fn begins_statement(token: Token) -> bool {
 }
 
 impl<'a> Walk<'a> {
-    // An open bracket, before or behind an operand.
+    // An open bracket, before or after an operand.
     pub(crate) fn open(&mut self, bracket: Bracket, token: Token<'a>) -> Result<(), Stop<'a>> {
         self.level.token(token);
         let outer = self.level;
@@ -90,7 +90,7 @@ impl<'a> Walk<'a> {
         let _ = self.frames.pop();
         self.level = frame.outer;
         self.level.longer(shape);
-        self.state = State::Behind;
+        self.state = State::After;
         Ok(())
     }
 
@@ -118,7 +118,7 @@ impl<'a> Walk<'a> {
         }
     }
 
-    // The end of a statement behind an expression.
+    // The end of a statement after an expression.
     pub(crate) fn end_of_expression(&mut self, token: Token<'a>) -> Result<(), Stop<'a>> {
         self.unclosed(token)?;
         self.whole(token)?;

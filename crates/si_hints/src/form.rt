@@ -67,7 +67,7 @@ impl fmt::Display for Form {
                 "no import but `import threading` and `from concurrent import interpreters`"
             }
             Form::IndexComma => "a comma in the square brackets of an item is left out",
-            Form::Is => "behind `is` and `is not` stands None, True or False alone",
+            Form::Is => "after `is` and `is not` stands None, True or False alone",
             Form::JoinedLines => "a backslash that joins lines is left out",
             Form::Lambda => "`lambda` is left out",
             Form::Match => "`match` is left out",

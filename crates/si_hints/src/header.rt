@@ -40,7 +40,7 @@ impl<'a> Walk<'a> {
         }
     }
 
-    // An `except` behind a clause.
+    // An `except` after a clause.
     fn begin_except(&mut self, last: Clause, token: Token<'a>) -> Result<(), Stop<'a>> {
         match last {
             Clause::Try | Clause::Except => {
@@ -52,7 +52,7 @@ impl<'a> Walk<'a> {
         }
     }
 
-    // Behind an `except`.
+    // After an `except`.
     pub(crate) fn except(&mut self, token: Token<'a>) -> Result<(), Stop<'a>> {
         match token.kind {
             TokenKind::Symbol(Symbol::Colon) => {

@@ -1,4 +1,4 @@
-// Commas, colons, and signs of assignment behind an operand.
+// Commas, colons, and signs of assignment after an operand.
 
 use crate::fault::Stop;
 use crate::form::{Form, Slip};
@@ -63,7 +63,7 @@ impl<'a> Walk<'a> {
         Ok(())
     }
 
-    // A colon behind an operand.
+    // A colon after an operand.
     pub(crate) fn inner_colon(&mut self, token: Token<'a>) -> Result<(), Stop<'a>> {
         self.whole(token)?;
         let at = token.span.start;
@@ -107,7 +107,7 @@ impl<'a> Walk<'a> {
         }
     }
 
-    // An `=` behind an operand.
+    // An `=` after an operand.
     pub(crate) fn equal(&mut self, token: Token<'a>) -> Result<(), Stop<'a>> {
         self.whole(token)?;
         let at = token.span.start;
@@ -163,7 +163,7 @@ impl<'a> Walk<'a> {
         Ok(())
     }
 
-    // An augmented sign behind an operand.
+    // An augmented sign after an operand.
     pub(crate) fn augmented(&mut self, token: Token<'a>) -> Result<(), Stop<'a>> {
         self.whole(token)?;
         if !self.frames.is_empty() || self.part != Part::Plain {

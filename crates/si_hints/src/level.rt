@@ -19,7 +19,7 @@ pub(crate) struct Level<'a> {
     pub(crate) named: bool,
     // An item before it was passed by name.
     pub(crate) after_named: bool,
-    // A comma stands behind an item.
+    // A comma stands after an item.
     pub(crate) comma: bool,
     // The place of the first item that is no target, and what it is.
     wrong: Option<(usize, Shape)>,
@@ -143,7 +143,7 @@ impl<'a> Level<'a> {
         }
     }
 
-    // Behind the item.
+    // After the item.
     pub(crate) fn next_item(&mut self) {
         self.wrong = self.no_target();
         self.first = None;

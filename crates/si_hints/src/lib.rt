@@ -9,12 +9,12 @@
 // out, and slips), `fault` (a place and a reason), `words` and `literal` (words that are none), `layout` (indentation),
 // `shape` (what may stand before `=`), `level` (an expression as far as it was read), `block` (compound statements and what
 // may stand in them), `state` (what is expected next), `walk` (going over the tokens), with `statement` (how statements
-// begin), `header` (clauses and their suites), `naming` (parameters, `global`, imports), `operand` and `behind`
+// begin), `header` (clauses and their suites), `naming` (parameters, `global`, imports), `operand` and `after`
 // (expressions), `joint` (commas, colons and assignments), `bracket` (brackets and ends), and `telling`, which puts all of
 // it together; and `placing` (the lines of statements).
 #![tactic(auto)]
 
-mod behind;
+mod after;
 mod block;
 mod bracket;
 mod fault;

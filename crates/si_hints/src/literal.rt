@@ -31,7 +31,7 @@ fn body_end<'a>(
     count: usize,
     start: usize,
 ) -> Result<Option<usize>, Fault<'a>> {
-    // how many quotes stand in a row just before, and whether a backslash, or one with a CR behind it, does
+    // how many quotes stand in a row just before, and whether a backslash, or one with a CR after it, does
     let mut row: usize = 0;
     let mut escaped = false;
     let mut joins = false;
@@ -75,7 +75,7 @@ fn wrong_value<'a>(word: &'a str, start: usize, end: usize) -> Option<Fault<'a>>
     let mut skipped = 0;
     for _ in 0..word.len() {
         let at = end.saturating_sub(rest.len()).max(start);
-        let (character, behind) = next_character(rest)?;
+        let (character, after) = next_character(rest)?;
         if in_bytes && !character.is_ascii() {
             let reason = Reason::NotAscii(character);
             return Some(Fault { at, reason });
@@ -83,13 +83,13 @@ fn wrong_value<'a>(word: &'a str, start: usize, end: usize) -> Option<Fault<'a>>
         if skipped > 0 {
             skipped -= 1;
         } else if character == '\\' && !is_raw {
-            let Some((_, count)) = escape(in_bytes, behind) else {
+            let Some((_, count)) = escape(in_bytes, after) else {
                 let reason = Reason::Escape;
                 return Some(Fault { at, reason });
             };
             skipped = count;
         }
-        rest = behind;
+        rest = after;
     }
     None
 }

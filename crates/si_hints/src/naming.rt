@@ -10,7 +10,7 @@ use si_plain::limits::MAX_PARAMETERS;
 use si_token::{Keyword, Symbol, Token, TokenKind};
 
 impl<'a> Walk<'a> {
-    // A name, or what stands behind one.
+    // A name, or what stands after one.
     pub(crate) fn naming(&mut self, token: Token<'a>) -> Result<(), Stop<'a>> {
         match self.state {
             State::Define => {
@@ -27,13 +27,13 @@ impl<'a> Walk<'a> {
                 _ => self.expected("`(`", token),
             },
             State::Parameter => self.parameter(token),
-            State::BehindParameter => self.behind_parameter(token),
+            State::AfterParameter => self.after_parameter(token),
             State::As => {
                 self.named(token, State::Colon)?;
                 self.using(token)
             }
             State::Global => self.global(token),
-            State::BehindGlobal => match token.kind {
+            State::AfterGlobal => match token.kind {
                 TokenKind::Symbol(Symbol::Comma) => {
                     self.state = State::Global;
                     Ok(())
@@ -44,12 +44,12 @@ impl<'a> Walk<'a> {
         }
     }
 
-    // A name, behind which something is expected.
-    fn named(&mut self, token: Token<'a>, behind: State) -> Result<(), Stop<'a>> {
+    // A name, after which something is expected.
+    fn named(&mut self, token: Token<'a>, after: State) -> Result<(), Stop<'a>> {
         if token.kind != TokenKind::Name {
             return self.expected("a name", token);
         }
-        self.state = behind;
+        self.state = after;
         Ok(())
     }
 
@@ -75,7 +75,7 @@ impl<'a> Walk<'a> {
                 }
                 self.parameters.slot_of(token.text)?;
                 self.used.slot_of(token.text)?;
-                self.state = State::BehindParameter;
+                self.state = State::AfterParameter;
                 Ok(())
             }
             TokenKind::Symbol(Symbol::RightParenthesis) => {
@@ -89,8 +89,8 @@ impl<'a> Walk<'a> {
         }
     }
 
-    // Behind a parameter.
-    fn behind_parameter(&mut self, token: Token<'a>) -> Result<(), Stop<'a>> {
+    // After a parameter.
+    fn after_parameter(&mut self, token: Token<'a>) -> Result<(), Stop<'a>> {
         let at = token.span.start;
         match token.kind {
             TokenKind::Symbol(Symbol::Comma) => {
@@ -113,7 +113,7 @@ impl<'a> Walk<'a> {
 
     // A name that is declared `global`.
     fn global(&mut self, token: Token<'a>) -> Result<(), Stop<'a>> {
-        self.named(token, State::BehindGlobal)?;
+        self.named(token, State::AfterGlobal)?;
         let rule = if self.parameters.position(token.text).is_some() {
             Rule::GlobalParameter(token.text)
         } else if self.used.position(token.text).is_some() {

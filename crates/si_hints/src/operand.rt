@@ -33,7 +33,7 @@ impl<'a> Walk<'a> {
             ),
         };
         if ends {
-            self.behind(token)
+            self.after(token)
         } else {
             self.operand(token)
         }
@@ -64,7 +64,7 @@ impl<'a> Walk<'a> {
     // A literal.
     fn literal(&mut self, token: Token<'a>) {
         self.level.operand(token, Shape::Literal);
-        self.state = State::Behind;
+        self.state = State::After;
     }
 
     // A name, which is used unless it is the name of an argument.
@@ -78,7 +78,7 @@ impl<'a> Walk<'a> {
             _ => false,
         };
         self.level.operand(token, Shape::Name);
-        self.state = State::Behind;
+        self.state = State::After;
         if is_passed {
             return Ok(());
         }
@@ -158,7 +158,7 @@ impl<'a> Walk<'a> {
         }
     }
 
-    // What is meant by a symbol behind another.
+    // What is meant by a symbol after another.
     fn slip(&self, symbol: Symbol, token: Token<'a>) -> Option<Slip> {
         match symbol {
             Symbol::Ampersand if self.joins(Symbol::Ampersand, token) => Some(Slip::And),
@@ -190,7 +190,7 @@ impl<'a> Walk<'a> {
         self.expected("an expression", token)
     }
 
-    // `not`, None, True or False, behind `is`.
+    // `not`, None, True or False, after `is`.
     pub(crate) fn singleton(&mut self, token: Token<'a>) -> Result<(), Stop<'a>> {
         match token.kind {
             TokenKind::Keyword(Keyword::Not) if self.state == State::Is => {
@@ -198,14 +198,14 @@ impl<'a> Walk<'a> {
                 Ok(())
             }
             TokenKind::Keyword(Keyword::None | Keyword::True | Keyword::False) => {
-                self.state = State::BehindIs;
+                self.state = State::AfterIs;
                 Ok(())
             }
             _ => Err(Stop::at(token.span.start, Reason::LeftOut(Form::Is))),
         }
     }
 
-    // `in`, behind `not`.
+    // `in`, after `not`.
     pub(crate) fn not_in(&mut self, token: Token<'a>) -> Result<(), Stop<'a>> {
         if token.kind != TokenKind::Keyword(Keyword::In) {
             return self.expected("`in`", token);
@@ -220,7 +220,7 @@ impl<'a> Walk<'a> {
             return self.expected("a name", token);
         }
         self.level.longer(Shape::Attribute);
-        self.state = State::Behind;
+        self.state = State::After;
         Ok(())
     }
 }

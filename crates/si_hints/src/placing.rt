@@ -79,11 +79,11 @@ impl<'a> Statements<'a> {
 
     // The name of the function in which the statement of a number stands that stands within one.
     fn function_at(&self, number: usize) -> Option<&'a str> {
-        let behind = self
+        let after = self
             .functions
             .as_slice()
             .partition_point(|function| function.first <= number);
-        let function = self.functions.get(behind.checked_sub(1)?)?;
+        let function = self.functions.get(after.checked_sub(1)?)?;
         Some(function.name)
     }
 }

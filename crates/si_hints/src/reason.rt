@@ -144,9 +144,9 @@ pub enum Reason<'a> {
     OwnLine(&'a str),
     /// A clause without a statement that it belongs to.
     Alone(&'a str),
-    /// An `except` behind one without an expression.
+    /// An `except` after one without an expression.
     BareNotLast,
-    /// An argument by place behind one by name.
+    /// An argument by place after one by name.
     PlaceAfterName,
     /// A name by which two arguments of a call are passed.
     PassedTwice(&'a str),

@@ -7,7 +7,7 @@ pub(crate) enum State {
     Line,
     // A small statement, or the end of the line.
     Small,
-    // The line end behind the colon of a clause, or a small statement.
+    // The line end after the colon of a clause, or a small statement.
     Suite,
     // A deeper line.
     Block,
@@ -18,46 +18,46 @@ pub(crate) enum State {
     // An operand, or the end of what it stands in.
     Item,
     // An operator, or the end of what the operand before it stands in.
-    Behind,
-    // The same, behind `is None`, where no operator of arithmetic stands.
-    BehindIs,
+    After,
+    // The same, after `is None`, where no operator of arithmetic stands.
+    AfterIs,
     // The name of an attribute.
     Attribute,
     // `not`, None, True or False.
     Is,
     // None, True or False.
     IsNot,
-    // `in` behind `not`.
+    // `in` after `not`.
     NotIn,
     // An expression, or the colon of an `except`.
     Except,
-    // The name behind `as`.
+    // The name after `as`.
     As,
     // The name of a function.
     Define,
-    // The bracket behind it.
+    // The bracket after it.
     Open,
     // A parameter, or the closed bracket.
     Parameter,
     // A parameter that a closed bracket may follow.
-    BehindParameter,
+    AfterParameter,
     // The colon of a clause.
     Colon,
     // A name that is declared `global`.
     Global,
-    // A comma behind it, or the end of the statement.
-    BehindGlobal,
-    // The module behind `import`.
+    // A comma after it, or the end of the statement.
+    AfterGlobal,
+    // The module after `import`.
     Import,
-    // The package behind `from`.
+    // The package after `from`.
     From,
-    // `import` behind it.
+    // `import` after it.
     FromImport,
-    // The module behind that.
+    // The module after that.
     FromModule,
     // The end of a statement.
     End,
-    // The end of a statement behind an import.
+    // The end of a statement after an import.
     EndOfImport,
     // An expression, or the end of a `return` or a `raise`.
     Value,
@@ -68,9 +68,9 @@ pub(crate) enum State {
 pub(crate) enum Part {
     // A statement of its own, or what stands before the first `=`.
     Plain,
-    // What stands behind an `=`.
+    // What stands after an `=`.
     Assigned,
-    // What stands behind an augmented sign.
+    // What stands after an augmented sign.
     Augmented,
     Return,
     Raise,

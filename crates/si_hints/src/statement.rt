@@ -72,7 +72,7 @@ impl<'a> Walk<'a> {
         }
     }
 
-    // Behind a semicolon, or behind the colon of a clause.
+    // After a semicolon, or after the colon of a clause.
     pub(crate) fn small(&mut self, token: Token<'a>) -> Result<(), Stop<'a>> {
         if token.kind == TokenKind::Newline {
             if self.state == State::Suite {
@@ -95,7 +95,7 @@ impl<'a> Walk<'a> {
         self.begin(token)
     }
 
-    // Behind the line of a clause.
+    // After the line of a clause.
     pub(crate) fn block(&mut self, token: Token<'a>) -> Result<(), Stop<'a>> {
         if token.kind != TokenKind::Indent {
             return self.expected("a deeper line", token);
@@ -112,7 +112,7 @@ impl<'a> Walk<'a> {
         }
     }
 
-    // Behind the end of a line.
+    // After the end of a line.
     pub(crate) fn end_line(&mut self) {
         self.state = State::Line;
         if let Some(block) = self.blocks.last() {

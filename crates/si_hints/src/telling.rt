@@ -114,7 +114,7 @@ fn first_of_lines<'a>(
     }
 }
 
-// The first fault of tokens, behind which a fault of the text follows, or none.
+// The first fault of tokens, after which a fault of the text follows, or none.
 fn walked<'a>(
     alloc: Global,
     tokens: &[Token<'a>],

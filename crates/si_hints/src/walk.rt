@@ -80,7 +80,7 @@ impl<'a> Walk<'a> {
             State::Block => self.block(token),
             State::Tight | State::Operand => self.operand(token),
             State::Item => self.item(token),
-            State::Behind | State::BehindIs => self.behind(token),
+            State::After | State::AfterIs => self.after(token),
             State::Attribute => self.attribute(token),
             State::Is | State::IsNot => self.singleton(token),
             State::NotIn => self.not_in(token),
@@ -98,7 +98,7 @@ impl<'a> Walk<'a> {
             (Reason::LeftOut(Form::MatrixProduct), State::Line | State::Block) => {
                 Reason::LeftOut(Form::Decorators)
             }
-            (Reason::LeftOut(Form::Division), State::Parameter | State::BehindParameter) =>
+            (Reason::LeftOut(Form::Division), State::Parameter | State::AfterParameter) =>
                 Reason::LeftOut(Form::ParameterSlash),
             (reason, _) => reason,
         };

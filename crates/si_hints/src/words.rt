@@ -143,7 +143,7 @@ fn no_number<'a>(word: &'a str) -> Reason<'a> {
     }
 }
 
-// Why a word with these digits behind its prefix is no number.
+// Why a word with these digits after its prefix is no number.
 fn no_prefixed<'a>(base: u32, digits: &[u8], word: &'a str) -> Reason<'a>
     requires some { 2 ≤ base }
     requires few { base ≤ 36 }
@@ -193,12 +193,12 @@ fn are_digits(base: u32, digits: &[u8]) -> bool
     after_digit
 }
 
-// Whether digits stand before an `e`, and nothing or digits behind it.
+// Whether digits stand before an `e`, and nothing or digits after it.
 fn is_scaled(word: &[u8]) -> bool {
     for (place, b) in word.iter().enumerate() {
         if *b == b'e' || *b == b'E' {
-            let behind = word.get(place.saturating_add(1)..).unwrap_or(&[]);
-            return behind.is_empty() || are_digits(10, behind);
+            let after = word.get(place.saturating_add(1)..).unwrap_or(&[]);
+            return after.is_empty() || are_digits(10, after);
         }
         if !b.is_ascii_digit() && *b != b'_' {
             return false;

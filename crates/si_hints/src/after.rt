@@ -1,4 +1,4 @@
-// Behind an operand.
+// After an operand.
 
 use crate::fault::Stop;
 use crate::form::{Form, Slip};
@@ -52,19 +52,19 @@ fn is_format(word: &str) -> bool {
 }
 
 impl<'a> Walk<'a> {
-    // Behind an operand.
-    pub(crate) fn behind(&mut self, token: Token<'a>) -> Result<(), Stop<'a>> {
+    // After an operand.
+    pub(crate) fn after(&mut self, token: Token<'a>) -> Result<(), Stop<'a>> {
         match token.kind {
-            TokenKind::Symbol(symbol) => self.behind_symbol(symbol, token),
-            TokenKind::Keyword(keyword) => self.behind_keyword(keyword, token),
+            TokenKind::Symbol(symbol) => self.after_symbol(symbol, token),
+            TokenKind::Keyword(keyword) => self.after_keyword(keyword, token),
             TokenKind::Str | TokenKind::Bytes => self.another_literal(token),
             TokenKind::Newline => self.end_of_expression(token),
             _ => self.no_operator(token),
         }
     }
 
-    // A symbol behind an operand.
-    fn behind_symbol(&mut self, symbol: Symbol, token: Token<'a>) -> Result<(), Stop<'a>> {
+    // A symbol after an operand.
+    fn after_symbol(&mut self, symbol: Symbol, token: Token<'a>) -> Result<(), Stop<'a>> {
         if is_comparison(symbol) {
             return self.operator(token, State::Tight);
         }
@@ -73,7 +73,7 @@ impl<'a> Walk<'a> {
                 symbol,
                 Symbol::LeftParenthesis | Symbol::LeftBracket | Symbol::Dot
             );
-        if goes_on && self.state == State::BehindIs {
+        if goes_on && self.state == State::AfterIs {
             return Err(Stop::at(token.span.start, Reason::LeftOut(Form::Is)));
         }
         if is_arithmetic(symbol) {
@@ -98,7 +98,7 @@ impl<'a> Walk<'a> {
         }
     }
 
-    // An operator behind an operand.
+    // An operator after an operand.
     fn operator(&mut self, token: Token<'a>, state: State) -> Result<(), Stop<'a>> {
         self.doubled = self.is_doubled(token);
         self.level.operator(token);
@@ -114,8 +114,8 @@ impl<'a> Walk<'a> {
         }
     }
 
-    // A keyword behind an operand.
-    fn behind_keyword(&mut self, keyword: Keyword, token: Token<'a>) -> Result<(), Stop<'a>> {
+    // A keyword after an operand.
+    fn after_keyword(&mut self, keyword: Keyword, token: Token<'a>) -> Result<(), Stop<'a>> {
         match keyword {
             Keyword::In if self.part == Part::Targets && self.frames.is_empty() => {
                 self.end_of_targets(token)
@@ -149,7 +149,7 @@ impl<'a> Walk<'a> {
         }
     }
 
-    // A literal behind an operand.
+    // A literal after an operand.
     fn another_literal(&mut self, token: Token<'a>) -> Result<(), Stop<'a>> {
         let Some(before) = self.before else {
             return self.no_operator(token);
@@ -164,7 +164,7 @@ impl<'a> Walk<'a> {
         }
     }
 
-    // Neither an operator nor an end, behind an operand.
+    // Neither an operator nor an end, after an operand.
     pub(crate) fn no_operator(&mut self, token: Token<'a>) -> Result<(), Stop<'a>> {
         if self.frames.is_empty() && self.part == Part::Plain {
             if let Some(reason) = self.first_word(token) {
@@ -195,7 +195,7 @@ impl<'a> Walk<'a> {
         }
     }
 
-    // What may stand behind the expression where it is complete.
+    // What may stand after the expression where it is complete.
     pub(crate) fn wanted(&self) -> &'static str {
         if self.level.choosing {
             return "`else`";
