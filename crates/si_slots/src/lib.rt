@@ -6,8 +6,9 @@
 // specs/Interpreter.antt (what an interpreter shows of its life at any moment), specs/Laws.antt (laws of courses);
 // `laws`, which state them. Then the code as it lies in memory: `instr`, the instructions, in 8 bytes each; `operand`
 // and `full`, instructions in full; `routine`, what is known of a function's code; `table`, their lines, literals and
-// slots; `aim`, its jumps; `bind`, globals bound to functions; `method`, calls of methods; `fetch`, how its code is read. specs/Contents.antt and
-// specs/Views.antt say what a table has and what it stands for; specs/inner/Jumps.antt is for the proofs alone.
+// slots; `aim`, its jumps; `bind`, globals bound to functions; `method`, calls of methods; `fetch`, how its code is
+// read; `spots`, of which statement it is. specs/Contents.antt and specs/Views.antt say what a table has and what it
+// stands for; specs/inner/Jumps.antt is for the proofs alone.
 #![tactic(auto)]
 
 mod aim;
@@ -23,6 +24,7 @@ mod method;
 mod operand;
 mod pack;
 mod routine;
+mod spots;
 mod table;
 mod unpack;
 
@@ -32,5 +34,6 @@ pub use keywords::Keywords;
 pub use literal::Literal;
 pub use operand::{Aim, Constant, Source, Target};
 pub use routine::Routine;
+pub use spots::Spot;
 pub use table::{CodeTable, Mark};
 pub use unpack::{jump_at, source_at, target_at, temporary_at};
