@@ -50,6 +50,3 @@ pub use short::Short;
 pub use tuples::Size;
 pub use value::{BuiltIn, Ref};
 pub use view::View;
-
-#[cfg(test)]
-mod tests;

@@ -16,6 +16,3 @@ mod interp;
 mod taking;
 
 pub use interp::{Interp, Logged, State, Step};
-
-#[cfg(test)]
-mod tests;

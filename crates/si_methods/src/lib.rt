@@ -36,6 +36,3 @@ pub use method::{Method, MethodName, method_at, method_named, method_of};
 pub use replying::{Replied, reply};
 pub use request::{Answered, Awaited};
 pub use values::attribute;
-
-#[cfg(test)]
-mod tests;

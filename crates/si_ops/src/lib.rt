@@ -47,8 +47,6 @@ mod ranges;
 mod refusal;
 mod shown;
 mod subscripts;
-#[cfg(test)]
-mod tests;
 mod truth;
 mod tuples;
 

@@ -17,6 +17,3 @@ mod scheduling;
 pub use fault::ReplayFault;
 pub use replaying::replay;
 pub use scheduling::{replays_again, schedule_of, schedule_of_recording};
-
-#[cfg(test)]
-mod tests;

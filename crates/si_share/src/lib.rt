@@ -20,6 +20,3 @@ pub use fault::ShareFault;
 pub use inward::copy_in;
 pub use outward::{copy_out, is_shareable};
 pub use text::text_of;
-
-#[cfg(test)]
-mod tests;

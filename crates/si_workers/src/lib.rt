@@ -26,6 +26,3 @@ pub use fault::RunFault;
 pub use gathering::gather;
 pub use running::{Gate, run};
 pub use worked::Worked;
-
-#[cfg(test)]
-mod tests;

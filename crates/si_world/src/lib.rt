@@ -25,6 +25,3 @@ pub use moving::stretch;
 pub use recording::{QueueItems, Recording};
 pub use report::{Report, Standing};
 pub use world::World;
-
-#[cfg(test)]
-mod tests;

@@ -1,6 +1,6 @@
 // One interpreter, with a test as its host.
 
-use crate::{Interp, State, Step};
+use si_interp::{Interp, State, Step};
 use si_parcel::{Action, Answer, BoxedText, Job, Outcome, Parcel};
 use si_plain::{Kind, Text};
 use std::alloc::{AllocError, Global};

@@ -2,8 +2,8 @@
 
 ghost use Rattle.si_arena.specs.Memory.{Lies};
 
-use crate::{catches, push_repr, push_str, raised_by};
 use si_arena::{Arena, Cause, Contents, Object, Ref, Refusal, Short};
+use si_ops::{catches, push_repr, push_str, raised_by};
 use si_plain::{Kind, ModuleName};
 use std::alloc::Global;
 use std::test::Fail;

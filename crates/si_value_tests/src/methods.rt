@@ -1,10 +1,10 @@
 // Each public call once.
 
-use crate::{
+use si_arena::{Arena, Characters, Object, Ref, Short, View};
+use si_methods::{
     Answered, Awaited, Method, MethodName, Replied, attribute, call_method, method_named,
     method_of, reply,
 };
-use si_arena::{Arena, Characters, Object, Ref, Short, View};
 use si_parcel::{Action, Answer, Ids};
 use si_plain::{Kind, ModuleName, Text};
 use std::test::Fail;

@@ -1,7 +1,7 @@
 // Runs that are made again.
 
-use crate::{ReplayFault, replay, replays_again, schedule_of};
 use si_plain::{Limits, NoMemory};
+use si_replay::{ReplayFault, replay, replays_again, schedule_of};
 use si_schedule::Schedule;
 use si_world::{End, Mark, Recording, World};
 use std::alloc::{AllocError, Global};

@@ -1,9 +1,9 @@
 // A world whose turns are given by hand, in a list and in rounds.
 
-use crate::{End, Mark, Recording, Standing, World};
 use si_interp::State;
 use si_parcel::{Action, Outcome};
 use si_plain::{Kind, Limits};
+use si_world::{End, Mark, Recording, Standing, World};
 use std::alloc::{AllocError, Global};
 use std::test::Fail;
 

@@ -2,7 +2,7 @@
 
 ghost use Rattle.std.specs.Prelude.{◌<◌, length};
 
-use crate::{Arena, Contents, Ref};
+use si_arena::{Arena, Contents, Ref};
 use std::test::Fail;
 
 // Whether the items of the list at an address are these integers.

@@ -1,9 +1,9 @@
 // Books without threads, and runs by threads.
 
-use crate::{Acted, Book, Gate, RunFault, gather, run};
 use si_hub::Hub;
 use si_parcel::{Action, Answer, BoxedText};
 use si_plain::{Limits, Text};
+use si_workers::{Acted, Book, Gate, RunFault, gather, run};
 use si_world::{End, Recording};
 use std::alloc::Global;
 use std::sync::Wait;

@@ -2,10 +2,10 @@
 
 ghost use Rattle.si_arena.specs.Memory.{Lies};
 
-use crate::{ShareFault, copy_in, copy_out, is_shareable};
 use si_arena::{Arena, BuiltIn, Object, Ref, Steps};
 use si_parcel::Parcel;
 use si_plain::{Kind, ModuleName, Octets, Text};
+use si_share::{ShareFault, copy_in, copy_out, is_shareable};
 use std::alloc::{AllocError, Global};
 use std::test::Fail;
 

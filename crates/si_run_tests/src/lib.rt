@@ -1,0 +1,13 @@
+// Tests of interpreters, worlds, replays and workers, through what these crates have public.
+//
+// They stand in a crate of their own, since a crate with tests is proved twice, and this one has nothing else.
+#![tactic(auto)]
+
+#[cfg(test)]
+mod interpreters;
+#[cfg(test)]
+mod replays;
+#[cfg(test)]
+mod workers;
+#[cfg(test)]
+mod worlds;
