@@ -32,7 +32,7 @@ mod threads;
 mod values;
 
 pub use calls::call_method;
-pub use method::{Method, MethodName, method_named, method_of};
+pub use method::{Method, MethodName, method_at, method_named, method_of};
 pub use replying::{Replied, reply};
 pub use request::{Answered, Awaited};
 pub use values::attribute;

@@ -223,7 +223,16 @@ pub fn method_of(arena: &Arena, value: Ref, name: &Text) -> Option<Method>
     requires { Lies arena.now value }
     ensures { (w : World) → w.store ≡ arena.now.store → option_map method_in result ≡ attributes.method_of (value_of arena.now value) name.now w }
 {
-    match MethodName::of(name.as_str()) {
+    method_at(arena, value, MethodName::of(name.as_str()))
+}
+
+/// The same by the name of methods that its name is, if it is one. Takes no memory.
+#[inline(always)]
+pub fn method_at(arena: &Arena, value: Ref, name: Option<MethodName>) -> Option<Method>
+    requires { Lies arena.now value }
+    ensures { (x : pure.Text) (w : World) → IsMethodName x name → w.store ≡ arena.now.store → option_map method_in result ≡ attributes.method_of (value_of arena.now value) x w }
+{
+    match name {
         Some(name) => method_named(arena, value, name),
         None => None,
     }

@@ -2,6 +2,7 @@
 ghost use Rattle.std.specs.Prelude.{◌≡◌, ◌<◌, List, [], ◌∷◌, length, drop, OnOk, OnErr, MatchOption};
 ghost use Rattle.si_stacks.specs.Blocks.{concerns, reached, handles, is_handled, active_in, active_of, LeavesFrame};
 
+use crate::trace::Trace;
 use si_arena::Ref;
 use si_plain::NoMemory;
 use std::alloc::Global;
@@ -175,14 +176,16 @@ impl<I: Copy, T: Copy> Blocks<I, T> {
     }
 
     /// The innermost call is left with all that was entered within it, as an exception leaves it; except clauses and a
-    /// finally suite within it stop that. Whether a call was left.
-    pub fn leave_frame(&mut self) -> bool
-        ensures { LeavesFrame self.old self.new result }
+    /// finally suite within it stop that. Whether a call was left, which the trace notes then.
+    pub fn leave_frame(&mut self, trace: &mut Trace) -> bool
+        ensures frame { LeavesFrame self.old self.new result }
+        ensures trace { trace.new ≡ trace.old }
     {
         self.pass(Leaving::Raises(0));
         match self.innermost() {
-            Some(Block::Frame { .. }) => {
+            Some(Block::Frame { after, target: _ }) => {
                 let _ = self.pop();
+                trace.leave(after);
                 true
             }
             _ => false,

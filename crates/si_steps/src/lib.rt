@@ -13,7 +13,8 @@
 // `items` (what sets and deletes items), `displays`, `unpacking`, `names` (those of globals), `calls` (calls of functions and of other values), `attributes`, `methods` (calls of
 // methods), `requests` (what is asked, and its answers), `leaving` (`break`,
 // `continue`, `return` and the end of a finally suite), `short`, `short_values` and `short_items` (instructions as they
-// stand in 8 bytes), `execute` (one instruction), `begin` (how a run begins), `bind` (globals bound between runs), `machine`.
+// stand in 8 bytes), `execute` (one instruction), `begin` (how a run begins), `bind` (globals bound between runs),
+// `origin` (where an exception that left a run came from), `machine`.
 #![tactic(auto)]
 
 mod attributes;
@@ -29,6 +30,7 @@ mod leaving;
 mod machine;
 mod methods;
 mod names;
+mod origin;
 mod raising;
 mod reading;
 mod requests;
@@ -43,4 +45,5 @@ mod unpacking;
 mod values;
 
 pub use machine::Machine;
+pub use origin::Origin;
 pub use step::{Outcome, Step};

@@ -15,6 +15,7 @@ ghost use Rattle.si_steps.specs.Machines.{Stands, IsRunning, IsWaiting, HasEnded
 ghost use Rattle.si_semantics.specs.Shareable.{value_of_parcel};
 ghost use Rattle.si_steps.specs.Outcomes.{told};
 
+use crate::origin::Origin;
 use crate::state::{Standing, State};
 use crate::step::{Exit, Outcome, Step};
 use si_arena::{Arena, Contents, Fault, Ref};
@@ -253,6 +254,12 @@ impl Machine {
                 Ok(Outcome::Raised(kind, message))
             }
         }
+    }
+
+    /// Where the exception came from that left the last run, if one did and its code is known. A hint: no contract speaks of
+    /// it.
+    pub fn origin(&self) -> Option<Origin> {
+        self.state.origin()
     }
 }
 

@@ -10,7 +10,7 @@ use crate::reading::text_of;
 use crate::state::State;
 use crate::step::Step;
 use si_arena::{Fault, Ref};
-use si_methods::{Answered, Method, method_of};
+use si_methods::{Answered, Method};
 use si_plain::{NoMemory, Text};
 use si_slots::{Literal, Target};
 use std::alloc::Global;
@@ -33,11 +33,7 @@ impl State {
         ensures { Does (machine.CallMethod (target_of target) at count (text_at self.old.table.names slot) names.now) p self.old self.new result }
     {
         let object = self.frames.temporary(at as usize);
-        let name = match self.name_text(slot) {
-            Ok(name) => name,
-            Err(_) => return self.starve(),
-        };
-        match method_of(&self.arena, object, &name) {
+        match self.method(object, slot) {
             Some(method) => self.call_found(method, object, target, at, count, names),
             None => {
                 if names.is_empty() {

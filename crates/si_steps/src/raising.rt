@@ -50,6 +50,8 @@ impl State {
         ensures did { Did (goes (leave (meaning.Raises address) p.w p.slots p.bs) p.w) p self.old self.new result }
         ensures done { IsDone result }
     {
+        let place = self.pc;
+        self.trace.begin(address, place);
         self.unwind(address);
         match self.blocks.innermost() {
             Some(Block::Catch(clauses)) => self.arrive(clauses, Block::Handling(address)),
@@ -73,7 +75,7 @@ impl State {
         ensures unwound { Unwound address p self.old self.new }
         ensures met { IsMet self.new.blocks }
     {
-        while self.blocks.leave_frame() {
+        while self.blocks.leave_frame(&mut self.trace) {
             self.frames.leave();
         }
     }

@@ -73,11 +73,23 @@ impl State {
     {
         match self.arena.make(object) {
             Ok(Ref::Object(address)) => {
+                let place = self.raised_at();
+                self.trace.begin(address, place);
                 self.standing = Standing::Running;
                 self.leave_raised(address)
             }
             Ok(_) => unreachable!(),
             Err(_) => self.starve(),
+        }
+    }
+
+    // The place of the instruction that raises: where an answer was awaited, that in front of the next.
+    fn raised_at(&self) -> usize {
+        match self.standing {
+            Standing::Waiting => self.pc.saturating_sub(1),
+            Standing::Running => self.pc,
+            Standing::Idle => self.pc,
+            Standing::Starved => self.pc,
         }
     }
 }

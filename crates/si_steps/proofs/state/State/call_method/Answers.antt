@@ -9,12 +9,13 @@ use Rattle.si_steps.proofs.Callees.{is_callee}
 use Rattle.si_steps.proofs.Asked.{method_called, is_method_call, found_method, ready_call, ready_by_name}
 use Rattle.si_steps.proofs.state.State.call_method.Goals as goal
 
-pub method_of-requires : goal.method_of-requires
-method_of-requires g c =
+pub method-requires : goal.method-requires
+method-requires g c =
     let s = c.args.self.now in
     let x = text_at s.table.names c.args.slot in
     let h = c.requires.0 in
-    (is_callee c.args.at c.args.count s g.p c.temporary-object.result h.at c.temporary-object.ensures (method_called (target_of c.args.target) c.args.at c.args.count x c.args.names.now s g.p h)).lies
+    let is = is_callee c.args.at c.args.count s g.p c.temporary-object.result h.at c.temporary-object.ensures (method_called (target_of c.args.target) c.args.at c.args.count x c.args.names.now s g.p h) in
+    record { lies = is.lies; sound = h.at.1.sound; there = c.requires.1 }
 
 pub call_found-requires : goal.call_found-requires
 call_found-requires g c =
@@ -34,7 +35,7 @@ call-requires g c =
     let t = target_of c.args.target in
     let r = c.temporary-object.result in
     let is = is_callee c.args.at c.args.count s g.p r h.at c.temporary-object.ensures (method_called t c.args.at c.args.count x c.args.names.now s g.p h) in
-    let found : None ≡ attributes.method_of (value_of s.arena r) x g.p.w = c.in-None.ensures g.p.w h.at.1.store ∙ ap (λ k. attributes.method_of (value_of s.arena r) k g.p.w) c.in-Ok.ensures in
+    let found : None ≡ attributes.method_of (value_of s.arena r) x g.p.w = c.in-None.ensures g.p.w h.at.1.store in
     let none : length c.args.names.now ≡ 0 = eqb-true (length c.args.names.now) 0 (sym c.is_empty.ensures ∙ c.if-is_empty.true) in
     (ready_call t c.args.at c.args.count x c.args.names.now s g.p r none h is found).0
 
@@ -46,7 +47,7 @@ call_by_name-requires g c =
     let t = target_of c.args.target in
     let r = c.temporary-object.result in
     let is = is_callee c.args.at c.args.count s g.p r h.at c.temporary-object.ensures (method_called t c.args.at c.args.count x c.args.names.now s g.p h) in
-    let found : None ≡ attributes.method_of (value_of s.arena r) x g.p.w = c.in-None.ensures g.p.w h.at.1.store ∙ ap (λ k. attributes.method_of (value_of s.arena r) k g.p.w) c.in-Ok.ensures in
+    let found : None ≡ attributes.method_of (value_of s.arena r) x g.p.w = c.in-None.ensures g.p.w h.at.1.store in
     let some : length c.args.names.now ≢ 0 = eqb-false (length c.args.names.now) 0 (sym c.is_empty.ensures ∙ c.if-is_empty.false) in
     (ready_by_name t c.args.at c.args.count x c.args.names.now s g.p r some h is found).0
 
@@ -59,7 +60,7 @@ returns-in-Some g c =
     let r = c.temporary-object.result in
     let m = c.in-Some.method in
     let is = is_callee c.args.at c.args.count s g.p r h.at c.temporary-object.ensures (method_called t c.args.at c.args.count x c.args.names.now s g.p h) in
-    let found : Some (method_in m) ≡ attributes.method_of (value_of s.arena r) x g.p.w = c.in-Some.ensures g.p.w h.at.1.store ∙ ap (λ k. attributes.method_of (value_of s.arena r) k g.p.w) c.in-Ok.ensures in
+    let found : Some (method_in m) ≡ attributes.method_of (value_of s.arena r) x g.p.w = c.in-Some.ensures g.p.w h.at.1.store in
     alike _ _ g.p s c.call_found.new.self c.call_found.result (found_method t c.args.at c.args.count x c.args.names.now s g.p r m h is found) c.call_found.ensures
 
 pub returns-then-is_empty : goal.returns-then-is_empty
@@ -70,18 +71,18 @@ returns-then-is_empty g c =
     let t = target_of c.args.target in
     let r = c.temporary-object.result in
     let is = is_callee c.args.at c.args.count s g.p r h.at c.temporary-object.ensures (method_called t c.args.at c.args.count x c.args.names.now s g.p h) in
-    let found : None ≡ attributes.method_of (value_of s.arena r) x g.p.w = c.in-None.ensures g.p.w h.at.1.store ∙ ap (λ k. attributes.method_of (value_of s.arena r) k g.p.w) c.in-Ok.ensures in
+    let found : None ≡ attributes.method_of (value_of s.arena r) x g.p.w = c.in-None.ensures g.p.w h.at.1.store in
     let none : length c.args.names.now ≡ 0 = eqb-true (length c.args.names.now) 0 (sym c.is_empty.ensures ∙ c.if-is_empty.true) in
     alike _ _ g.p s c.call.new.self c.call.result (ready_call t c.args.at c.args.count x c.args.names.now s g.p r none h is found).1 c.call.ensures
 
-pub returns : goal.returns
-returns g c =
+pub returns-else-is_empty : goal.returns-else-is_empty
+returns-else-is_empty g c =
     let s = c.args.self.now in
     let x = text_at s.table.names c.args.slot in
     let h = c.requires.0 in
     let t = target_of c.args.target in
     let r = c.temporary-object.result in
     let is = is_callee c.args.at c.args.count s g.p r h.at c.temporary-object.ensures (method_called t c.args.at c.args.count x c.args.names.now s g.p h) in
-    let found : None ≡ attributes.method_of (value_of s.arena r) x g.p.w = c.in-None.ensures g.p.w h.at.1.store ∙ ap (λ k. attributes.method_of (value_of s.arena r) k g.p.w) c.in-Ok.ensures in
+    let found : None ≡ attributes.method_of (value_of s.arena r) x g.p.w = c.in-None.ensures g.p.w h.at.1.store in
     let some : length c.args.names.now ≢ 0 = eqb-false (length c.args.names.now) 0 (sym c.is_empty.ensures ∙ c.if-is_empty.false) in
     alike _ _ g.p s c.call_by_name.new.self c.call_by_name.result (ready_by_name t c.args.at c.args.count x c.args.names.now s g.p r some h is found).1 c.call_by_name.ensures

@@ -1,45 +1,25 @@
-use Rattle.std.proofs.Common.{Ok, Err, Option, subst}
-use Rattle.si_semantics.specs.Value.{Text}
-use Rattle.si_arena.specs.declared.value.Ref.{Ref}
-use Rattle.si_arena.specs.Memory.{value_of}
 use Rattle.si_slots.specs.Views.{text_at}
-use Rattle.si_steps.specs.inner.Asking.{IsCalled}
-use Rattle.si_steps.proofs.Asked.{object_lies, found_given, found_missing, found_thrown}
+use Rattle.si_steps.proofs.Asked.{object_lies, called_itself, found_given}
 use Rattle.si_steps.proofs.state.State.find.Goals as goal
 
-pub found-requires : goal.found-requires
-found-requires g c =
+pub method-requires : goal.method-requires
+method-requires g c =
+    let s = c.args.self.now in
+    record {
+      lies = object_lies (text_at s.table.names c.args.slot) c.args.at s g.p c.temporary-object.result c.requires.0 c.temporary-object.ensures;
+      sound = c.requires.0.at.1.sound;
+      there = c.requires.1;
+    }
+
+pub put-requires-clause-value : goal.put-requires-clause-value
+put-requires-clause-value g c =
     let s = c.args.self.now in
     object_lies (text_at s.table.names c.args.slot) c.args.at s g.p c.temporary-object.result c.requires.0 c.temporary-object.ensures
 
-pub returns-in-Ok-Some : goal.returns-in-Ok-Some
-returns-in-Ok-Some g c =
+pub returns-in-Some : goal.returns-in-Some
+returns-in-Some g c =
     let s = c.args.self.now in
     let r = c.temporary-object.result in
-    let v = value_of s.arena r in
     let x = text_at s.table.names c.args.slot in
-    let k = c.in-Ok-Some in
-    let named = subst (λ (t : Text). IsCalled v t s.arena (Ok k.field-0)) c.in-Ok.ensures k.ensures in
-    let is = subst (λ (o : Option Ref). IsCalled v x s.arena (Ok o)) k.field-0-is named in
-    found_given x c.args.at s c.put.new.self g.p r k.value c.put.result c.requires.0 c.temporary-object.ensures is c.put.ensures
-
-pub returns-in-Ok-None : goal.returns-in-Ok-None
-returns-in-Ok-None g c =
-    let s = c.args.self.now in
-    let r = c.temporary-object.result in
-    let v = value_of s.arena r in
-    let x = text_at s.table.names c.args.slot in
-    let k = c.in-Ok-None in
-    let named = subst (λ (t : Text). IsCalled v t s.arena (Ok k.field-0)) c.in-Ok.ensures k.ensures in
-    let is = subst (λ (o : Option Ref). IsCalled v x s.arena (Ok o)) k.field-0-is named in
-    found_missing x c.args.at s c.raise_no_attribute.new.self g.p r c.raise_no_attribute.result c.requires.0 c.temporary-object.ensures is c.raise_no_attribute.ensures
-
-pub returns : goal.returns
-returns g c =
-    let s = c.args.self.now in
-    let r = c.temporary-object.result in
-    let v = value_of s.arena r in
-    let x = text_at s.table.names c.args.slot in
-    let k = c.in-Err-found in
-    let is = subst (λ (t : Text). IsCalled v t s.arena (Err k.cause)) c.in-Ok.ensures k.ensures in
-    found_thrown x c.args.at s c.raise.new.self g.p r k.cause c.raise.result c.requires.0 c.temporary-object.ensures is c.raise.ensures
+    let lies = object_lies x c.args.at s g.p r c.requires.0 c.temporary-object.ensures in
+    found_given x c.args.at s c.put.new.self g.p r r c.put.result c.requires.0 c.temporary-object.ensures (called_itself r x s.arena c.in-Some.field-0 lies c.in-Some.ensures) c.put.ensures

@@ -1,7 +1,4 @@
 use Rattle.si_steps.proofs.state.State.find.Given as goal
 
-abbrev pub ghost-raise_no_attribute : goal.ghost-raise_no_attribute
-ghost-raise_no_attribute g a = g.p
-
-abbrev pub ghost-raise : goal.ghost-raise
-ghost-raise g a = g.p
+abbrev pub ghost-find_value : goal.ghost-find_value
+ghost-find_value g a = g.p

@@ -11,7 +11,7 @@ returns-clause-ok c = λ w h.
     let k = c.args.place in
     let l = c.index-literals-place.result in
     let there = slice_there s.table.literals k l l c.requires.there (c.index-literals-place.is ∙ ap (λ (ls : List Literal). get_or ls k l) c.literals.ensures) in
-    literal_known s.own s.table s.arena c.add_name.new.self c.place_literal.new.arena s.literals.items c.push-2.new.self.items s.names.items c.push.new.self.items s.globals.items s.built_ins.items w l
+    literal_known s.own s.table s.arena c.add_name.new.self c.place_literal.new.arena s.literals.items c.push-2.new.self.items s.names.items c.push.new.self.items s.globals.items s.built_ins.items s.methods.items w l
     c.in_ok-value.value c.in_ok-number.number h
     (subst (λ i. slice_get s.table.literals i ≡ Some l) c.requires.first there)
     (subst (λ x. IsNamed x s.arena c.add_name.new.self c.in_ok-number.number) c.name.ensures c.in_ok-number.ensures.ok)

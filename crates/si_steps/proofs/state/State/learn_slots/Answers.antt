@@ -9,5 +9,5 @@ loop-slot-preserved c =
     let new = c.learn_slot.new.self in (
       (λ w h. one.ok w (so_far.0 w h)),
       one.one,
-      c.learn_slot.ensures.same ∙ ap (λ (s : State). let t : State = record s { globals = new.globals; built_ins = new.built_ins } in t) so_far.2,
+      c.learn_slot.ensures.same ∙ ap (λ (s : State). let t : State = record s { globals = new.globals; built_ins = new.built_ins; methods = new.methods } in t) so_far.2,
     )
