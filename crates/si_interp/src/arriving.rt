@@ -9,6 +9,7 @@ ghost use Rattle.si_interp.specs.inner.Keeps.{Arrived, Comes, ComesSo, IsKept, L
 ghost use Rattle.si_interp.specs.declared.interp.State.TheVariants.{AtAction};
 
 use crate::interp::{Logged, State};
+use crate::origins::Origins;
 use si_parcel::{Action, BoxedText, Outcome};
 use si_plain::NoMemory;
 use si_steps::{Machine, Outcome as Ended, Step as Line};
@@ -96,19 +97,23 @@ pub fn arrive(
     }
 }
 
-/// How the run ended that has come to its end.
+/// How the run ended that has come to its end. Where an exception has left it, what is known of where that came from is noted.
 ///
 /// # Errors
 ///
 /// `NoMemory` where memory was refused.
-pub fn told(alloc: Global, machine: &Machine) -> Result<Outcome, NoMemory>
+pub fn told(alloc: Global, machine: &Machine, origins: &mut Origins) -> Result<Outcome, NoMemory>
     ghost c: { Course }
     requires { HasEnded c machine.now }
     ensures { IfOk result (λ o. c.place ≡ Ending (outcome_of o)) }
 {
     match machine.take_outcome()? {
         Ended::Returned => Ok(Outcome::Returned),
-        Ended::Raised(kind, message) => Ok(Outcome::Raised(kind, BoxedText::new(alloc, message)?)),
+        Ended::Raised(kind, message) => {
+            let message = BoxedText::new(alloc, message)?;
+            origins.note(machine);
+            Ok(Outcome::Raised(kind, message))
+        }
     }
 }
 
@@ -119,13 +124,14 @@ fn come_to_end(
     log: &mut Vec<Logged>,
     kept: &mut Option<Action>,
     offered: &mut Option<Action>,
+    origins: &mut Origins,
 ) -> Result<State, NoMemory>
     ghost c: { Course }
     requires { HasEnded c machine.now }
     ensures log { log.new.items ≡ log.old.items }
     ensures ok { IfOk result (λ s. ComesSo c s kept.new offered.new (vec_capacity log.new - vec_len log.new)) }
 {
-    let outcome = told(alloc, machine)?;
+    let outcome = told(alloc, machine, origins)?;
     arrive(alloc, Next::Ends(outcome), log, kept, offered)
 }
 
@@ -161,6 +167,7 @@ pub fn come_to_action(
     log: &mut Vec<Logged>,
     kept: &mut Option<Action>,
     offered: &mut Option<Action>,
+    origins: &mut Origins,
 ) -> Result<State, NoMemory>
     ghost c: { Course }
     requires { Comes c machine.old came }
@@ -171,7 +178,7 @@ pub fn come_to_action(
     let _ = id;
     let _ = locals;
     match came {
-        Line::Ended => come_to_end(alloc, machine, log, kept, offered),
+        Line::Ended => come_to_end(alloc, machine, log, kept, offered, origins),
         Line::Wants => come_to_request(alloc, machine, log, kept, offered),
         Line::Local => unreachable!(),
         Line::Starved => unreachable!(),

@@ -12,6 +12,7 @@ ghost use Rattle.si_slots.specs.Machine.{Course};
 ghost use Rattle.si_interp.specs.inner.Keeps.{IsUnderWay};
 
 use crate::arriving::{arrive, come_to_action, note, put};
+use crate::origins::{Origins, RunOrigin};
 use crate::taking::answered;
 use si_parcel::{Action, Answer};
 use si_plain::NoMemory;
@@ -75,6 +76,7 @@ pub struct Interp {
     state: State,
     kept: Option<Action>,
     offered: Option<Action>,
+    origins: Origins,
     alloc: Global,
 }
 
@@ -129,6 +131,7 @@ impl Interp {
             state: State::AtAction,
             kept: Some(Action::Take),
             offered: Some(Action::Take),
+            origins: Origins::none(alloc),
             alloc,
         })
     }
@@ -195,6 +198,12 @@ impl Interp {
         }
     }
 
+    /// Where the exceptions came from that left runs of it, in order of the runs: hints for people, of which no contract speaks.
+    /// A run of which no hint could be had is left out, as where memory for it was refused; nothing else differs then.
+    pub fn origins(&self) -> &[RunOrigin] {
+        self.origins.as_slice()
+    }
+
     /// Hands out the action at which it stands, once.
     pub fn take_action(&mut self) -> Option<Action>
         ensures some { IfSome result (λ a. (self.old.stand ≡ At (action_of a)) × (self.old.taken ≡ false) × (self.new ≡ taken_view self.old true)) }
@@ -255,6 +264,7 @@ impl Interp {
                     &mut self.log,
                     &mut self.kept,
                     &mut self.offered,
+                    &mut self.origins,
                 ) {
                     Err(_) => {
                         self.state = State::Starved;
@@ -290,6 +300,7 @@ impl Interp {
             at,
             &action,
             &answer,
+            &mut self.origins,
         ) {
             Err(_) => {
                 note(&mut self.log, Logged { action, answer, at });

@@ -8,11 +8,16 @@
 // and shows what it has shown.
 //
 // In reading order: `interp` (the interpreter; its views are in specs/View.antt), `arriving` (how it comes to stand at an
-// action), `taking` (what an answer makes of it). specs/inner and specs/InterpCode.antt are for the proofs alone.
+// action), `taking` (what an answer makes of it), `origins` (where the exceptions came from that left its runs: hints, which no
+// contract sees). specs/inner and specs/InterpCode.antt are for the proofs alone.
 #![tactic(auto)]
 
 mod arriving;
 mod interp;
+mod origins;
 mod taking;
 
 pub use interp::{Interp, Logged, State, Step};
+pub use origins::RunOrigin;
+pub use si_slots::Spot;
+pub use si_steps::Origin;

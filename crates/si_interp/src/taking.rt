@@ -20,6 +20,7 @@ ghost use Rattle.si_interp.specs.inner.Keeps.{IsUnderWay, IsWaiting, IsAwaiting,
 
 use crate::arriving::{Next, told};
 use crate::interp::Logged;
+use crate::origins::Origins;
 use si_emit::compile;
 use si_parcel::{Action, Answer, BoxedText, Job, Outcome, Parcel};
 use si_parse::ParseFault;
@@ -43,6 +44,7 @@ pub fn answered(
     locals: u64,
     action: &Action,
     answer: &Answer,
+    origins: &mut Origins,
 ) -> Result<Next, NoMemory>
     ghost c: { Course }
     requires stands { StandsBy c (action_of action.now) machine.old }
@@ -56,27 +58,38 @@ pub fn answered(
     let _ = locals;
     match action {
         Action::Take => match answer {
-            Answer::Given(job) => take(alloc, machine, job),
+            Answer::Given(job) => take(alloc, machine, job, origins),
             _ => unreachable!(),
         },
         Action::End(_) => Ok(Next::Takes),
-        _ => replied(alloc, machine, answer),
+        _ => replied(alloc, machine, answer, origins),
     }
 }
 
 // Where the answer to a request leads.
-fn replied(alloc: Global, machine: &mut Machine, answer: &Answer) -> Result<Next, NoMemory>
+fn replied(
+    alloc: Global,
+    machine: &mut Machine,
+    answer: &Answer,
+    origins: &mut Origins,
+) -> Result<Next, NoMemory>
     ghost c: { Course }
     requires { IsAwaiting c machine.old }
     ensures leads { IfOk result (λ n. Leads (next compiled (with_answer (requests.answer_in (answer_of answer.now)) c)) machine.new n) }
     ensures printed { printed_of machine.new ≡ printed_of machine.old }
 {
     let came = machine.answer(answer);
-    led(alloc, machine, answer, came)
+    led(alloc, machine, answer, came, origins)
 }
 
 // Where this answer has led a machine; of the answer the contract speaks alone.
-fn led(alloc: Global, machine: &mut Machine, answer: &Answer, came: Line) -> Result<Next, NoMemory>
+fn led(
+    alloc: Global,
+    machine: &mut Machine,
+    answer: &Answer,
+    came: Line,
+    origins: &mut Origins,
+) -> Result<Next, NoMemory>
     ghost c: { Course }
     requires { Led c machine.old came }
     ensures leads { IfOk result (λ n. Leads c machine.new n) }
@@ -85,14 +98,19 @@ fn led(alloc: Global, machine: &mut Machine, answer: &Answer, came: Line) -> Res
     let _ = answer;
     match came {
         Line::Local => Ok(Next::Runs),
-        Line::Ended => Ok(Next::Ends(told(alloc, machine)?)),
+        Line::Ended => Ok(Next::Ends(told(alloc, machine, origins)?)),
         Line::Wants => Ok(Next::Asks(machine.take_request())),
         Line::Starved => Err(AllocError),
     }
 }
 
 // Where a job leads that is taken.
-fn take(alloc: Global, machine: &mut Machine, job: &Job) -> Result<Next, NoMemory>
+fn take(
+    alloc: Global,
+    machine: &mut Machine,
+    job: &Job,
+    origins: &mut Origins,
+) -> Result<Next, NoMemory>
     ghost c: { Course }
     requires waits { IsWaiting c Take machine.old }
     requires knows { KnowsSome c }
@@ -100,7 +118,7 @@ fn take(alloc: Global, machine: &mut Machine, job: &Job) -> Result<Next, NoMemor
     ensures printed { printed_of machine.new ≡ printed_of machine.old }
 {
     match job {
-        Job::Run(_, text) => run(alloc, machine, text.as_text()),
+        Job::Run(_, text) => run(alloc, machine, text.as_text(), origins),
         Job::Bind(binds) => {
             bind_all(machine, binds.as_slice())?;
             Ok(Next::Takes)
@@ -110,16 +128,22 @@ fn take(alloc: Global, machine: &mut Machine, job: &Job) -> Result<Next, NoMemor
 }
 
 // The run of a text begins; that of one that isn't read ends at once.
-fn run(alloc: Global, machine: &mut Machine, text: &Text) -> Result<Next, NoMemory>
+fn run(
+    alloc: Global,
+    machine: &mut Machine,
+    text: &Text,
+    origins: &mut Origins,
+) -> Result<Next, NoMemory>
     ghost c: { Course }
     requires waits { IsWaiting c Take machine.old }
     requires knows { KnowsSome c }
     ensures leads { IfOk result (λ n. Leads (next compiled (with_answer (language.Taken (language.Run (tree_of_text text.now))) c)) machine.new n) }
     ensures printed { printed_of machine.new ≡ printed_of machine.old }
 {
+    origins.begin_run();
     match read(alloc, text.as_str()) {
         Ok(script) => {
-            begin(machine, &script)?;
+            begin(machine, &script, origins)?;
             Ok(Next::Runs)
         }
         Err(ParseFault::Syntax(_)) => Ok(Next::Ends(unread(alloc)?)),
@@ -128,7 +152,7 @@ fn run(alloc: Global, machine: &mut Machine, text: &Text) -> Result<Next, NoMemo
 }
 
 // The run of a script begins.
-fn begin(machine: &mut Machine, script: &Scoped) -> Result<(), NoMemory>
+fn begin(machine: &mut Machine, script: &Scoped, origins: &mut Origins) -> Result<(), NoMemory>
     ghost c: { Course }
     requires waits { IsWaiting c Take machine.old }
     requires knows { KnowsSome c }
@@ -137,6 +161,7 @@ fn begin(machine: &mut Machine, script: &Scoped) -> Result<(), NoMemory>
 {
     let mut table = machine.lend_table();
     let at = compile(script, &mut table)?;
+    origins.add_text();
     machine.resume(table, at)
 }
 

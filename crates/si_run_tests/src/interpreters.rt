@@ -1,6 +1,6 @@
 // One interpreter, with a test as its host.
 
-use si_interp::{Interp, State, Step};
+use si_interp::{Interp, RunOrigin, State, Step};
 use si_parcel::{Action, Answer, BoxedText, Job, Outcome, Parcel};
 use si_plain::{Kind, Text};
 use std::alloc::{AllocError, Global};
@@ -203,5 +203,56 @@ fn refused_interpreter(rt: HostRuntime) -> Result<(), Fail> {
     };
     assert_eq!(rt; interp.id(), 3);
     assert!(rt; !interp.is_taken());
+    Ok(())
+}
+
+// Whether an origin is that of this run, and its statements are these, each by the number of its run and its own in that text.
+fn is_from(origin: &RunOrigin, run: u32, wanted: &[(u32, u32)]) -> bool {
+    let spots = origin.origin.spots();
+    for (spot, (run, statement)) in spots.iter().zip(wanted.iter()) {
+        if spot.text != *run || spot.statement != *statement {
+            return false;
+        }
+    }
+    origin.run == run && spots.len() == wanted.len() && origin.origin.left_out() == 0
+}
+
+// An interpreter in which these texts were run.
+fn given_all(alloc: Global, texts: &[&str]) -> Result<Interp, AllocError> {
+    let mut interp = Interp::new(alloc, 0)?;
+    for text in texts {
+        let answer = to_run(alloc, text)?;
+        give(&mut interp, answer);
+        go_on(&mut interp);
+        give(&mut interp, Answer::Done);
+    }
+    Ok(interp)
+}
+
+#[test]
+fn exception_of_a_function_of_an_earlier_run(rt: HostRuntime) -> Result<(), Fail> {
+    let unread = "x = = 6\n";
+    let with_function = "def f(x):\n    if x:\n        pass\n    raise ValueError(x)\n";
+    let raises = "y = 1\nf(y)\n";
+    let interp = given_all(rt.alloc(), &[unread, with_function, raises, "z = 2\n"])?;
+    assert_eq!(rt; interp.origins().len(), 1);
+    match interp.origins().first() {
+        Some(origin) => assert!(rt; is_from(origin, 2, &[(1, 2), (2, 1)])),
+        None => assert!(rt; false),
+    }
+    Ok(())
+}
+
+#[test]
+fn exception_of_an_answer(rt: HostRuntime) -> Result<(), Fail> {
+    let text = "from concurrent import interpreters\ninterpreters.create()\n";
+    let mut interp = given(rt.alloc(), text)?;
+    go_on(&mut interp);
+    assert!(rt; interp.origins().is_empty());
+    assert!(rt; give(&mut interp, Answer::Limit));
+    match interp.origins().first() {
+        Some(origin) => assert!(rt; is_from(origin, 0, &[(0, 1)])),
+        None => assert!(rt; false),
+    }
     Ok(())
 }

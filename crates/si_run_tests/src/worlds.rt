@@ -3,7 +3,7 @@
 use si_interp::State;
 use si_parcel::{Action, Outcome};
 use si_plain::{Kind, Limits};
-use si_world::{End, Mark, Recording, Standing, World};
+use si_world::{End, Mark, Recording, Report, Standing, World};
 use std::alloc::{AllocError, Global};
 use std::test::Fail;
 
@@ -198,5 +198,33 @@ fn refused_recording(rt: HostRuntime) -> Result<(), Fail> {
     };
     assert_eq!(rt; recording.end(), end);
     assert!(rt; end == End::Finished || end == End::Starved);
+    Ok(())
+}
+
+// Whether the exceptions that left runs of an interpreter are one, that of its first run, which came from these statements of that text.
+fn is_left_from(report: &Report, wanted: &[u32]) -> bool {
+    let Some(origin) = report.origins().first() else {
+        return false;
+    };
+    let spots = origin.origin.spots();
+    for (spot, statement) in spots.iter().zip(wanted.iter()) {
+        if spot.text != 0 || spot.statement != *statement {
+            return false;
+        }
+    }
+    report.origins().len() == 1 && origin.run == 0 && spots.len() == wanted.len()
+}
+
+#[test]
+fn exception_of_a_function_in_another_interpreter(rt: HostRuntime) -> Result<(), Fail> {
+    let script =
+        "from concurrent import interpreters\ni = interpreters.create()\ni.exec('def f(x):\\n    raise ValueError(x)\\nf(1)')\n";
+    let mut world = world(rt.alloc(), script, 2, 1_000)?;
+    let recording = recorded(&mut world)?;
+    let [first, second] = recording.reports() else {
+        return Err("not two reports")?;
+    };
+    assert!(rt; is_left_from(first, &[2]));
+    assert!(rt; is_left_from(second, &[0, 2]));
     Ok(())
 }

@@ -47,9 +47,11 @@ use Rattle.si_ops.proofs.items.Items.TheSendSync as items
 use Rattle.si_arena.proofs.value.Ref.TheSendSync as ref
 use Rattle.si_stacks.proofs.frames.Frames.TheSendSync as frames
 use Rattle.si_stacks.proofs.blocks.Blocks.TheSendSync as blocks
+use Rattle.si_stacks.proofs.trace.Trace.TheSendSync as trace
 use Rattle.std.proofs.string.String.TheSendSync as string
 use Rattle.std.proofs.option.Option.TheSendSync as option
 use Rattle.si_interp.proofs.interp.State.TheSendSync as interp_state
+use Rattle.si_interp.proofs.origins.Origins.TheSendSync as origins
 use Rattle.si_parcel.proofs.parcel.Parcel.TheLaws.TheKnot.{send-Parcel}
 use Rattle.std.specs.contracts.boxed.Box as box_row
 use Rattle.std.specs.contracts.vec.Vec as vec_row
@@ -111,13 +113,13 @@ pub logged_send : IsSend logged.the_row
 logged_send = view_send _ _ _ _ _ (declared_send logged.TheInside.the_type (search (sendable, as_row_send, action_send, answer_send) depth 20))
 
 pub state_send : IsSend state.the_row
-state_send = declared_send state.the_type (search (sendable, as_row_send, steps_standing.the_field_send, exit.the_field_send, awaited.the_field_send, target.the_field_send, option.the_field_send, action_send, table.the_send, arena.the_send, ref.the_field_send, frames.the_send, blocks.the_send, items.the_send, target.the_send, string.the_send, vec.the_send, global.the_send, allocator.the_frees) depth 60 fits 20000)
+state_send = declared_send state.the_type (search (sendable, as_row_send, steps_standing.the_field_send, exit.the_field_send, awaited.the_field_send, target.the_field_send, option.the_field_send, action_send, table.the_send, arena.the_send, ref.the_field_send, frames.the_send, blocks.the_send, trace.the_send, items.the_send, target.the_send, string.the_send, vec.the_send, global.the_send, allocator.the_frees) depth 60 fits 20000)
 
 pub machine_send : IsSend machine.the_row
 machine_send = view_send _ _ _ _ _ (declared_send machine.TheInside.the_type (search (sendable, as_row_send, state_send) depth 20))
 
 pub interp_send : IsSend interp.the_row
-interp_send = view_send _ _ _ _ _ (declared_send interp.TheInside.the_type (search (sendable, as_row_send, machine_send, logged_send, interp_state.the_field_send, option.the_field_send, action_send, vec.the_send, global.the_send, allocator.the_frees) depth 40))
+interp_send = view_send _ _ _ _ _ (declared_send interp.TheInside.the_type (search (sendable, as_row_send, machine_send, logged_send, origins.the_send, interp_state.the_field_send, option.the_field_send, action_send, vec.the_send, global.the_send, allocator.the_frees) depth 40))
 
 pub worked_send : IsSend worked.the_row
 worked_send = view_send _ _ _ _ _ (declared_send worked.TheInside.the_type (search (sendable, as_row_send, interp_send) depth 20))

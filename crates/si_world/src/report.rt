@@ -4,7 +4,7 @@ ghost use Rattle.std.specs.Prelude.{◌≡◌, IfOk, false};
 ghost use Rattle.si_interp.specs.View.{taken_view};
 ghost use Rattle.si_world.specs.Reports.{stand_of};
 
-use si_interp::{Interp, Logged, State};
+use si_interp::{Interp, Logged, RunOrigin, State};
 use si_parcel::Action;
 use si_plain::{NoMemory, Text};
 use std::alloc::Global;
@@ -24,7 +24,7 @@ pub enum Standing {
 }
 
 /// What is seen of an interpreter: its number, all that it has printed, its actions with their answers in order, the lines
-/// that it has run, and how it stands.
+/// that it has run, and how it stands. For people it has where the exceptions came from that left its runs; no contract sees that.
 #[derive(Drop)]
 pub struct Report {
     id: u32,
@@ -32,6 +32,7 @@ pub struct Report {
     log: Vec<Logged>,
     locals: u64,
     standing: Standing,
+    origins: Vec<RunOrigin>,
 }
 
 impl Model for Report {
@@ -92,6 +93,7 @@ impl Report {
             log: copy_log(alloc, interp.log())?,
             locals: interp.locals(),
             standing: standing_of(alloc, interp)?,
+            origins: Vec::from_slice(alloc, interp.origins())?,
         })
     }
 
@@ -128,5 +130,11 @@ impl Report {
         ensures { stand_of result.now ≡ self.now.stand }
     {
         &self.standing
+    }
+
+    /// Where the exceptions came from that left its runs, in order of the runs: hints for people, as the interpreter gave them
+    /// (`Interp::origins`).
+    pub fn origins(&self) -> &[RunOrigin] {
+        self.origins.as_slice()
     }
 }
