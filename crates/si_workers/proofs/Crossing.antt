@@ -40,6 +40,7 @@ use Rattle.si_steps.specs.contracts.state.State as state
 use Rattle.si_steps.proofs.state.Standing.TheSendSync as steps_standing
 use Rattle.si_steps.proofs.step.Exit.TheSendSync as exit
 use Rattle.si_methods.proofs.request.Awaited.TheSendSync as awaited
+use Rattle.si_methods.proofs.method.MethodName.TheSendSync as method_name
 use Rattle.si_slots.proofs.operand.Target.TheSendSync as target
 use Rattle.si_slots.proofs.table.CodeTable.TheSendSync as table
 use Rattle.si_arena.proofs.arena.Arena.TheSendSync as arena
@@ -113,7 +114,7 @@ pub logged_send : IsSend logged.the_row
 logged_send = view_send _ _ _ _ _ (declared_send logged.TheInside.the_type (search (sendable, as_row_send, action_send, answer_send) depth 20))
 
 pub state_send : IsSend state.the_row
-state_send = declared_send state.the_type (search (sendable, as_row_send, steps_standing.the_field_send, exit.the_field_send, awaited.the_field_send, target.the_field_send, option.the_field_send, action_send, table.the_send, arena.the_send, ref.the_field_send, frames.the_send, blocks.the_send, trace.the_send, items.the_send, target.the_send, string.the_send, vec.the_send, global.the_send, allocator.the_frees) depth 60 fits 20000)
+state_send = declared_send state.the_type (search (sendable, as_row_send, steps_standing.the_field_send, exit.the_field_send, awaited.the_field_send, target.the_field_send, method_name.the_send, option.the_field_send, option.the_send, action_send, table.the_send, arena.the_send, ref.the_field_send, frames.the_send, blocks.the_send, trace.the_send, items.the_send, target.the_send, string.the_send, vec.the_send, global.the_send, allocator.the_frees) depth 60 fits 20000)
 
 pub machine_send : IsSend machine.the_row
 machine_send = view_send _ _ _ _ _ (declared_send machine.TheInside.the_type (search (sendable, as_row_send, state_send) depth 20))
