@@ -13,6 +13,3 @@ mod exchange;
 pub mod laws;
 
 pub use exchange::independent;
-
-#[cfg(test)]
-mod tests;

@@ -19,6 +19,3 @@ mod pieces;
 
 pub use cases::worked_history;
 pub use lines::history;
-
-#[cfg(test)]
-mod tests;

@@ -15,10 +15,3 @@ mod shared;
 mod telling;
 
 pub use hub::{Call, Hub, NotActed, Why};
-
-#[cfg(test)]
-mod tests;
-#[cfg(test)]
-mod tests_refused;
-#[cfg(test)]
-mod tests_rows;

@@ -31,8 +31,3 @@ pub use outcome::Outcome;
 pub use parcel::Parcel;
 pub use refused::{StrFault, TooLong, TupleFault};
 pub use top::Top;
-
-#[cfg(test)]
-mod refusals;
-#[cfg(test)]
-mod tests;

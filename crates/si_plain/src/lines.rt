@@ -30,16 +30,3 @@ fn begins_feed(text: &[u8]) -> bool
 {
     text.first() == Some(&b'\n')
 }
-
-#[cfg(test)]
-mod tests {
-    use super::*;
-
-    #[test]
-    fn line_ends_before_each_place(rt: HostRuntime) {
-        let text = b"a\r\nb\n\r\rc";
-        for (count, ends) in [0, 0, 0, 1, 1, 2, 3, 4, 4, 4].into_iter().enumerate() {
-            assert_eq!(rt; line_ends(text, count), ends);
-        }
-    }
-}

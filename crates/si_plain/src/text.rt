@@ -159,27 +159,3 @@ fn count_of(text: &str) -> usize
 
 // Texts are moved, and so they are small.
 const _: () = prove!(size_of::<Text>() <= 40);
-
-#[cfg(test)]
-mod tests {
-    use super::*;
-    use std::test::Fail;
-
-    #[test]
-    fn a_text_grows(rt: HostRuntime) -> Result<(), Fail> {
-        let mut text = Text::new(rt.alloc());
-        assert!(rt; text.is_empty());
-        text.push('\u{1f600}')?;
-        text.push_str("\u{20ac}\u{e9}a")?;
-        let half = text.clone()?;
-        text.append(&half)?;
-        assert_eq!(rt; text.len(), 8);
-        assert_eq!(rt;
-            text.as_str(),
-            "\u{1f600}\u{20ac}\u{e9}a\u{1f600}\u{20ac}\u{e9}a"
-        );
-        assert!(rt; text == Text::from_str(rt.alloc(), text.as_str())?);
-        assert!(rt; text != half);
-        Ok(())
-    }
-}

@@ -13,6 +13,3 @@ mod refused;
 pub use queue::Queue;
 pub use queues::Queues;
 pub use refused::{NotPut, Refusal};
-
-#[cfg(test)]
-mod tests;

@@ -12,7 +12,5 @@
 
 pub mod laws;
 mod script;
-#[cfg(test)]
-mod tests;
 
 pub use script::read;

@@ -13,6 +13,3 @@ mod run;
 pub use interpreter::{Interpreter, Standing};
 pub use registry::Registry;
 pub use run::Run;
-
-#[cfg(test)]
-mod tests;

@@ -20,6 +20,3 @@ pub use fault::ReadFault;
 pub use reading::read;
 pub use schedule::Schedule;
 pub use writing::write;
-
-#[cfg(test)]
-mod tests;

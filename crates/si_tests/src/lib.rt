@@ -10,6 +10,8 @@ mod code;
 #[cfg(test)]
 mod lines;
 #[cfg(test)]
+mod reading;
+#[cfg(test)]
 mod scope;
 #[cfg(test)]
 mod spots;

@@ -10,4 +10,6 @@ mod methods;
 #[cfg(test)]
 mod operations;
 #[cfg(test)]
+mod placed;
+#[cfg(test)]
 mod sharing;

@@ -1,6 +1,6 @@
 // Whole histories, of calls of a hub.
 
-use crate::history;
+use si_history::history;
 use si_hub::Hub;
 use si_parcel::{Action, Binds, BoxedText, Outcome, Parcel};
 use si_plain::{Kind, Limits, NoMemory, Text};

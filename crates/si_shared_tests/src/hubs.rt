@@ -1,6 +1,6 @@
 // What the tests of the hub share, and the worked sequence of the definitions.
 
-use crate::{Hub, Why};
+use si_hub::{Hub, Why};
 use si_parcel::{Action, Answer, Binds, BoxedText, Job, Outcome, Parcel};
 use si_plain::{Limits, NoMemory, Text};
 use std::alloc::Global;

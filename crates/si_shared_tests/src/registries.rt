@@ -1,6 +1,8 @@
-use crate::{Registry, Standing};
+// Interpreters and runs by themselves.
+
 use si_parcel::{BoxedText, Job, Outcome};
 use si_plain::{NoMemory, Text};
+use si_registry::{Registry, Standing};
 use std::alloc::Global;
 use std::test::Fail;
 

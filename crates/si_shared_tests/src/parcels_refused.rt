@@ -2,8 +2,8 @@
 //
 // `cases/refuse_memory` refuses these tests each of their allocations in turn.
 
-use crate::tests::{action, answer, binds, boxed, nested, raised};
-use crate::{Ids, Job};
+use crate::parcels::{action, answer, binds, boxed, nested, raised};
+use si_parcel::{Ids, Job};
 use std::test::Fail;
 
 #[test]

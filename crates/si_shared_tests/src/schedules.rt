@@ -1,6 +1,6 @@
 // Schedules to texts and back, and the first bad lines of other texts.
 
-use crate::{ReadFault, Schedule, read, write};
+use si_schedule::{ReadFault, Schedule, read, write};
 use std::alloc::Global;
 use std::test::Fail;
 

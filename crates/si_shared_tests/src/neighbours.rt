@@ -1,6 +1,6 @@
 // Neighbours in the journal of a hub.
 
-use crate::independent;
+use si_exchange::independent;
 use si_hub::{Hub, Why};
 use si_parcel::{Action, BoxedText, Parcel};
 use si_plain::{Limits, NoMemory, Text};

@@ -1,5 +1,7 @@
-use crate::{NotPut, Queue, Queues, Refusal};
+// Queues by themselves.
+
 use si_parcel::Parcel;
+use si_queues::{NotPut, Queue, Queues, Refusal};
 use std::alloc::Global;
 use std::test::Fail;
 

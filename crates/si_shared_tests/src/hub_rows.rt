@@ -1,7 +1,7 @@
 // Each action through its row: each answer that it may be given, and where it is not enabled.
 
-use crate::Hub;
-use crate::tests::{act, boxed, hub, same, x_is_one};
+use crate::hubs::{act, boxed, hub, same, x_is_one};
+use si_hub::Hub;
 use si_parcel::{Action, Answer, BoxedText, Ids, Job, Outcome, Parcel};
 use si_plain::{Kind, NoMemory};
 use std::alloc::{AllocError, Global};

@@ -1,7 +1,7 @@
 // A text that is read, and texts that are refused, each in its line.
 
-use crate::read;
 use si_parse::ParseFault;
+use si_reading::read;
 use std::alloc::Global;
 use std::test::Fail;
 

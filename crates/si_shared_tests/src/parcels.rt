@@ -1,6 +1,6 @@
 // Parcels and actions from end to end: the texts are what CPython 3.14 prints, but for that of a queue.
 
-use crate::{Action, Answer, Binds, BoxedText, Ids, Job, Outcome, Parcel, Top, TupleFault};
+use si_parcel::{Action, Answer, Binds, BoxedText, Ids, Job, Outcome, Parcel, Top, TupleFault};
 use si_plain::{Kind, Octets, Text};
 use std::alloc::{AllocError, Global};
 use std::test::Fail;

@@ -2,11 +2,11 @@
 // allocations are refused by `cases/refuse_memory --test`, one at each run of the test; where none is, all is answered at
 // once.
 
-use crate::tests::same;
-use crate::tests_rows::{
+use crate::hub_rows::{
     closing_answered, closing_asked, queue_answered, queue_asked, run_answered, run_asked,
 };
-use crate::{Hub, NotActed, Why};
+use crate::hubs::same;
+use si_hub::{Hub, NotActed, Why};
 use si_parcel::{Action, Answer};
 use si_plain::{Limits, NoMemory};
 use std::alloc::Global;
