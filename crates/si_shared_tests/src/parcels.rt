@@ -1,7 +1,7 @@
 // Parcels and actions from end to end: the texts are what CPython 3.14 prints, but for that of a queue.
 
 use si_parcel::{Action, Answer, Binds, BoxedText, Ids, Job, Outcome, Parcel, Top, TupleFault};
-use si_plain::{Kind, Octets, Text};
+use si_plain::{Kind, NoMemory, Octets, Text};
 use std::alloc::{AllocError, Global};
 use std::test::Fail;
 
@@ -40,34 +40,73 @@ fn deep(alloc: Global, levels: u32) -> Result<Parcel, Fail> {
     Ok(parcel)
 }
 
+// Whether a parcel is shown so.
+fn shows(alloc: Global, parcel: &Parcel, wanted: &str) -> Result<bool, NoMemory> {
+    let shown = parcel.show(alloc)?;
+    Ok(shown.as_str() == wanted)
+}
+
+// Whether a parcel is shown in so many bytes.
+fn shows_bytes(alloc: Global, parcel: &Parcel, count: usize) -> Result<bool, NoMemory> {
+    let shown = parcel.show(alloc)?;
+    Ok(shown.len() == count)
+}
+
+// Whether a clone of a parcel is the same.
+fn is_cloned(alloc: Global, parcel: &Parcel) -> Result<bool, NoMemory> {
+    let clone = parcel.clone_parcel(alloc)?;
+    Ok(clone == *parcel)
+}
+
+// Whether the tuple of one item is refused as too deep, or as too large.
+fn is_refused(alloc: Global, parcel: Parcel, too_deep: bool) -> Result<bool, NoMemory> {
+    let mut items = Vec::with_capacity(alloc, 1)?;
+    items.push(parcel)?;
+    Ok(match Parcel::tuple(alloc, items) {
+        Err(TupleFault::TooDeep(_)) => too_deep,
+        Err(TupleFault::TooLarge(_)) => !too_deep,
+        _ => false,
+    })
+}
+
 #[test]
 fn a_nested_tuple(rt: HostRuntime) -> Result<(), Fail> {
     let alloc = rt.alloc();
     let parcel = nested(alloc)?;
-    assert_eq!(rt; parcel.show(alloc)?.as_str(), "('a', (1, None), b'\\x00')");
-    assert_eq!(rt; parcel.size(), 6);
-    assert_eq!(rt; parcel.levels(), 2);
+    assert!(rt; shows(alloc, &parcel, "('a', (1, None), b'\\x00')")?);
+    assert!(rt; parcel.size() == 6 && parcel.levels() == 2);
     assert!(rt; matches!(parcel.top(), Top::Tuple([_, _, _])));
-    assert!(rt; parcel.clone_parcel(alloc)? == parcel);
+    assert!(rt; is_cloned(alloc, &parcel)?);
     Ok(())
 }
 
 #[test]
 fn atoms(rt: HostRuntime) -> Result<(), Fail> {
     let alloc = rt.alloc();
-    assert_eq!(rt; Parcel::queue(3, 10).show(alloc)?.as_str(), "Queue(3)");
-    assert_eq!(rt; Parcel::truth(false).show(alloc)?.as_str(), "False");
-    assert_eq!(rt;
-        Parcel::int(i64::MIN).show(alloc)?.as_str(),
-        "-9223372036854775808"
-    );
-    assert_eq!(rt; str(alloc, "it's")?.show(alloc)?.as_str(), "\"it's\"");
-    assert_eq!(rt; bytes(alloc, b"a\xff")?.show(alloc)?.as_str(), "b'a\\xff'");
-    assert_eq!(rt; deep(alloc, 1)?.show(alloc)?.as_str(), "(None,)");
-    assert_eq!(rt; tuple(alloc, Vec::new(alloc))?.show(alloc)?.as_str(), "()");
+    assert!(rt; shows(alloc, &Parcel::queue(3, 10), "Queue(3)")?);
+    assert!(rt; shows(alloc, &Parcel::truth(false), "False")?);
+    assert!(rt; shows(alloc, &Parcel::int(i64::MIN), "-9223372036854775808")?);
     assert!(rt; Parcel::truth(true) != Parcel::int(1));
     assert!(rt; Parcel::queue(3, 10) != Parcel::queue(4, 10));
-    assert!(rt; str(alloc, "a")? != bytes(alloc, b"a")?);
+    Ok(())
+}
+
+#[test]
+fn texts_and_bytes(rt: HostRuntime) -> Result<(), Fail> {
+    let alloc = rt.alloc();
+    let text = str(alloc, "it's")?;
+    assert!(rt; shows(alloc, &text, "\"it's\"")?);
+    let octets = bytes(alloc, b"a\xff")?;
+    assert!(rt; shows(alloc, &octets, "b'a\\xff'")?);
+    assert!(rt; text != octets && text != bytes(alloc, b"it's")?);
+    Ok(())
+}
+
+#[test]
+fn small_tuples(rt: HostRuntime) -> Result<(), Fail> {
+    let alloc = rt.alloc();
+    assert!(rt; shows(alloc, &deep(alloc, 1)?, "(None,)")?);
+    assert!(rt; shows(alloc, &tuple(alloc, Vec::new(alloc))?, "()")?);
     Ok(())
 }
 
@@ -75,13 +114,11 @@ fn atoms(rt: HostRuntime) -> Result<(), Fail> {
 fn two_hundred_levels_and_no_more(rt: HostRuntime) -> Result<(), Fail> {
     let alloc = rt.alloc();
     let parcel = deep(alloc, 200)?;
-    assert_eq!(rt; parcel.levels(), 200);
-    assert_eq!(rt; parcel.show(alloc)?.len(), 604);
-    assert!(rt; parcel.clone_parcel(alloc)? == parcel);
+    assert!(rt; parcel.levels() == 200);
+    assert!(rt; shows_bytes(alloc, &parcel, 604)?);
+    assert!(rt; is_cloned(alloc, &parcel)?);
     assert!(rt; parcel != deep(alloc, 199)?);
-    let mut items = Vec::with_capacity(alloc, 1)?;
-    items.push(parcel)?;
-    assert!(rt; matches!(Parcel::tuple(alloc, items), Err(TupleFault::TooDeep(_))));
+    assert!(rt; is_refused(alloc, parcel, true)?);
     Ok(())
 }
 
@@ -93,12 +130,10 @@ fn as_many_values_as_allowed(rt: HostRuntime) -> Result<(), Fail> {
         items.push(Parcel::int(0))?;
     }
     let parcel = tuple(alloc, items)?;
-    assert_eq!(rt; parcel.size(), 65_536);
-    assert_eq!(rt; parcel.show(alloc)?.len(), 196_605);
-    assert!(rt; parcel.clone_parcel(alloc)? == parcel);
-    let mut items = Vec::with_capacity(alloc, 1)?;
-    items.push(parcel)?;
-    assert!(rt; matches!(Parcel::tuple(alloc, items), Err(TupleFault::TooLarge(_))));
+    assert!(rt; parcel.size() == 65_536);
+    assert!(rt; shows_bytes(alloc, &parcel, 196_605)?);
+    assert!(rt; is_cloned(alloc, &parcel)?);
+    assert!(rt; is_refused(alloc, parcel, false)?);
     Ok(())
 }
 
