@@ -63,7 +63,9 @@ use Rattle.std.proofs.sync.Condvar.TheSendSync as condvar
 use Rattle.si_workers.specs.contracts.slot.Doing as doing
 use Rattle.si_workers.specs.contracts.slot.Slot as slot
 use Rattle.si_workers.specs.contracts.book.Book as book
+use Rattle.si_workers.specs.contracts.sleepers.Sleepers as sleepers
 use Rattle.si_workers.specs.contracts.worked.Worked as worked
+use Rattle.si_workers.specs.contracts.running.Shared as held
 use Rattle.si_workers.specs.contracts.running.Desk as desk
 
 boxed : (h : RattleType) → IsSend h → IsSend (box_row.the_row (vec_row.the_row h global_row.the_row ghosts) global_row.the_row ghosts)
@@ -134,8 +136,14 @@ slot_send = view_send _ _ _ _ _ (declared_send slot.TheInside.the_type (search (
 book_send : IsSend book.the_row
 book_send = view_send _ _ _ _ _ (declared_send book.TheInside.the_type (search (sendable, as_row_send, hub_send, slot_send, vec.the_send, global.the_send, allocator.the_frees) depth 20))
 
+sleepers_send : IsSend sleepers.the_row
+sleepers_send = view_send _ _ _ _ _ (declared_send sleepers.TheInside.the_type (search (sendable, as_row_send, vec.the_send, global.the_send, allocator.the_frees) depth 20))
+
+held_send : IsSend held.the_row
+held_send = declared_send held.the_type (search (sendable, as_row_send, book_send, sleepers_send) depth 20)
+
 pub desk_sync : IsSync desk.the_row
-desk_sync = declared_sync desk.the_type (search (sendable, as_row_sync, mutex.the_sync, book_send, condvar.the_sync) depth 20)
+desk_sync = declared_sync desk.the_type (search (sendable, as_row_sync, mutex.the_sync, held_send, condvar.the_sync) depth 20)
 
 -- a closure with five captures may cross where each of them may
 pub five_send : (ν : Sym) (A B C D E : RattleType) → IsSend A → IsSend B → IsSend C → IsSend D → IsSend E → IsSend (TupleAt ν (A ∷ B ∷ C ∷ D ∷ E ∷ []))

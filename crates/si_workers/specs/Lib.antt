@@ -1,4 +1,5 @@
 pub mod Books
 pub mod BookCode
+pub mod Sleeping
 pub mod Gathers
 pub mod inner

@@ -69,6 +69,13 @@ impl Book {
         hub
     }
 
+    /// How many slots there are.
+    pub(crate) fn count(&self) -> u32
+        ensures { result ≡ length self.now.slots }
+    {
+        self.hub.limits().interpreters()
+    }
+
     /// Whether the worker of slot i is at work.
     pub fn is_busy(&self, i: u32) -> bool
         ensures { IsTrue result ↔ (slice_get self.now.slots i ≡ Some Busy) }
@@ -80,7 +87,7 @@ impl Book {
     }
 
     // Whether the worker of slot i is to go on.
-    fn is_woken(&self, i: u32) -> bool
+    pub(crate) fn is_woken(&self, i: u32) -> bool
         ensures yes { IsTrue result → (a : shared.Action) × (slice_get self.now.slots i ≡ Some (Woken a)) }
         ensures no { (a : shared.Action) → slice_get self.now.slots i ≡ Some (Woken a) → IsTrue result }
     {

@@ -8,7 +8,8 @@
 // moved; and turns on one thread leave the same. Definitions: specs/Books.antt, specs/Gathers.antt.
 //
 // In reading order: `acted` (what became of an action), `slot` (what one worker does), `book` (the hub with all slots),
-// `worked` (what is left of an interpreter), `fault`, `agreeing` (a log beside the journal), `gathering`, `running` (the threads).
+// `sleepers` (which workers sleep), `worked` (what is left of an interpreter), `fault`, `agreeing` (a log beside the journal),
+// `gathering`, `running` (the threads).
 #![tactic(auto)]
 
 mod acted;
@@ -17,6 +18,7 @@ mod book;
 mod fault;
 mod gathering;
 mod running;
+mod sleepers;
 mod slot;
 mod worked;
 

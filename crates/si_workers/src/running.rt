@@ -10,6 +10,7 @@ use crate::acted::Acted;
 use crate::book::Book;
 use crate::fault::RunFault;
 use crate::gathering::gather;
+use crate::sleepers::Sleepers;
 use crate::worked::Worked;
 use si_hub::Hub;
 use si_interp::{Interp, State};
@@ -30,10 +31,21 @@ pub trait Gate {
     fn after(&self, i: u32);
 }
 
-// What workers share: the book, and what tells those that wait in it that some of them are to go on.
+// How often a worker looks at the book before it sleeps. All looks together take longer than to wake a thread, where nobody else
+// wants the processor: else two workers that wait for each other would sleep in turns.
+const LOOKS: u32 = 50;
+
+// What lies under the lock: the book, and which workers sleep.
+#[derive(Drop)]
+struct Shared {
+    book: Book,
+    sleepers: Sleepers,
+}
+
+// What workers share, and what wakes those that sleep.
 #[derive(Drop)]
 struct Desk {
-    book: Mutex<Book>,
+    shared: Mutex<Shared>,
     changed: Condvar,
 }
 
@@ -70,22 +82,41 @@ fn give_back(interp: &mut Interp, action: Action) -> bool {
     true
 }
 
-// Waits in slot i until it is woken, or all is over. Whether its worker goes on.
-fn wait_in<R: Wait>(
+// Looks at the book some times, without the lock in between, until slot i is woken or all is over.
+fn look<'b, R: Wait>(rt: &R, guard: MutexGuard<'b, Shared>, i: u32) -> MutexGuard<'b, Shared> {
+    let mut guard = guard;
+    for _ in 0..LOOKS {
+        if guard.book.is_woken(i) || guard.book.over() {
+            return guard;
+        }
+        let lock = MutexGuard::unlock(guard);
+        thread::yield_now();
+        guard = lock.lock(rt);
+    }
+    guard
+}
+
+// Waits in slot i until it is woken, or all is over. Whether its worker goes on. It looks before it sleeps, but for the first text,
+// which may never come.
+fn wait_in<'b, R: Wait>(
     rt: &R,
-    desk: &Desk,
-    guard: MutexGuard<'_, Book>,
+    desk: &'b Desk,
+    guard: MutexGuard<'b, Shared>,
     interp: &mut Interp,
     i: u32,
 ) -> bool {
-    let mut guard = guard;
+    let mut guard = if interp.log().is_empty() {
+        guard
+    } else {
+        look(rt, guard, i)
+    };
     for _ in rt.forever() {
-        match guard.resume(i) {
+        match guard.book.resume(i) {
             Some(action) => return give_back(interp, action),
             None => {}
         }
-        if guard.over() {
-            match guard.reclaim(i) {
+        if guard.book.over() {
+            match guard.book.reclaim(i) {
                 Some(action) => {
                     give_back(interp, action);
                 }
@@ -93,6 +124,7 @@ fn wait_in<R: Wait>(
             }
             return false;
         }
+        guard.sleepers.add(i);
         guard = desk.changed.wait(rt, guard);
     }
     unreachable!()
@@ -100,12 +132,26 @@ fn wait_in<R: Wait>(
 
 // The worker of slot i is done. Those that wait are told, where none is left that could wake them.
 fn rest<R: Wait>(rt: &R, desk: &Desk, i: u32) {
-    let mut guard = desk.book.lock(rt);
-    if guard.is_busy(i) {
-        guard.rest(i);
-        if guard.over() {
+    let mut guard = desk.shared.lock(rt);
+    if guard.book.is_busy(i) {
+        guard.book.rest(i);
+        if guard.book.over() {
             desk.changed.notify_all();
         }
+    }
+}
+
+// Gives the lock up, and wakes those that sleep, where the slot of one of them was woken.
+fn leave(desk: &Desk, guard: MutexGuard<'_, Shared>) {
+    let mut guard = guard;
+    let shared = &mut *guard;
+    let wakes = shared.sleepers.has_woken(&shared.book);
+    if wakes {
+        shared.sleepers.clear();
+    }
+    drop(guard);
+    if wakes {
+        desk.changed.notify_all();
     }
 }
 
@@ -114,17 +160,13 @@ fn share<R: Wait>(rt: &R, desk: &Desk, interp: &mut Interp, i: u32, action: Acti
     requires stands { interp.old.stand ≡ At (action_of action) }
     requires taken { interp.old.taken ≡ true }
 {
-    let mut guard = desk.book.lock(rt);
-    if !guard.is_busy(i) {
+    let mut guard = desk.shared.lock(rt);
+    if !guard.book.is_busy(i) {
         return false;
     }
-    match guard.act(i, action) {
+    match guard.book.act(i, action) {
         Acted::Answered(answer) => {
-            let wakes = guard.has_woken();
-            drop(guard);
-            if wakes {
-                desk.changed.notify_all();
-            }
+            leave(desk, guard);
             interp.answer(answer);
             true
         }
@@ -135,7 +177,7 @@ fn share<R: Wait>(rt: &R, desk: &Desk, interp: &mut Interp, i: u32, action: Acti
             false
         }
         Acted::Waits => {
-            if guard.over() {
+            if guard.book.over() {
                 desk.changed.notify_all();
             }
             wait_in(rt, desk, guard, interp, i)
@@ -238,11 +280,14 @@ pub fn run<G: Gate + Sync, R: Threads + Wait + Sync>(
     ensures { IfOk result (IsGathered (characters_of script.now) limits) }
 {
     let hub = Hub::new(alloc, script, limits)?;
-    let book = Mutex::new(Book::new(alloc, hub)?);
+    let book = Book::new(alloc, hub)?;
+    let sleepers = Sleepers::new(alloc, limits.interpreters())?;
+    let shared = Mutex::new(Shared { book, sleepers });
     let interps = first_interps(alloc, limits)?;
     let changed = Condvar::new();
-    let desk = Desk { book, changed };
+    let desk = Desk { shared, changed };
     let worked = work_all(rt, alloc, &desk, gate, interps, limits)?;
-    let Desk { book, changed: _ } = desk;
-    gather(alloc, book.into_inner(), worked, script, limits)
+    let Desk { shared, changed: _ } = desk;
+    let Shared { book, sleepers: _ } = shared.into_inner();
+    gather(alloc, book, worked, script, limits)
 }
