@@ -31,6 +31,16 @@ impl State {
         }
     }
 
+    /// The same, out of line.
+    #[inline(never)]
+    pub fn call_any(&mut self, target: Target, at: u32, count: u32) -> Step
+        ghost p: { Moment }
+        requires ready { IsReady (machine.Call (target_of target) at count) self.old p }
+        ensures { Does (machine.Call (target_of target) at count) p self.old self.new result }
+    {
+        self.call(target, at, count)
+    }
+
     // A call of a value that is no function of a script. Room for its value is made first, so that none is asked for once
     // it is there.
     #[inline(never)]

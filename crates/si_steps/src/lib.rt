@@ -12,8 +12,8 @@
 // loops), `tries` (those of `try` and of unbinding), `values` (those of operands and operations), `subscripts`,
 // `items` (what sets and deletes items), `displays`, `unpacking`, `names` (those of globals), `calls` (calls of functions and of other values), `attributes`, `methods` (calls of
 // methods), `requests` (what is asked, and its answers), `leaving` (`break`,
-// `continue`, `return` and the end of a finally suite), `short`, `short_values` and `short_items` (instructions as they
-// stand in 8 bytes), `execute` (one instruction), `begin` (how a run begins), `bind` (globals bound between runs),
+// `continue`, `return` and the end of a finally suite), `short`, `short_values`, `short_items` and `short_methods`
+// (instructions as they stand in 8 bytes), `execute` (one instruction), `begin` (how a run begins), `bind` (globals bound between runs),
 // `origin` (where an exception that left a run came from), `machine`.
 #![tactic(auto)]
 
@@ -36,6 +36,7 @@ mod reading;
 mod requests;
 mod short;
 mod short_items;
+mod short_methods;
 mod short_values;
 mod state;
 mod step;

@@ -19,6 +19,7 @@ impl State {
     /// Calls the method whose name stands at a slot of what lies in a temporary, or that itself where it has no such method,
     /// with so many arguments, which lie above it, of which the last ones have these names; they are taken, and the value of
     /// the call goes to a target. Or an action is asked, whose answer makes the value.
+    #[inline(always)]
     pub fn call_method(
         &mut self,
         target: Target,
@@ -37,7 +38,7 @@ impl State {
             Some(method) => self.call_found(method, object, target, at, count, names),
             None => {
                 if names.is_empty() {
-                    self.call(target, at, count)
+                    self.call_any(target, at, count)
                 } else {
                     self.call_by_name(target, at, count)
                 }
@@ -80,9 +81,9 @@ impl State {
         }
     }
 
-    // Calls a method that an object has. Room for its value is made first, so that none is asked for once it is there.
+    /// Calls a method that an object has. Room for its value is made first, so that none is asked for once it is there.
     #[inline(never)]
-    fn call_found(
+    pub fn call_found(
         &mut self,
         method: Method,
         object: Ref,

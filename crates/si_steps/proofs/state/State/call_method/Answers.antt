@@ -27,8 +27,8 @@ call_found-requires g c =
     let is = is_callee c.args.at c.args.count s g.p r h.at c.temporary-object.ensures (method_called t c.args.at c.args.count x c.args.names.now s g.p h) in
     is_method_call t c.args.at c.args.count x c.args.names.now s g.p r h is
 
-pub call-requires : goal.call-requires
-call-requires g c =
+pub call_any-requires : goal.call_any-requires
+call_any-requires g c =
     let s = c.args.self.now in
     let x = text_at s.table.names c.args.slot in
     let h = c.requires.0 in
@@ -73,7 +73,7 @@ returns-then-is_empty g c =
     let is = is_callee c.args.at c.args.count s g.p r h.at c.temporary-object.ensures (method_called t c.args.at c.args.count x c.args.names.now s g.p h) in
     let found : None ≡ attributes.method_of (value_of s.arena r) x g.p.w = c.in-None.ensures g.p.w h.at.1.store in
     let none : length c.args.names.now ≡ 0 = eqb-true (length c.args.names.now) 0 (sym c.is_empty.ensures ∙ c.if-is_empty.true) in
-    alike _ _ g.p s c.call.new.self c.call.result (ready_call t c.args.at c.args.count x c.args.names.now s g.p r none h is found).1 c.call.ensures
+    alike _ _ g.p s c.call_any.new.self c.call_any.result (ready_call t c.args.at c.args.count x c.args.names.now s g.p r none h is found).1 c.call_any.ensures
 
 pub returns-else-is_empty : goal.returns-else-is_empty
 returns-else-is_empty g c =

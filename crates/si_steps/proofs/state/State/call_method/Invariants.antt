@@ -3,8 +3,8 @@ use Rattle.si_steps.proofs.state.State.call_method.Given as goal
 abbrev pub ghost-call_found : goal.ghost-call_found
 ghost-call_found g a = g.p
 
-abbrev pub ghost-call : goal.ghost-call
-ghost-call g a = g.p
+abbrev pub ghost-call_any : goal.ghost-call_any
+ghost-call_any g a = g.p
 
 abbrev pub ghost-call_by_name : goal.ghost-call_by_name
 ghost-call_by_name g a = g.p
