@@ -1,6 +1,6 @@
 // Dicts: keys with their values, in order.
 
-ghost use Rattle.std.specs.Prelude.{◌≡◌, ◌<◌, [], length, slice_get, Some, IfOk, OnOk, OnErr};
+ghost use Rattle.std.specs.Prelude.{◌≡◌, ◌<◌, [], length, slice_get, Some, IfOk, OnOk, OnErr, option_map};
 ghost use Rattle.si_arena.specs.declared.atom.Atom.{Atom};
 ghost use Rattle.si_arena.specs.declared.dict.Pair.{Pair};
 ghost use Rattle.si_arena.specs.Memory.{Memory, pair_of, pairs_of, PairLies, PairsLie};
@@ -65,10 +65,11 @@ impl Dict {
     }
 
     /// The pair of a key, where it is there.
-    pub(crate) fn get(&self, key: &Atom) -> Option<Pair>
-        ensures { result ≡ found_pair key.now self.now }
+    #[inline(always)]
+    pub(crate) fn get(&self, key: &Atom) -> Option<&Pair>
+        ensures { option_map (λ p. p.now) result ≡ found_pair key.now self.now }
     {
-        self.entries.get(key).copied()
+        self.entries.get(key)
     }
 
     /// A key has a value: one that is there keeps its place, a new one is the last. Unchanged where memory is refused.

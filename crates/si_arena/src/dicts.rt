@@ -44,7 +44,7 @@ impl Arena {
         ensures lies { IfSome result (λ r. Lies self.now r) }
     {
         match atom_of(&self.texts, &self.words, &key) {
-            Some(atom) => value_in(self.objects[address].get(&atom)),
+            Some(atom) => value_at(self.objects[address].get(&atom)),
             None => None,
         }
     }
@@ -82,6 +82,31 @@ impl Arena {
             Some(atom) => value_in(self.objects[address].remove_pair(&atom)),
             None => None,
         }
+    }
+}
+
+// The value of a pair that lies in a dict, where there is one: it alone is copied.
+#[inline(always)]
+fn value_at(pair: Option<&Pair>) -> Option<Ref>
+    ensures { result ≡ option_map (λ p. p.value) (option_map (λ p. p.now) pair.entry) }
+{
+    match pair {
+        Some(pair) => Some(by_parts(pair.value)),
+        None => None,
+    }
+}
+
+// The same value. One that is an integer, a truth or a function of a script is copied by its numbers: the bytes of any
+// value are copied through memory, for which the processor waits.
+#[inline(always)]
+fn by_parts(value: Ref) -> Ref
+    ensures { result ≡ value }
+{
+    match value {
+        Ref::Int(n) => Ref::Int(n),
+        Ref::Truth(truth) => Ref::Truth(truth),
+        Ref::Function { number, name } => Ref::Function { number, name },
+        value => value,
     }
 }
 

@@ -1,6 +1,6 @@
 // What lies at the address of an object.
 
-ghost use Rattle.std.specs.Prelude.{◌≡◌, ◌<◌, ℕ, List, length, slice_get, Some, OnOk, OnErr};
+ghost use Rattle.std.specs.Prelude.{◌≡◌, ◌<◌, ℕ, List, length, slice_get, Some, OnOk, OnErr, option_map};
 ghost use Rattle.si_arena.specs.Memory.{Memory, object_of, ObjectLies, held_of, HeldLies, contents_of, ContentsLie};
 ghost use Rattle.si_arena.specs.inner.Changes.{items_in, entries_in, appended, extended, with_item, without_item, with_entry, without_entry};
 ghost use Rattle.si_arena.specs.inner.Keys.{found_pair, HeldMeans};
@@ -106,8 +106,9 @@ impl Held {
     }
 
     /// The pair of a key of a dict, where it is there.
-    pub fn get(&self, key: &Atom) -> Option<Pair>
-        ensures { result ≡ found_pair key.now (entries_in self.now) }
+    #[inline(always)]
+    pub fn get(&self, key: &Atom) -> Option<&Pair>
+        ensures { option_map (λ p. p.now) result ≡ found_pair key.now (entries_in self.now) }
     {
         match self {
             Held::Dict(dict) => dict.get(key),

@@ -15,6 +15,7 @@ use crate::words::Words;
 use si_plain::NoMemory;
 
 /// The atom of a value, where it is a key that a dict may have. Takes no memory.
+#[inline(always)]
 pub fn atom_of(texts: &Texts, words: &Words, key: &Ref) -> Option<Atom>
     requires words { WordsLie texts.now words.now }
     requires key { TextLies texts.now key.now }
@@ -22,7 +23,7 @@ pub fn atom_of(texts: &Texts, words: &Words, key: &Ref) -> Option<Atom>
 {
     match key {
         Ref::Int(n) => Some(Atom::Int(*n)),
-        Ref::Short(short) => Some(short_atom(*short)),
+        Ref::Short(short) => Some(short_atom(short)),
         Ref::Narrow { .. } => text_atom(texts, words, key),
         Ref::Wide { .. } => text_atom(texts, words, key),
         _ => None,
@@ -39,18 +40,19 @@ pub fn atom_for(texts: &Texts, words: &mut Words, key: &Ref) -> Result<Option<At
 {
     match key {
         Ref::Int(n) => Ok(Some(Atom::Int(*n))),
-        Ref::Short(short) => Ok(Some(short_atom(*short))),
+        Ref::Short(short) => Ok(Some(short_atom(short))),
         Ref::Narrow { .. } => Ok(Some(word_for(texts, words, key)?)),
         Ref::Wide { .. } => Ok(Some(word_for(texts, words, key)?)),
         _ => Ok(None),
     }
 }
 
-fn short_atom(short: Short) -> Atom
-    ensures { (us : List (List ℕ)) → Means us result (pure.Word (short_text short)) }
+#[inline(always)]
+fn short_atom(short: &Short) -> Atom
+    ensures { (us : List (List ℕ)) → Means us result (pure.Word (short_text short.now)) }
 {
     short.fits();
-    Atom::Short(short)
+    Atom::Short(*short)
 }
 
 // The atom of a text, where a dict may have it.
@@ -60,7 +62,7 @@ fn text_atom(texts: &Texts, words: &Words, text: &Ref) -> Option<Atom>
     ensures { FindsAtom (words_of texts.now words.now) (Some (pure.Word (text_of texts.now text.now))) result }
 {
     match Short::from_characters(texts.characters(text)) {
-        Some(short) => Some(short_atom(short)),
+        Some(short) => Some(short_atom(&short)),
         None => match words.find(texts, text) {
             Some(word) => Some(Atom::Word(word)),
             None => None,
@@ -76,7 +78,7 @@ fn word_for(texts: &Texts, words: &mut Words, text: &Ref) -> Result<Atom, NoMemo
     ensures err { OnErr result (words.new ≡ words.old) }
 {
     if let Some(short) = Short::from_characters(texts.characters(text)) {
-        return Ok(short_atom(short));
+        return Ok(short_atom(&short));
     }
     if let Some(word) = words.find(texts, text) {
         return Ok(Atom::Word(word));

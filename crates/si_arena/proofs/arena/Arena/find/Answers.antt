@@ -19,7 +19,7 @@ returns-in-Some-clause-value c =
     let a = key_agrees m _ _ _ _ _ _ _ c.self.view_is c.self.invariant c.args.key c.requires.key in
     let f = c.in-Some.ensures in
     let es = entries_in c.index.result.now in
-    let r : c.value_in.result ≡ found c.in-Some.atom es = c.value_in.ensures ∙ ap (option_map (λ (p : Pair). p.value)) c.get.ensures in
+    let r : c.value_at.result ≡ found c.in-Some.atom es = c.value_at.ensures ∙ ap (option_map (λ (p : Pair). p.value)) c.get.ensures in
     ap (option_map (value_of m)) r
     ∙ found_by m c.self.invariant.words.are (key_in i.texts c.args.key) c.in-Some.atom es f (entries_mean m us c.index.result.now v.means)
     ∙ ap₂ value_by (sym a.0) (sym (dict_entries m x c.index.result.now v.is))
@@ -32,8 +32,8 @@ returns-in-Some-clause-lies c =
     let us = words_of i.texts i.words in
     let v = held_view m _ _ _ _ _ _ _ c.self.view_is c.self.invariant x _ c.requires.address c.index.ensures in
     let es = entries_in c.index.result.now in
-    let r : c.value_in.result ≡ found c.in-Some.atom es = c.value_in.ensures ∙ ap (option_map (λ (p : Pair). p.value)) c.get.ensures in
-    found_by_lies m c.in-Some.atom es (pairs_lie m c.index.result.now v.lies) c.value_in.result r
+    let r : c.value_at.result ≡ found c.in-Some.atom es = c.value_at.ensures ∙ ap (option_map (λ (p : Pair). p.value)) c.get.ensures in
+    found_by_lies m c.in-Some.atom es (pairs_lie m c.index.result.now v.lies) c.value_at.result r
 
 pub returns-in-None : goal.returns-in-None
 returns-in-None c =

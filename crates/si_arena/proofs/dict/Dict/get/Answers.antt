@@ -9,7 +9,7 @@ use Rattle.si_arena.proofs.dict.Dict.get.Goals as goal
 pub returns : goal.returns
 returns c =
     let k = c.args.key.now in
-    c.copied.ensures ∙ c.get.ensures.value
+    c.get.ensures.value
     ∙ ap (get_by ((atoms.eq-value).it k)) c.deref.ensures
     ∙ ap (λ eq. lookup (eq k) c.self.inside.entries.value.entries) atom_eq
     ∙ ap (found_pair k) c.self.view_is
