@@ -20,3 +20,4 @@ pub mod Fast
 pub mod Asked
 pub mod Made
 pub mod Unpacked
+pub mod Shown
