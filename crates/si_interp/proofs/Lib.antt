@@ -5,3 +5,4 @@ pub mod Silent
 pub mod Standing
 pub mod Answering
 pub mod Keeping
+pub mod Globals

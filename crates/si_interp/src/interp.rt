@@ -6,6 +6,8 @@ ghost use Rattle.si_plain.specs.Characters.{characters_of};
 ghost use Rattle.si_semantics.specs.Actions as shared;
 ghost use Rattle.si_parcel.specs.Shared.{action_of, answer_of};
 ghost use Rattle.si_steps.specs.Machines.{Steps};
+ghost use Rattle.si_steps.specs.Shown.{ShowsGlobal};
+ghost use Rattle.si_interp.specs.Globals.{globals_of, shown_of};
 ghost use Rattle.si_interp.specs.Meaning.{At, Ready, Shows};
 ghost use Rattle.si_interp.specs.View.{view_of, action_at, FitsStand, Answers, Stepped, step_at, state_at, starved_view, taken_view};
 ghost use Rattle.si_slots.specs.Machine.{Course};
@@ -15,8 +17,8 @@ use crate::arriving::{arrive, come_to_action, note, put};
 use crate::origins::{Origins, RunOrigin};
 use crate::taking::answered;
 use si_parcel::{Action, Answer};
-use si_plain::NoMemory;
-use si_steps::{Machine, Step as Line};
+use si_plain::{NoMemory, Text};
+use si_steps::{Machine, NotShown, Step as Line};
 use std::alloc::Global;
 use std::marker::Model;
 
@@ -202,6 +204,24 @@ impl Interp {
     /// A run of which no hint could be had is left out, as where memory for it was refused; nothing else differs then.
     pub fn origins(&self) -> &[RunOrigin] {
         self.origins.as_slice()
+    }
+
+    /// What a global denotes, as a text: the `repr` of the value that is bound to the name now. None where nothing is bound to
+    /// it, and where the interpreter is gone or stands still for good, so that no script of it sees a global any more. The name
+    /// goes by its bytes, which are its characters where it is ASCII, as each name of a script is.
+    ///
+    /// # Errors
+    ///
+    /// `Raises` where `repr` raises an exception: RecursionError where values are too deep within each other, OverflowError
+    /// where the text is longer than a str may be. `NoMemory` where memory was refused.
+    pub fn global(&self, name: &str) -> Result<Option<Text>, NotShown>
+        ensures { ShowsGlobal (shown_of (globals_of self.now) name.now) result }
+    {
+        match self.state {
+            State::Gone => Ok(None),
+            State::Starved => Ok(None),
+            _ => self.machine.global(name),
+        }
     }
 
     /// Hands out the action at which it stands, once.

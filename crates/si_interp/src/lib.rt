@@ -20,4 +20,4 @@ mod taking;
 pub use interp::{Interp, Logged, State, Step};
 pub use origins::RunOrigin;
 pub use si_slots::Spot;
-pub use si_steps::Origin;
+pub use si_steps::{NotShown, Origin};

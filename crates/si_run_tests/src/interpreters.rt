@@ -1,6 +1,6 @@
 // One interpreter, with a test as its host.
 
-use si_interp::{Interp, RunOrigin, State, Step};
+use si_interp::{Interp, NotShown, RunOrigin, State, Step};
 use si_parcel::{Action, Answer, BoxedText, Job, Outcome, Parcel};
 use si_plain::{Kind, Text};
 use std::alloc::{AllocError, Global};
@@ -83,6 +83,47 @@ fn second_run_sees_the_names_of_the_first(rt: HostRuntime) -> Result<(), Fail> {
     assert_eq!(rt; go_on(&mut interp), Step::Asks);
     assert!(rt; interp.printed() == "42\n7\n");
     assert_eq!(rt; interp.log().len(), 3);
+    Ok(())
+}
+
+// Whether this is shown of a global.
+pub(crate) fn is_shown(interp: &Interp, name: &str, wanted: &str) -> Result<bool, Fail> {
+    match interp.global(name) {
+        Ok(Some(text)) => Ok(text.as_str() == wanted),
+        Ok(None) => Ok(false),
+        Err(NotShown::Raises(_)) => Ok(false),
+        Err(NotShown::NoMemory) => Err(AllocError)?,
+    }
+}
+
+// Whether nothing is bound to a name.
+fn is_unbound(interp: &Interp, name: &str) -> Result<bool, Fail> {
+    match interp.global(name) {
+        Ok(shown) => Ok(shown.is_none()),
+        Err(NotShown::Raises(_)) => Ok(false),
+        Err(NotShown::NoMemory) => Err(AllocError)?,
+    }
+}
+
+#[test]
+fn globals_are_shown(rt: HostRuntime) -> Result<(), Fail> {
+    let first = "z = 1\nx = [z, 'a']\ndef f():\n    y = 2\n    return y\n";
+    let second =
+        "x.append(x)\nw = (f(), b'b')\ntry:\n    raise ValueError('e')\nexcept ValueError as z:\n    pass\n";
+    let mut interp = given_two(rt.alloc(), first, second)?;
+    assert!(rt; is_shown(&interp, "x", "[1, 'a']")?);
+    assert!(rt; is_shown(&interp, "z", "1")?);
+    assert!(rt; is_unbound(&interp, "w")?);
+    go_on(&mut interp);
+    assert!(rt; is_shown(&interp, "x", "[1, 'a', [...]]")?);
+    assert!(rt; is_shown(&interp, "w", "(2, b'b')")?);
+    assert!(rt; is_shown(&interp, "f", "<function f>")?);
+    assert!(rt; is_shown(&interp, "__name__", "'__main__'")?);
+    assert!(rt; is_unbound(&interp, "y")?);
+    assert!(rt; is_unbound(&interp, "z")?);
+    assert!(rt; is_unbound(&interp, "print")?);
+    interp.starve();
+    assert!(rt; is_unbound(&interp, "x")?);
     Ok(())
 }
 

@@ -1,5 +1,6 @@
 // A world whose turns are given by hand, in a list and in rounds.
 
+use crate::interpreters::is_shown;
 use si_interp::State;
 use si_parcel::{Action, Outcome};
 use si_plain::{Kind, Limits};
@@ -71,6 +72,33 @@ fn before_any_turn(rt: HostRuntime) -> Result<(), Fail> {
     assert!(rt; world.interp(2).is_none());
     assert_eq!(rt; world.turn(0), Mark::Acted);
     assert_eq!(rt; world.journal().len(), 1);
+    Ok(())
+}
+
+// Whether a global of an interpreter is shown so.
+fn is_global(world: &World, i: u32, name: &str, wanted: &str) -> Result<bool, Fail> {
+    match world.interp(i) {
+        None => Ok(false),
+        Some(interp) => is_shown(interp, name, wanted),
+    }
+}
+
+#[test]
+fn globals_of_each_interpreter(rt: HostRuntime) -> Result<(), Fail> {
+    let script =
+        "from concurrent import interpreters\nx = [1, 'a']\ni = interpreters.create()\ni.exec(\"x = ('own',)\")\n";
+    let mut world = world(rt.alloc(), script, 2, 1_000)?;
+    for _ in 0..30 {
+        world.turn(0);
+    }
+    assert!(rt; is_global(&world, 0, "x", "[1, 'a']")?);
+    for _ in 0..30 {
+        world.turn(1);
+    }
+    assert!(rt; is_global(&world, 0, "x", "[1, 'a']")?);
+    assert!(rt; is_global(&world, 0, "i", "Interpreter(1)")?);
+    assert!(rt; is_global(&world, 1, "x", "('own',)")?);
+    assert!(rt; !is_global(&world, 1, "i", "Interpreter(1)")?);
     Ok(())
 }
 

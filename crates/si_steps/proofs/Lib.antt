@@ -21,3 +21,4 @@ pub mod Asked
 pub mod Made
 pub mod Unpacked
 pub mod Listed
+pub mod Shown

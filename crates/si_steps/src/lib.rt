@@ -14,7 +14,7 @@
 // methods), `requests` (what is asked, and its answers), `leaving` (`break`,
 // `continue`, `return` and the end of a finally suite), `short`, `short_values`, `short_items` and `short_methods`
 // (instructions as they stand in 8 bytes), `execute` (one instruction), `begin` (how a run begins), `bind` (globals bound between runs),
-// `origin` (where an exception that left a run came from), `machine`.
+// `origin` (where an exception that left a run came from), `showing` (what hosts are shown of globals), `machine`.
 #![tactic(auto)]
 
 mod attributes;
@@ -38,6 +38,7 @@ mod short;
 mod short_items;
 mod short_methods;
 mod short_values;
+mod showing;
 mod state;
 mod step;
 mod subscripts;
@@ -47,4 +48,5 @@ mod values;
 
 pub use machine::Machine;
 pub use origin::Origin;
+pub use showing::NotShown;
 pub use step::{Outcome, Step};

@@ -9,13 +9,15 @@ ghost use Rattle.si_slots.specs.Machine.{Course, Ending};
 ghost use Rattle.si_slots.specs.Running.{NeverCloses, run_at};
 ghost use Rattle.si_parcel.specs.Shared.{action_of, answer_of};
 ghost use Rattle.si_methods.specs.Given.{answer_in};
-ghost use Rattle.si_steps.specs.Moments.{IsActionAt, HasAction};
+ghost use Rattle.si_steps.specs.Shown.{ShowsGlobal, shown_in};
+ghost use Rattle.si_steps.specs.Moments.{IsActionAt, HasAction, IsSound, IsWorld, ground_of};
 ghost use Rattle.si_slots.specs.Views.{table_of};
 ghost use Rattle.si_steps.specs.Machines.{Stands, IsRunning, IsWaiting, HasEnded, Steps, Answers, Awaits, Waits, bound_to, printed_of};
 ghost use Rattle.si_semantics.specs.Shareable.{value_of_parcel};
 ghost use Rattle.si_steps.specs.Outcomes.{told};
 
 use crate::origin::Origin;
+use crate::showing::NotShown;
 use crate::state::{Standing, State};
 use crate::step::{Exit, Outcome, Step};
 use si_arena::{Arena, Contents, Fault, Ref};
@@ -254,6 +256,21 @@ impl Machine {
                 Ok(Outcome::Raised(kind, message))
             }
         }
+    }
+
+    /// What a global denotes, as a text: the `repr` of the value that is bound to the name in the world of the machine; None
+    /// where nothing is bound to it. The name goes by its bytes, which are its characters where it is ASCII, as each name of a
+    /// script is. A built-in is no global.
+    ///
+    /// # Errors
+    ///
+    /// `Raises` where `repr` raises an exception: RecursionError where values are too deep within each other, OverflowError
+    /// where the text is longer than a str may be. `NoMemory` where memory was refused.
+    pub fn global(&self, name: &str) -> Result<Option<Text>, NotShown>
+        requires { IsSound (ground_of self.now) }
+        ensures { (w : World) → IsWorld (ground_of self.now) w → ShowsGlobal (shown_in w name.now) result }
+    {
+        self.state.show_global(name)
     }
 
     /// Where the exception came from that left the last run, if one did and its code is known. A hint: no contract speaks of
