@@ -186,7 +186,11 @@ impl<'a> Front<'a> {
             let Some(b) = byte_at(self.text, self.at) else {
                 return;
             };
-            row = if b == quote && !escaped { row.saturating_add(1) } else { 0 };
+            row = if b == quote && !escaped {
+                row.saturating_add(1)
+            } else {
+                0
+            };
             escaped = b == b'\\' && !escaped;
             self.pass(b);
             if row == count {
@@ -217,7 +221,9 @@ impl<'a> Front<'a> {
 
     // Whether a suite of a function is open.
     fn in_function(&self) -> bool {
-        self.suites.iter().any(|opened| opened.suite == Suite::Function)
+        self.suites
+            .iter()
+            .any(|opened| opened.suite == Suite::Function)
     }
 
     // Whether a `return` may stand here.
