@@ -1,7 +1,8 @@
 // Hints for people: why a script is refused, and in which line a statement stands.
 //
 // `hint` is called only where a script is refused: it tells the place, and the reason in the words of docs/LANGUAGE.md. It
-// goes over the text once or twice, and stops at the first place that breaks a rule. `Statements` has the lines of a text's
+// goes over the words of what was read without a fault, then over the tokens from there on, or over those of all the text,
+// and stops at the first place that breaks a rule. `Statements` has the lines of a text's
 // statements, by the numbers that these have in the order in which code is made of them; it is made only where an exception
 // has left a run. What both tell is a hint: no contract depends on it, and theirs is that they are safe and that they return.
 //
@@ -10,8 +11,8 @@
 // `shape` (what may stand before `=`), `level` (an expression as far as it was read), `block` (compound statements and what
 // may stand in them), `state` (what is expected next), `walk` (going over the tokens), with `statement` (how statements
 // begin), `header` (clauses and their suites), `naming` (parameters, `global`, imports), `operand` and `after`
-// (expressions), `joint` (commas, colons and assignments), `bracket` (brackets and ends), and `telling`, which puts all of
-// it together; and `placing` (the lines of statements).
+// (expressions), `joint` (commas, colons and assignments), `bracket` (brackets and ends), `front` (what need not be gone over
+// again), and `telling`, which puts all of it together; and `placing` (the lines of statements).
 #![tactic(auto)]
 
 mod after;
@@ -19,6 +20,7 @@ mod block;
 mod bracket;
 mod fault;
 mod form;
+mod front;
 mod header;
 mod joint;
 mod layout;

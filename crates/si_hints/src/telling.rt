@@ -1,6 +1,7 @@
 // What is told of a script that is refused.
 
 use crate::fault::{Fault, Stop};
+use crate::front::settled;
 use crate::layout::{bad_indentation, first_place, line_and_column};
 use crate::reason::{Hint, Reason};
 use crate::walk::Walk;
@@ -74,6 +75,29 @@ fn first_fault<'a>(
         let reason = Reason::TextTooLong(text.len());
         return Ok(Some(Fault { at: 0, reason }));
     }
+    let start = settled(alloc, text, line)?;
+    if start > 0 {
+        let behind = text.get(start..).unwrap_or("");
+        match tokens(alloc, behind) {
+            Ok(all) => {
+                if let Some(Fault { at, reason }) = walked(alloc, all.as_slice(), None)? {
+                    let at = at.saturating_add(start);
+                    return Ok(Some(Fault { at, reason }));
+                }
+            }
+            Err(TokenFault::NoMemory) => return Err(AllocError),
+            Err(TokenFault::BadText(_)) => return first_of_words(alloc, text, start),
+        }
+    }
+    first_of_all(alloc, text, line)
+}
+
+// The first fault of a text, all of which is gone over.
+fn first_of_all<'a>(
+    alloc: Global,
+    text: &'a str,
+    line: usize,
+) -> Result<Option<Fault<'a>>, NoMemory> {
     match tokens(alloc, text) {
         Ok(all) => match walked(alloc, all.as_slice(), None)? {
             None if all.len() > MAX_EXPRESSION_DEPTH as usize => Ok(Some(Fault {
@@ -83,13 +107,17 @@ fn first_fault<'a>(
             found => Ok(found),
         },
         Err(TokenFault::NoMemory) => Err(AllocError),
-        Err(TokenFault::BadText(_)) => first_of_words(alloc, text),
+        Err(TokenFault::BadText(_)) => first_of_words(alloc, text, 0),
     }
 }
 
-// The first fault of a text that has no tokens.
-fn first_of_words<'a>(alloc: Global, text: &'a str) -> Result<Option<Fault<'a>>, NoMemory> {
-    let (end, bad) = match bad_word(text) {
+// The first fault of a text that has no tokens, and whose words are right before a place.
+fn first_of_words<'a>(
+    alloc: Global,
+    text: &'a str,
+    place: usize,
+) -> Result<Option<Fault<'a>>, NoMemory> {
+    let (end, bad) = match bad_word(text, place) {
         Some((start, fault)) => (start, Some(fault)),
         None => (text.len(), None),
     };

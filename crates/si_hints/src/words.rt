@@ -8,11 +8,12 @@ use crate::literal::literal_end;
 use crate::reason::Reason;
 use si_token::int_value;
 
-// The first place of a text where no word begins, and what is wrong there or in what begins there.
-pub(crate) fn bad_word<'a>(text: &'a str) -> Option<(usize, Fault<'a>)> {
+// The first place of a text, from one on where a word begins, where no word begins, and what is wrong there or in what
+// begins there.
+pub(crate) fn bad_word<'a>(text: &'a str, start: usize) -> Option<(usize, Fault<'a>)> {
     let bytes = text.as_bytes();
-    let mut at = 0;
-    for _ in 0..bytes.len() {
+    let mut at = start;
+    for _ in start..bytes.len() {
         let first = *bytes.get(at)?;
         match word_end(text, at, first) {
             Ok(end) => at = end,

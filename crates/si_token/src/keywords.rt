@@ -1,7 +1,8 @@
 // The keywords, by their spelling.
 
-ghost use Rattle.std.specs.Prelude.{◌≡◌, map};
+ghost use Rattle.std.specs.Prelude.{◌≡◌, map, nat_eq};
 ghost use Rattle.std.specs.Option.{option_map};
+ghost use Rattle.std.specs.Cmp.Lexicographic.{pointwise};
 ghost use Rattle.si_semantics.specs.Words.{spelled, keywords};
 ghost use Rattle.si_token.specs.Views.{keyword_of, entry_of};
 
@@ -61,12 +62,22 @@ const OF_EIGHT: [(&str, Keyword); 2] = [
     ("nonlocal", Keyword::Nonlocal),
 ];
 
+// Whether two words are the same, as their first bytes tell most often.
+fn are_same(spelling: &str, word: &str) -> bool
+    ensures { result ≡ pointwise nat_eq spelling.now word.now }
+{
+    match (spelling.as_bytes(), word.as_bytes()) {
+        ([first, ..], [other, ..]) if *first != *other => false,
+        _ => spelling == word,
+    }
+}
+
 // The keyword that the word spells in this table.
 fn among(table: &[(&str, Keyword)], word: &str) -> Option<Keyword>
     ensures { option_map keyword_of result ≡ spelled (map entry_of table.now) word.now }
 {
     for (spelling, keyword) in table {
-        if *spelling == word {
+        if are_same(spelling, word) {
             return Some(*keyword);
         }
     }
