@@ -238,8 +238,22 @@ pub fn method_at(arena: &Arena, value: Ref, name: Option<MethodName>) -> Option<
     }
 }
 
-/// The method of a name of methods that a value has, if it has one. Takes no memory.
+/// The method of a name of methods that a value has, if it has one. Takes no memory. An object and a queue, whose methods are
+/// called most, are looked at where they stand.
 pub fn method_named(arena: &Arena, value: Ref, name: MethodName) -> Option<Method>
+    requires { Lies arena.now value }
+    ensures { (w : World) → w.store ≡ arena.now.store → option_map method_in result ≡ attributes.method_of (value_of arena.now value) (spelled name) w }
+{
+    match value {
+        Ref::Object(address) => method_of_object(arena.object(address), name),
+        Ref::Queue { .. } => method_of_queue(name),
+        value => method_of_any(arena, value, name),
+    }
+}
+
+// The same of a value of any kind.
+#[inline(never)]
+fn method_of_any(arena: &Arena, value: Ref, name: MethodName) -> Option<Method>
     requires { Lies arena.now value }
     ensures { (w : World) → w.store ≡ arena.now.store → option_map method_in result ≡ attributes.method_of (value_of arena.now value) (spelled name) w }
 {
