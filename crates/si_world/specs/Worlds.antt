@@ -1,12 +1,14 @@
 -- All interpreters of a script, and what they share (this project's own).
-use Rattle.std.specs.Prelude.{◌≡◌, ℕ, zero, suc, ◌+◌, ◌≤◌, List, [], ◌∷◌, length, false, slice_get, Some}
+use Rattle.std.specs.Prelude.{◌≡◌, ℕ, zero, suc, ◌+◌, ◌≤◌, List, [], ◌∷◌, length, false, slice_get, Option, Some, option_and_then}
 use Rattle.si_plain.specs.Ranges.{Numbers}
 use Rattle.si_semantics.specs.Value.{Text}
+use Rattle.si_semantics.specs.World.{World}
 use Rattle.si_semantics.specs.Actions.{Take}
 use Rattle.si_hub.specs.HubCode.{Past}
 use Rattle.si_hub.specs.Hubs.{IsTold, state_of}
 use Rattle.si_interp.specs.Meaning.{InterpView, At, Shows}
 use Rattle.si_interp.specs.View.{view_of}
+use Rattle.si_interp.specs.Globals.{globals_of}
 use Rattle.si_world.specs.Legal.{calls_of, exchanges}
 
 -- what contracts see of a world: the script, the limits and the calls that were made, and all interpreters that the limits
@@ -34,6 +36,10 @@ first_views i (suc count) = first_view i ∷ first_views (i + 1) count
 -- the world of a script before any turn
 abbrev pub first_of : Text → Numbers → WorldView
 first_of script limits = world (record { script = script; limits = limits; journal = [] }) (first_views 0 limits.interpreters)
+
+-- what the globals of interpreter i denote: its names with their values, and its objects with what they hold
+abbrev pub globals_at : WorldView → (i : ℕ) → Option World
+globals_at w i = option_and_then globals_of (slice_get w.interps i)
 
 -- interpreter i after a past: it shows its meaning, under the answers that the journal gave it and no others, within its
 -- turns

@@ -4,7 +4,7 @@ ghost use Rattle.std.specs.Prelude.{◌≡◌, ◌≢◌, ◌≤◌, ◌<◌, �
 ghost use Rattle.si_plain.specs.Characters.{characters_of};
 ghost use Rattle.si_hub.specs.Hubs.{state_of};
 ghost use Rattle.si_world.specs.Legal.{Legal};
-ghost use Rattle.si_world.specs.Worlds.{IsWorld, created, first_of, first_views};
+ghost use Rattle.si_world.specs.Worlds.{IsWorld, created, first_of, first_views, globals_at};
 ghost use Rattle.si_world.specs.Marks.{Turned};
 ghost use Rattle.si_world.specs.Core.{IsOfCore, NoneStarved};
 ghost use Rattle.si_world.specs.inner.Firsts.{AllShow};
@@ -138,10 +138,11 @@ impl World {
     }
 
     /// A turn of interpreter i: one line of its machine, one shared action, or nothing. Every other interpreter is left as
-    /// it was.
+    /// it was: what is reported of it, and what its globals denote (`Interp::global`).
     pub fn turn(&mut self, i: u32) -> Mark
         ensures turned { Turned self.old i result self.new }
         ensures isolation { (j : ℕ) → j ≢ i → slice_get self.new.interps j ≡ slice_get self.old.interps j }
+        ensures globals { (j : ℕ) → j ≢ i → globals_at self.new j ≡ globals_at self.old j }
     {
         if i >= self.made {
             return Mark::Nobody;

@@ -1,5 +1,7 @@
 use Rattle.std.proofs.Common.{◌≡◌, ◌<◌, ◌∙◌, ap, refl, arith, slice_get, Some, length}
+use Rattle.std.specs.Prelude.{option_and_then}
 use Rattle.std.proofs.lemmas.Option.{slice_get_read}
+use Rattle.si_interp.specs.Globals.{globals_of}
 use Rattle.si_world.specs.Worlds.{WorldView, created}
 use Rattle.si_world.proofs.Lists.{get-set_other}
 use Rattle.si_world.proofs.Turning.{world_moved, turned_by}
@@ -33,3 +35,6 @@ returns-clause-turned c =
 
 pub returns-clause-isolation : goal.returns-clause-isolation
 returns-clause-isolation c = λ j ne. get-set_other c.self.inside.interps.items c.args.i j c.move_one.new.interp ne ∙ ap (λ (w : WorldView). slice_get w.interps j) c.self.view_is
+
+pub returns-clause-globals : goal.returns-clause-globals
+returns-clause-globals c = λ j ne. ap (option_and_then globals_of) (get-set_other c.self.inside.interps.items c.args.i j c.move_one.new.interp ne ∙ ap (λ (w : WorldView). slice_get w.interps j) c.self.view_is)
