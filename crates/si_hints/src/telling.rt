@@ -77,8 +77,8 @@ fn first_fault<'a>(
     }
     let start = settled(alloc, text, line)?;
     if start > 0 {
-        let behind = text.get(start..).unwrap_or("");
-        match tokens(alloc, behind) {
+        let rest = text.get(start..).unwrap_or("");
+        match tokens(alloc, rest) {
             Ok(all) => {
                 if let Some(Fault { at, reason }) = walked(alloc, all.as_slice(), None)? {
                     let at = at.saturating_add(start);
