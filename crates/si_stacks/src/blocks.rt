@@ -2,6 +2,7 @@
 ghost use Rattle.std.specs.Prelude.{◌≡◌, ◌<◌, List, [], ◌∷◌, length, drop, OnOk, OnErr, MatchOption};
 ghost use Rattle.si_stacks.specs.Blocks.{concerns, reached, handles, is_handled, active_in, active_of, LeavesFrame};
 
+use crate::stack::Stack;
 use crate::trace::Trace;
 use si_arena::Ref;
 use si_plain::NoMemory;
@@ -90,16 +91,16 @@ impl<I: Copy, T: Copy> Block<I, T> {
 /// What was entered and not left, which contracts see from the innermost on.
 #[derive(Drop)]
 pub struct Blocks<I: Copy, T: Copy> {
-    items: Vec<Block<I, T>>,
+    items: Stack<Block<I, T>>,
 }
 
 impl<I: Copy, T: Copy> Model for Blocks<I, T> {
-    ghost use Rattle.std.specs.Prelude.{List, reverse};
+    ghost use Rattle.std.specs.Prelude.{List};
     ghost use Rattle.si_stacks.specs.declared.blocks.Block.{Block as Item};
 
     ghost Value = { List (Item I T) };
 
-    ghost view = { λ b. reverse b.items.items };
+    ghost view = { λ b. b.items };
 }
 
 impl<I: Copy, T: Copy> Blocks<I, T> {
@@ -108,7 +109,7 @@ impl<I: Copy, T: Copy> Blocks<I, T> {
         ensures { result ≡ [] }
     {
         Blocks {
-            items: Vec::new(alloc),
+            items: Stack::new(alloc),
         }
     }
 
@@ -122,8 +123,7 @@ impl<I: Copy, T: Copy> Blocks<I, T> {
         ensures ok { OnOk result (self.new ≡ block ∷ self.old) }
         ensures err { OnErr result (self.new ≡ self.old) }
     {
-        self.items.push(block)?;
-        Ok(())
+        self.items.push(block)
     }
 
     /// The innermost.
@@ -131,7 +131,7 @@ impl<I: Copy, T: Copy> Blocks<I, T> {
     pub fn innermost(&self) -> Option<Block<I, T>>
         ensures { MatchOption result (self.now ≡ []) (λ b. self.now ≡ b ∷ drop 1 self.now) }
     {
-        self.items.last().copied()
+        self.items.top()
     }
 
     /// The innermost, which is left.
@@ -159,8 +159,7 @@ impl<I: Copy, T: Copy> Blocks<I, T> {
         requires { 0 < length self.old }
         ensures { self.new ≡ block ∷ drop 1 self.old }
     {
-        let last = self.items.len() - 1;
-        self.items[last] = block;
+        self.items.replace(block);
     }
 
     /// All that such leaving passes is left.
@@ -196,10 +195,11 @@ impl<I: Copy, T: Copy> Blocks<I, T> {
     pub fn is_handled(&self) -> bool
         ensures { result ≡ is_handled self.now }
     {
-        let mut left = self.items.len();
+        let items = self.items.as_slice();
+        let mut left = items.len();
         while left > 0 {
             left -= 1;
-            if self.items[left].handles() {
+            if items[left].handles() {
                 return true;
             }
         }
@@ -210,10 +210,11 @@ impl<I: Copy, T: Copy> Blocks<I, T> {
     pub fn active(&self) -> Option<usize>
         ensures { result ≡ active_of self.now }
     {
-        let mut left = self.items.len();
+        let items = self.items.as_slice();
+        let mut left = items.len();
         while left > 0 {
             left -= 1;
-            if let Some(address) = self.items[left].active() {
+            if let Some(address) = items[left].active() {
                 return Some(address);
             }
         }

@@ -6,12 +6,13 @@
 // `specs/Blocks.antt` say what is seen of the two stacks, and `specs/Places.antt` which temporaries, slots and blocks
 // of a machine's place stand in both: the laws of `proofs/` say it after each call.
 //
-// In reading order: `frames` (`Frames`), `trace` (`Trace`: where an exception came from, of which no contract speaks) and
+// In reading order: `stack` (`Stack`, of which both are made), `frames` (`Frames`), `trace` (`Trace`: where an exception came from, of which no contract speaks) and
 // `blocks` (`Block`, `Leaving`, `Blocks`).
 #![tactic(auto)]
 
 mod blocks;
 mod frames;
+mod stack;
 mod trace;
 
 pub use blocks::{Block, Blocks, Leaving};

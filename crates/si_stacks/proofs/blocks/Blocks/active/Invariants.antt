@@ -4,7 +4,7 @@ use Rattle.si_stacks.specs.Blocks.{active_of}
 use Rattle.si_stacks.proofs.blocks.Blocks.active.Given as goal
 
 abbrev pub invariant-loop-left : goal.invariant-loop-left
-invariant-loop-left g l = (active_of (reverse (take l.left l.self-inside.items.items)) ≡ active_of l.self) × (l.left ≤ length l.self-inside.items.items)
+invariant-loop-left g l = (active_of (reverse (take l.left l.items)) ≡ active_of l.self) × (l.left ≤ length l.items)
 
 abbrev pub decreases-loop-left : goal.decreases-loop-left
 decreases-loop-left g l = l.left
