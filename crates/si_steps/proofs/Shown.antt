@@ -1,11 +1,11 @@
 -- What is shown of globals.
-use Rattle.std.proofs.Common.{◌≡◌, ℕ, zero, suc, ◌<◌, ◌≤◌, ◌++◌, List, [], ◌∷◌, length, drop, get_or, Bool, true, false, Option, Some, None, Result, Ok, Err, encode_utf8_all, arith, refl, sym, ap, ◌∙◌}
+use Rattle.std.proofs.Common.{◌≡◌, ℕ, zero, suc, ◌≤◌, ◌++◌, List, [], ◌∷◌, length, drop, get_or, true, false, Some, None, Result, Ok, Err, encode_utf8_all, arith, refl, sym, ap, ◌∙◌}
 use Rattle.std.specs.Prelude.{slice_get, option_map, if◌then◌else◌}
 use Rattle.std.specs.String.{string_bytes}
 use Rattle.std.specs.declared.string.String.{String}
 use Rattle.si_plain.specs.declared.kind.Kind.{Kind}
 use Rattle.si_plain.specs.Characters.{characters_of}
-use Rattle.si_semantics.specs.Value.{Text, Value}
+use Rattle.si_semantics.specs.Value.{Text}
 use Rattle.si_semantics.specs.Text.{repr_in, same_text}
 use Rattle.si_semantics.specs.World.{World, first_world}
 use Rattle.si_arena.specs.declared.value.Ref.{Ref}

@@ -24,6 +24,21 @@ impl State {
         requires ready { IsReady (machine.Call (target_of target) at count) self.old p }
         ensures { Does (machine.Call (target_of target) at count) p self.old self.new result }
     {
+        match self.frames.temporary(at as usize) {
+            Ref::Function { number, name } => {
+                self.call_function(Ref::Function { number, name }, number, target, at, count)
+            }
+            _ => self.call_other(target, at, count),
+        }
+    }
+
+    // The same of what is not told to be a function of a script by its kind.
+    #[inline(never)]
+    fn call_other(&mut self, target: Target, at: u32, count: u32) -> Step
+        ghost p: { Moment }
+        requires ready { IsReady (machine.Call (target_of target) at count) self.old p }
+        ensures { Does (machine.Call (target_of target) at count) p self.old self.new result }
+    {
         let callee = self.frames.temporary(at as usize);
         match function_in(&self.arena, callee) {
             Some(number) => self.call_function(callee, number, target, at, count),

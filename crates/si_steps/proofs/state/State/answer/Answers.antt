@@ -1,4 +1,4 @@
-use Rattle.std.proofs.Common.{◌≡◌, ◌∙◌, Ok, ap, refl, subst, sym, arith}
+use Rattle.std.proofs.Common.{◌∙◌, Ok, ap, refl, subst, sym, arith}
 use Rattle.si_arena.specs.declared.object.Object.{Object}
 use Rattle.si_arena.specs.declared.value.Ref.{Ref}
 use Rattle.si_arena.specs.Memory.{object_of, Lies, ObjectLies}
