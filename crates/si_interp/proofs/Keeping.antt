@@ -156,6 +156,10 @@ keeps_starved id m n log log' l room s kept offered h p e =
 pub going : (id : ℕ) (m : Machine) (log : List Logged) (l room : ℕ) (s : State) (kept offered : Option Action) → Keeps id m log l room s kept offered → s ≡ states.Ready → IsGoing id log l (moment_of id log l) m
 going id m log l room s kept offered k e = subst (λ (x : State). Goes id log l (moment_of id log l) m x kept offered room) e k.goes
 
+-- what has a line to run keeps that true
+pub keeps_going : (id : ℕ) (log : List Logged) (l room : ℕ) (m : Machine) (kept offered : Option Action) → IsGoing id log l (moment_of id log l) m → Keeps id m log l room states.Ready kept offered
+keeps_going id log l room m kept offered g = keeps_running id log l (moment_of id log l) m kept offered room g.track g.prints g.under
+
 -- one line more, and the run goes on
 pub keeps_line :
     (id : ℕ) (log : List Logged) (l room : ℕ) (m n : Machine) (kept offered : Option Action)

@@ -6,3 +6,4 @@ pub mod Standing
 pub mod Answering
 pub mod Keeping
 pub mod Globals
+pub mod Lines

@@ -1,5 +1,5 @@
 -- What the calls of an interpreter make of it (this project's own).
-use Rattle.std.specs.Prelude.{◌≡◌, ◌≢◌, ℕ, ◌+◌, List, [], ◌∷◌, ◌++◌, Bool, true, false, Option, Some, None}
+use Rattle.std.specs.Prelude.{◌≡◌, ◌≢◌, ℕ, zero, suc, ◌+◌, ◌<◌, ◌≤◌, List, [], ◌∷◌, ◌++◌, Bool, true, false, Option, Some, None}
 use Rattle.si_semantics.specs.Value.{Text}
 use Rattle.si_semantics.specs.Actions.{Action, Answer, fits}
 use Rattle.si_interp.specs.declared.interp.Step.{Step}
@@ -60,6 +60,20 @@ Stepped old steps.Local new = Counts old new
 Stepped old steps.Asks new = Counts old new
 Stepped old steps.Gone new = ⊥
 Stepped old steps.Starved new = new ≡ starved_view old
+
+-- so many lines were run, one after the other, each from where there was one to run
+abbrev pub HasRun : ℕ → InterpView → InterpView → Type 0
+HasRun zero v w = w ≡ v
+HasRun (suc n) v w = (u : InterpView) × HasRun n v u × (u.stand ≡ Ready) × Counts u w
+
+-- n turns one after the other, from where there was a line to run, of at most so many, by what the last of them did: all were
+-- lines, and there is another; or the last line has led to an action; or the last turn, after k lines, was refused memory. None
+-- of them leads to where it is gone
+abbrev pub SteppedOn : InterpView → (most n : ℕ) → Step → InterpView → Type 0
+SteppedOn old most n steps.Local new = (n ≡ most) × HasRun n old new × (new.stand ≡ Ready)
+SteppedOn old most n steps.Asks new = (0 < n) × (n ≤ most) × HasRun n old new × (steps.Asks ≡ step_at new.stand)
+SteppedOn old most n steps.Gone new = ⊥
+SteppedOn old most n steps.Starved new = (n ≤ most) × (k : ℕ) × (u : InterpView) × (n ≡ k + 1) × HasRun k old u × (u.stand ≡ Ready) × (new ≡ starved_view u)
 
 abbrev pub state_at : Stand → State
 state_at Ready = states.Ready

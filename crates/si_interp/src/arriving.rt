@@ -158,6 +158,7 @@ fn come_to_request(
 /// # Errors
 ///
 /// `NoMemory` where memory was refused, to tell how the run ended or to keep the action.
+#[inline(never)]
 pub fn come_to_action(
     alloc: Global,
     machine: &mut Machine,

@@ -1,6 +1,6 @@
 // One interpreter.
 
-ghost use Rattle.std.specs.Prelude.{◌≡◌, ◌≢◌, ◌<◌, ◌+◌, ◌-◌, ◌^◌, [], ◌∷◌, ◌++◌, true, false, None, Some, IfOk, IfSome, IfNone, MatchOption, vec_len, vec_capacity};
+ghost use Rattle.std.specs.Prelude.{◌≡◌, ◌≢◌, ◌<◌, ◌≤◌, ◌+◌, ◌-◌, ◌^◌, [], ◌∷◌, ◌++◌, true, false, None, Some, IfOk, IfSome, IfNone, MatchOption, vec_len, vec_capacity};
 ghost use Rattle.std.specs.Option.{IsSomeAnd};
 ghost use Rattle.si_plain.specs.Characters.{characters_of};
 ghost use Rattle.si_semantics.specs.Actions as shared;
@@ -9,9 +9,10 @@ ghost use Rattle.si_steps.specs.Machines.{Steps};
 ghost use Rattle.si_steps.specs.Shown.{ShowsGlobal};
 ghost use Rattle.si_interp.specs.Globals.{globals_of, shown_of};
 ghost use Rattle.si_interp.specs.Meaning.{At, Ready, Shows};
-ghost use Rattle.si_interp.specs.View.{view_of, action_at, FitsStand, Answers, Stepped, step_at, state_at, starved_view, taken_view};
+ghost use Rattle.si_interp.specs.View.{view_of, action_at, FitsStand, Answers, Stepped, SteppedOn, step_at, state_at, starved_view, taken_view};
 ghost use Rattle.si_slots.specs.Machine.{Course};
-ghost use Rattle.si_interp.specs.inner.Keeps.{IsUnderWay};
+ghost use Rattle.si_interp.specs.inner.Keeps.{IsUnderWay, IsGoing, moment_of};
+ghost use Rattle.si_interp.specs.inner.Lines.{LinesLed};
 
 use crate::arriving::{arrive, come_to_action, note, put};
 use crate::origins::{Origins, RunOrigin};
@@ -82,9 +83,10 @@ pub struct Interp {
     alloc: Global,
 }
 
-// One line of a machine that is at the moment of this number, log and lines, of which the contract speaks alone.
+// One line of a machine that is at the moment of this number and log, after these lines and those that were given since: of that
+// the contract speaks alone.
 #[inline(always)]
-fn line(machine: &mut Machine, id: u32, log: &Vec<Logged>, locals: u64) -> Line
+fn line(machine: &mut Machine, id: u32, log: &Vec<Logged>, locals: u64, given: u64) -> Line
     ghost c: { Course }
     requires { IsUnderWay c machine.old }
     ensures { Steps c machine.old machine.new result }
@@ -92,7 +94,29 @@ fn line(machine: &mut Machine, id: u32, log: &Vec<Logged>, locals: u64) -> Line
     let _ = id;
     let _ = log;
     let _ = locals;
+    let _ = given;
     machine.step()
+}
+
+// At most so many lines of a machine that is at the moment of this number, log and lines, of which the contract speaks alone, as
+// long as its run goes on: how many went on, and what was done last. The one loop in which a machine is stepped: the step is drawn
+// into it, and how many lines there were is counted beside the machine.
+#[inline(always)]
+fn lines(machine: &mut Machine, id: u32, log: &Vec<Logged>, locals: u64, most: u64) -> (u64, Line)
+    requires { IsGoing id log.now.items locals (moment_of id log.now.items locals) machine.old }
+    ensures led { LinesLed id log.now.items locals machine.old most result.0 result.1 machine.new }
+    ensures within { result.0 ≤ most }
+{
+    let mut given = 0;
+    let mut came = Line::Local;
+    while given < most {
+        came = line(machine, id, log, locals, given);
+        match came {
+            Line::Local => given += 1,
+            _ => break,
+        }
+    }
+    (given, came)
 }
 
 impl Model for Interp {
@@ -252,10 +276,51 @@ impl Interp {
         self.state = State::Starved;
     }
 
+    /// Runs at most so many lines, one after the other, as long as there is one to run: how many turns these were, and what the
+    /// last of them did. With a line it may come to the end of its run or to a request, at which it then stands. Where memory is
+    /// refused, also that to tell how the run ended or what is asked, it stands still for good: that is a turn, but no line that
+    /// counts.
+    #[inline(always)]
+    pub fn lines(&mut self, most: u64) -> (u64, Step)
+        requires ready { self.old.stand ≡ Ready }
+        requires small { self.old.locals + most ≤ 1099511627776 }
+        ensures { SteppedOn self.old most result.0 result.1 self.new }
+    {
+        let (given, came) = lines(&mut self.machine, self.id, &self.log, self.locals, most);
+        self.locals += given;
+        match came {
+            Line::Local => (given, Step::Local),
+            Line::Starved => {
+                self.state = State::Starved;
+                (given + 1, Step::Starved)
+            }
+            came => match come_to_action(
+                self.alloc,
+                &mut self.machine,
+                came,
+                self.id,
+                self.locals,
+                &mut self.log,
+                &mut self.kept,
+                &mut self.offered,
+                &mut self.origins,
+            ) {
+                Err(_) => {
+                    self.state = State::Starved;
+                    (given + 1, Step::Starved)
+                }
+                Ok(state) => {
+                    self.state = state;
+                    self.locals += 1;
+                    (given + 1, Step::Asks)
+                }
+            },
+        }
+    }
+
     /// Runs one line, where it has one. With that it may come to the end of its run or to a request, at which it then stands.
     /// Where memory is refused, also that to tell how the run ended or what is asked, it stands still for good, and the line
     /// doesn't count.
-    #[inline(always)]
     pub fn step(&mut self) -> Step
         requires { self.old.locals < 2 ^ 40 }
         ensures still { self.old.stand ≢ Ready → (self.new ≡ self.old) × (result ≡ step_at self.old.stand) }
@@ -266,37 +331,7 @@ impl Interp {
             State::Starved => Step::Starved,
             State::AtAction => Step::Asks,
             State::Gone => Step::Gone,
-            State::Ready => match line(&mut self.machine, self.id, &self.log, self.locals) {
-                Line::Local => {
-                    self.locals += 1;
-                    Step::Local
-                }
-                Line::Starved => {
-                    self.state = State::Starved;
-                    Step::Starved
-                }
-                came => match come_to_action(
-                    self.alloc,
-                    &mut self.machine,
-                    came,
-                    self.id,
-                    self.locals,
-                    &mut self.log,
-                    &mut self.kept,
-                    &mut self.offered,
-                    &mut self.origins,
-                ) {
-                    Err(_) => {
-                        self.state = State::Starved;
-                        Step::Starved
-                    }
-                    Ok(state) => {
-                        self.state = state;
-                        self.locals += 1;
-                        Step::Asks
-                    }
-                },
-            },
+            State::Ready => self.lines(1).1,
         }
     }
 

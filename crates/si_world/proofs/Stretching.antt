@@ -3,8 +3,9 @@ use Rattle.std.proofs.Common.{◌≡◌, ℕ, zero, suc, ◌+◌, ◌<◌, ◌�
 use Rattle.std.proofs.lemmas.Bool.Decides.{eqb_tells}
 use Rattle.std.proofs.lemmas.List.{length-set, replicate_more}
 use Rattle.si_hub.specs.HubCode.{Past}
-use Rattle.si_interp.specs.Meaning.{InterpView, Stand, Ready, At, Gone, Starved, Shows}
-use Rattle.si_interp.specs.View.{Counts, step_at, starved_view}
+use Rattle.si_interp.specs.Meaning.{InterpView, Stand, Ready, Shows}
+use Rattle.si_interp.specs.View.{Counts, step_at, starved_view, HasRun, SteppedOn}
+use Rattle.si_interp.specs.declared.interp.Step.{Step}
 use Rattle.si_interp.specs.declared.interp.Step.TheVariants as steps
 use Rattle.si_world.specs.declared.mark.Mark.{Mark}
 use Rattle.si_world.specs.declared.mark.Mark.TheVariants as marks
@@ -65,14 +66,73 @@ stretched_starved turns v u w n s r l c =
     (record { id = ap (λ (x : InterpView). x.id) c; log = ap (λ (x : InterpView). x.log) c; taken = ap (λ (x : InterpView). x.taken) c; locals = let e = ap (λ (x : InterpView). x.locals) c in omega arith })
     (n, refl, ap (λ (ms : List Mark). ms ++ marks.Starved ∷ []) s.are) (λ e. absurd cc) (omega arith, omega arith) refl
 
-pub is_ready : (s : Stand) → steps.Local ≡ step_at s → s ≡ Ready
-is_ready Ready e = refl
-is_ready (At a) e = cc
-is_ready Gone e = cc
-is_ready Starved e = cc
+-- lines that count, one after the other
+stretched_run : (turns n : ℕ) (v w : InterpView) → HasRun n v w → v.locals + n ≤ turns → Stretched turns v n false w
+stretched_run turns zero v w h l = subst (λ (x : InterpView). Stretched turns v 0 false x) (sym h) (stretched_none turns v)
+stretched_run turns (suc n) v w h l =
+    let s : Stretched turns v n false h.0 = stretched_run turns n v h.0 h.1 (omega arith) in
+    let e = s.counted refl in
+    let one : n + 1 ≡ suc n = omega arith in
+    subst (λ (k : ℕ). Stretched turns v k false w) one (stretched_line turns v h.0 w n s h.2 (omega arith) h.3)
 
-pub not_ready : (s : Stand) → steps.Asks ≡ step_at s → s ≡ Ready → ⊥
+-- lines of which the last was refused memory
+stretched_refused : (turns n k : ℕ) (v u w : InterpView) → n ≡ k + 1 → HasRun k v u → u.stand ≡ Ready → w ≡ starved_view u → v.locals + n ≤ turns → Stretched turns v n true w
+stretched_refused turns n k v u w e h r s l =
+    let before : Stretched turns v k false u = stretched_run turns k v u h (omega arith) in
+    let at = before.counted refl in
+    subst (λ (j : ℕ). Stretched turns v j true w) (sym e) (stretched_starved turns v u w k before r (omega arith) s)
+
+not_ready : (s : Stand) → steps.Asks ≡ step_at s → s ≡ Ready → ⊥
 not_ready s e h = let both : steps.Asks ≡ steps.Local = e ∙ ap step_at h in absurd cc
+
+one_line : (n : ℕ) (v w : InterpView) → n ≡ 1 → HasRun n v w → Counts v w
+one_line n v w e h =
+    let here : HasRun 1 v w = subst (λ (k : ℕ). HasRun k v w) e h in
+    subst (λ (u : InterpView). Counts u w) here.1 here.3
+
+-- turns of which none was refused memory, by what was told of the last
+pub stretched_on : (turns most n : ℕ) (v w : InterpView) (r : Step) → SteppedOn v most n r w → (r ≡ steps.Starved → ⊥) → v.locals + most ≤ turns → Stretched turns v n false w
+stretched_on turns most n v w steps.Local h a l = (let all = h.0 in stretched_run turns n v w h.1 (omega arith))
+stretched_on turns most n v w steps.Asks h a l = (let few = h.1 in stretched_run turns n v w h.2 (omega arith))
+stretched_on turns most n v w steps.Gone h a l = absurd h
+stretched_on turns most n v w steps.Starved h a l = absurd (a refl)
+
+-- turns of which the last was
+pub stretched_refused_on : (turns most n : ℕ) (v w : InterpView) (r : Step) → SteppedOn v most n r w → r ≡ steps.Starved → v.locals + most ≤ turns → Stretched turns v n true w
+stretched_refused_on turns most n v w r g e l =
+    let h = subst (λ (x : Step). SteppedOn v most n x w) e g in
+    let few = h.0 in
+    stretched_refused turns n h.1 v h.2 w h.3 h.4 h.5 h.6 (omega arith)
+
+-- there were no more turns than that
+pub turns_within : (most n : ℕ) (v w : InterpView) (r : Step) → SteppedOn v most n r w → n ≤ most
+turns_within most n v w steps.Local h = (let all = h.0 in omega arith)
+turns_within most n v w steps.Asks h = h.1
+turns_within most n v w steps.Gone h = absurd h
+turns_within most n v w steps.Starved h = h.0
+
+-- where there was to be one turn, that is all it did
+pub one_turn : (most n : ℕ) (v w : InterpView) (r : Step) → SteppedOn v most n r w → (r ≡ steps.Starved → ⊥) → most ≡ 1 → Counts v w
+one_turn most n v w steps.Local h a e = (let all = h.0 in one_line n v w (omega arith) h.1)
+one_turn most n v w steps.Asks h a e = (let some = h.0 in let few = h.1 in one_line n v w (omega arith) h.2)
+one_turn most n v w steps.Gone h a e = absurd h
+one_turn most n v w steps.Starved h a e = absurd (a refl)
+
+pub one_refused : (most n : ℕ) (v w : InterpView) (r : Step) → SteppedOn v most n r w → r ≡ steps.Starved → most ≡ 1 → w ≡ starved_view v
+one_refused most n v w r g is e =
+    let h = subst (λ (x : Step). SteppedOn v most n x w) is g in
+    let few = h.0 in
+    let after = h.3 in
+    let none : h.1 ≡ 0 = omega arith in
+    let same : h.2 ≡ v = subst (λ (k : ℕ). HasRun k v h.2) none h.4 in
+    subst (λ (u : InterpView). w ≡ starved_view u) same h.6
+
+-- where there were fewer turns, there is no line to run
+pub ends_early : (most n : ℕ) (v w : InterpView) (r : Step) → SteppedOn v most n r w → (r ≡ steps.Starved → ⊥) → n < most → w.stand ≡ Ready → ⊥
+ends_early most n v w steps.Local h a l e = (let all = h.0 in absurd (omega arith))
+ends_early most n v w steps.Asks h a l e = not_ready w.stand h.3 e
+ends_early most n v w steps.Gone h a l e = h
+ends_early most n v w steps.Starved h a l e = a refl
 
 -- ---- in the world
 

@@ -94,8 +94,8 @@ fn step_at(interp: &mut Interp, turns: u64) -> Mark
 }
 
 // At most so many lines of an interpreter that has one to run, until it stands at an action or memory is refused to it: how
-// many turns these were, and whether memory was refused in the last. The one place where an interpreter is stepped, so that
-// the step is drawn into this loop.
+// many turns these were, and whether memory was refused in the last. The one place where the loop of `Interp::lines` is drawn in,
+// and with it the step: this function is drawn into no other.
 #[inline(never)]
 fn run_lines(interp: &mut Interp, most: u64) -> (u64, bool)
     requires ready { interp.old.stand ≡ Ready }
@@ -105,18 +105,11 @@ fn run_lines(interp: &mut Interp, most: u64) -> (u64, bool)
     ensures one { most ≡ 1 → IsOneLine interp.old result.1 interp.new }
     ensures ends { result.1 ≡ false → result.0 < most → interp.new.stand ≡ Ready → ⊥ }
 {
-    let mut given = 0;
-    while given < most {
-        let step = interp.step();
-        given += 1;
-        match step {
-            Step::Local => {}
-            Step::Asks => return (given, false),
-            Step::Starved => return (given, true),
-            Step::Gone => unreachable!(),
-        }
+    let (given, last) = interp.lines(most);
+    match last {
+        Step::Starved => (given, true),
+        _ => (given, false),
     }
-    (given, false)
 }
 
 /// At most `left` lines of an interpreter with these turns, as far as it has any to run: how many turns these were, and whether
