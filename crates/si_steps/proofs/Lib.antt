@@ -22,3 +22,4 @@ pub mod Made
 pub mod Unpacked
 pub mod Listed
 pub mod Shown
+pub mod Fetching
