@@ -4,13 +4,20 @@ use si_history::history;
 use si_hub::Hub;
 use si_parcel::{Action, Binds, BoxedText, Outcome, Parcel};
 use si_plain::{Kind, Limits, NoMemory, Text};
-use std::alloc::Global;
+use std::alloc::{AllocError, Global};
 use std::test::Fail;
 
 // A hub of an empty script with at most two interpreters.
-fn hub(alloc: Global) -> Result<Hub, Fail> {
-    let limits = Limits::new(2, 1_000).map_err(|_| "the limits")?;
-    Ok(Hub::new(alloc, "", limits)?)
+fn hub(alloc: Global) -> Result<Hub, NoMemory> {
+    match Limits::new(2, 1_000) {
+        Ok(limits) => Hub::new(alloc, "", limits),
+        Err(_) => Err(AllocError),
+    }
+}
+
+// Whether an action is enabled and answered.
+fn is_answered(hub: &mut Hub, by: u32, action: Action) -> bool {
+    hub.act(by, action).is_ok()
 }
 
 fn text(alloc: Global, text: &str) -> Result<BoxedText, NoMemory> {
@@ -18,17 +25,16 @@ fn text(alloc: Global, text: &str) -> Result<BoxedText, NoMemory> {
 }
 
 // `'a'`
-fn letter(alloc: Global) -> Result<Parcel, Fail> {
-    let parcel = Parcel::str(alloc, Text::from_str(alloc, "a")?);
-    Ok(parcel.map_err(|_| "a letter")?)
+fn letter(alloc: Global) -> Result<Parcel, NoMemory> {
+    Parcel::str(alloc, Text::from_str(alloc, "a")?).or(Err(AllocError))
 }
 
 // `(1, None)`
-fn pair(alloc: Global) -> Result<Parcel, Fail> {
+fn pair(alloc: Global) -> Result<Parcel, NoMemory> {
     let mut items = Vec::with_capacity(alloc, 2)?;
     items.push(Parcel::int(1))?;
     items.push(Parcel::none())?;
-    Ok(Parcel::tuple(alloc, items).map_err(|_| "a pair")?)
+    Parcel::tuple(alloc, items).or(Err(AllocError))
 }
 
 // `x = 1`
@@ -40,7 +46,7 @@ fn x_is_one(alloc: Global) -> Result<Binds, NoMemory> {
 }
 
 // What interpreter 0 asks of a queue.
-fn asked_of_a_queue(alloc: Global, at: u32) -> Result<Action, Fail> {
+fn asked_of_a_queue(alloc: Global, at: u32) -> Result<Action, NoMemory> {
     Ok(match at {
         0 => Action::Take,
         1 => Action::CreateQueue(2),
@@ -71,10 +77,11 @@ fn a_queue(rt: HostRuntime) -> Result<(), Fail> {
     let alloc = rt.alloc();
     let mut hub = hub(alloc)?;
     for at in 0..11 {
-        let told = hub.act(0, asked_of_a_queue(alloc, at)?);
-        assert!(rt; told.is_ok(), "at {at}");
+        let action = asked_of_a_queue(alloc, at)?;
+        assert!(rt; is_answered(&mut hub, 0, action), "at {at}");
     }
-    assert_eq!(rt; history(alloc, hub.journal())?.as_str(), OF_A_QUEUE);
+    let told = history(alloc, hub.journal())?;
+    assert_eq!(rt; told.as_str(), OF_A_QUEUE);
     Ok(())
 }
 
@@ -132,9 +139,9 @@ fn two_interpreters(rt: HostRuntime) -> Result<(), Fail> {
     let mut hub = hub(alloc)?;
     for at in 0..20 {
         let (by, action) = asked_by_two(alloc, at)?;
-        let told = hub.act(by, action);
-        assert!(rt; told.is_ok(), "at {at}");
+        assert!(rt; is_answered(&mut hub, by, action), "at {at}");
     }
-    assert_eq!(rt; history(alloc, hub.journal())?.as_str(), BY_TWO);
+    let told = history(alloc, hub.journal())?;
+    assert_eq!(rt; told.as_str(), BY_TWO);
     Ok(())
 }

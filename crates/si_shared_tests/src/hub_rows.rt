@@ -8,7 +8,7 @@ use std::alloc::{AllocError, Global};
 use std::test::Fail;
 
 // A hub whose interpreter 0 has taken its run.
-fn running(alloc: Global, interpreters: u32) -> Result<Hub, Fail> {
+fn running(alloc: Global, interpreters: u32) -> Result<Hub, NoMemory> {
     let mut hub = hub(alloc, interpreters)?;
     act(&mut hub, 0, Action::Take)?;
     Ok(hub)
@@ -28,7 +28,7 @@ fn item(alloc: Global) -> Result<Parcel, NoMemory> {
 }
 
 // What interpreter 0 asks of a queue of one item.
-pub(crate) fn queue_asked(alloc: Global, at: u32) -> Result<(u32, Action), NoMemory> {
+fn queue_asked(alloc: Global, at: u32) -> Result<(u32, Action), NoMemory> {
     Ok(match at {
         0 => (0, Action::Size(0)),
         1 => (0, Action::CreateQueue(1)),
@@ -45,7 +45,7 @@ pub(crate) fn queue_asked(alloc: Global, at: u32) -> Result<(u32, Action), NoMem
     })
 }
 
-pub(crate) fn queue_answered(alloc: Global, at: u32) -> Result<Option<Answer>, NoMemory> {
+fn queue_answered(alloc: Global, at: u32) -> Result<Option<Answer>, NoMemory> {
     Ok(match at {
         0 => None,
         1 => Some(Answer::QueueMade(0)),
@@ -61,31 +61,8 @@ pub(crate) fn queue_answered(alloc: Global, at: u32) -> Result<Option<Answer>, N
     })
 }
 
-#[test]
-fn queues(rt: HostRuntime) -> Result<(), Fail> {
-    let alloc = rt.alloc();
-    let mut hub = running(alloc, 1)?;
-    for at in 0..12 {
-        let (by, action) = queue_asked(alloc, at)?;
-        let told = act(&mut hub, by, action)?;
-        assert!(rt; same(&told, &queue_answered(alloc, at)?), "at {at}");
-    }
-    Ok(())
-}
-
-#[test]
-fn as_many_queues_as_allowed(rt: HostRuntime) -> Result<(), Fail> {
-    let mut hub = running(rt.alloc(), 1)?;
-    for _ in 0..1_024 {
-        act(&mut hub, 0, Action::CreateQueue(0))?;
-    }
-    let told = act(&mut hub, 0, Action::CreateQueue(0))?;
-    assert!(rt; same(&told, &Some(Answer::Limit)));
-    Ok(())
-}
-
 // What is asked of three interpreters, of which 2 is closed.
-pub(crate) fn closing_asked(alloc: Global, at: u32) -> Result<(u32, Action), NoMemory> {
+fn closing_asked(alloc: Global, at: u32) -> Result<(u32, Action), NoMemory> {
     Ok(match at {
         0 => (0, Action::Create),
         1 => (0, Action::Create),
@@ -111,7 +88,7 @@ fn zero_and_one(alloc: Global) -> Result<Ids, NoMemory> {
     Ok(Ids::new(ids))
 }
 
-pub(crate) fn closing_answered(alloc: Global, at: u32) -> Result<Option<Answer>, NoMemory> {
+fn closing_answered(alloc: Global, at: u32) -> Result<Option<Answer>, NoMemory> {
     Ok(match at {
         0 => Some(Answer::Created(1)),
         1 => Some(Answer::Created(2)),
@@ -126,20 +103,8 @@ pub(crate) fn closing_answered(alloc: Global, at: u32) -> Result<Option<Answer>,
     })
 }
 
-#[test]
-fn closing(rt: HostRuntime) -> Result<(), Fail> {
-    let alloc = rt.alloc();
-    let mut hub = running(alloc, 3)?;
-    for at in 0..14 {
-        let (by, action) = closing_asked(alloc, at)?;
-        let told = act(&mut hub, by, action)?;
-        assert!(rt; same(&told, &closing_answered(alloc, at)?), "at {at}");
-    }
-    Ok(())
-}
-
 // What is asked of two interpreters, of which 1 is given names and a run.
-pub(crate) fn run_asked(alloc: Global, at: u32) -> Result<(u32, Action), NoMemory> {
+fn run_asked(alloc: Global, at: u32) -> Result<(u32, Action), NoMemory> {
     Ok(match at {
         0 => (0, Action::Create),
         1 => (0, Action::Prepare(1, x_is_one(alloc)?)),
@@ -164,7 +129,7 @@ fn raised(alloc: Global) -> Result<Outcome, NoMemory> {
     Ok(Outcome::Raised(Kind::ValueError, message))
 }
 
-pub(crate) fn run_answered(alloc: Global, at: u32) -> Result<Option<Answer>, NoMemory> {
+fn run_answered(alloc: Global, at: u32) -> Result<Option<Answer>, NoMemory> {
     Ok(match at {
         0 => Some(Answer::Created(1)),
         1 => Some(Answer::Done),
@@ -182,14 +147,83 @@ pub(crate) fn run_answered(alloc: Global, at: u32) -> Result<Option<Answer>, NoM
     })
 }
 
+// The rows that are gone through.
+#[derive(Clone, Copy)]
+pub(crate) enum Rows {
+    OfQueues,
+    OfClosing,
+    OfRuns,
+}
+
+pub(crate) fn asked(alloc: Global, rows: Rows, at: u32) -> Result<(u32, Action), NoMemory> {
+    match rows {
+        Rows::OfQueues => queue_asked(alloc, at),
+        Rows::OfClosing => closing_asked(alloc, at),
+        Rows::OfRuns => run_asked(alloc, at),
+    }
+}
+
+pub(crate) fn answered(alloc: Global, rows: Rows, at: u32) -> Result<Option<Answer>, NoMemory> {
+    match rows {
+        Rows::OfQueues => queue_answered(alloc, at),
+        Rows::OfClosing => closing_answered(alloc, at),
+        Rows::OfRuns => run_answered(alloc, at),
+    }
+}
+
+// Whether an action is answered as its row says.
+fn is_row(alloc: Global, hub: &mut Hub, rows: Rows, at: u32) -> Result<bool, NoMemory> {
+    let (by, action) = asked(alloc, rows, at)?;
+    let wanted = answered(alloc, rows, at)?;
+    let told = act(hub, by, action)?;
+    Ok(same(&told, &wanted))
+}
+
+#[test]
+fn queues(rt: HostRuntime) -> Result<(), Fail> {
+    let mut hub = running(rt.alloc(), 1)?;
+    for at in 0..12 {
+        assert!(rt;
+            is_row(rt.alloc(), &mut hub, Rows::OfQueues, at)?,
+            "at {at}"
+        );
+    }
+    Ok(())
+}
+
+#[test]
+fn closing(rt: HostRuntime) -> Result<(), Fail> {
+    let mut hub = running(rt.alloc(), 3)?;
+    for at in 0..14 {
+        assert!(rt;
+            is_row(rt.alloc(), &mut hub, Rows::OfClosing, at)?,
+            "at {at}"
+        );
+    }
+    Ok(())
+}
+
 #[test]
 fn a_run(rt: HostRuntime) -> Result<(), Fail> {
-    let alloc = rt.alloc();
-    let mut hub = running(alloc, 2)?;
+    let mut hub = running(rt.alloc(), 2)?;
     for at in 0..15 {
-        let (by, action) = run_asked(alloc, at)?;
-        let told = act(&mut hub, by, action)?;
-        assert!(rt; same(&told, &run_answered(alloc, at)?), "at {at}");
+        assert!(rt; is_row(rt.alloc(), &mut hub, Rows::OfRuns, at)?, "at {at}");
     }
+    Ok(())
+}
+
+// Whether there may be no more queues.
+fn is_at_its_limit(hub: &mut Hub) -> Result<bool, NoMemory> {
+    let told = act(hub, 0, Action::CreateQueue(0))?;
+    Ok(same(&told, &Some(Answer::Limit)))
+}
+
+#[test]
+fn as_many_queues_as_allowed(rt: HostRuntime) -> Result<(), Fail> {
+    let mut hub = running(rt.alloc(), 1)?;
+    for _ in 0..1_024 {
+        act(&mut hub, 0, Action::CreateQueue(0))?;
+    }
+    assert!(rt; is_at_its_limit(&mut hub)?);
     Ok(())
 }

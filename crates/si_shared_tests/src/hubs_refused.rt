@@ -2,13 +2,11 @@
 // allocations are refused by `cases/refuse_memory --test`, one at each run of the test; where none is, all is answered at
 // once.
 
-use crate::hub_rows::{
-    closing_answered, closing_asked, queue_answered, queue_asked, run_answered, run_asked,
-};
-use crate::hubs::same;
+use crate::hub_rows::{self, Rows};
+use crate::hubs::{self, same};
 use si_hub::{Hub, NotActed, Why};
 use si_parcel::{Action, Answer};
-use si_plain::{Limits, NoMemory};
+use si_plain::NoMemory;
 use std::alloc::Global;
 use std::test::Fail;
 
@@ -45,41 +43,17 @@ fn act(hub: &mut Hub, by: u32, action: Action, copy: &Action) -> Result<Option<A
     }
 }
 
-// The rows that are gone through.
-#[derive(Clone, Copy)]
-enum Rows {
-    OfQueues,
-    OfClosing,
-    OfRuns,
-}
-
-fn asked_once(alloc: Global, rows: Rows, at: u32) -> Result<(u32, Action), NoMemory> {
-    match rows {
-        Rows::OfQueues => queue_asked(alloc, at),
-        Rows::OfClosing => closing_asked(alloc, at),
-        Rows::OfRuns => run_asked(alloc, at),
-    }
-}
-
-fn answered_once(alloc: Global, rows: Rows, at: u32) -> Result<Option<Answer>, NoMemory> {
-    match rows {
-        Rows::OfQueues => queue_answered(alloc, at),
-        Rows::OfClosing => closing_answered(alloc, at),
-        Rows::OfRuns => run_answered(alloc, at),
-    }
-}
-
 fn asked(alloc: Global, rows: Rows, at: u32) -> Result<(u32, Action), NoMemory> {
-    match asked_once(alloc, rows, at) {
+    match hub_rows::asked(alloc, rows, at) {
         Ok(asked) => Ok(asked),
-        Err(_) => asked_once(alloc, rows, at),
+        Err(_) => hub_rows::asked(alloc, rows, at),
     }
 }
 
 fn answered(alloc: Global, rows: Rows, at: u32) -> Result<Option<Answer>, NoMemory> {
-    match answered_once(alloc, rows, at) {
+    match hub_rows::answered(alloc, rows, at) {
         Ok(answer) => Ok(answer),
-        Err(_) => answered_once(alloc, rows, at),
+        Err(_) => hub_rows::answered(alloc, rows, at),
     }
 }
 
@@ -90,29 +64,34 @@ fn copied(alloc: Global, action: &Action) -> Result<Action, NoMemory> {
     }
 }
 
-fn hub(alloc: Global, limits: Limits) -> Result<Hub, NoMemory> {
-    match Hub::new(alloc, "", limits) {
+fn hub(alloc: Global) -> Result<Hub, NoMemory> {
+    match hubs::hub(alloc, 3) {
         Ok(hub) => Ok(hub),
-        Err(_) => Hub::new(alloc, "", limits),
+        Err(_) => hubs::hub(alloc, 3),
     }
 }
 
 // A hub of three interpreters, of which 0 has taken its run.
 fn running(alloc: Global) -> Result<Hub, Fail> {
-    let limits = Limits::new(3, 1_000).map_err(|_| "the limits")?;
-    let mut hub = hub(alloc, limits)?;
+    let mut hub = hub(alloc)?;
     act(&mut hub, 0, Action::Take, &Action::Take)?;
     Ok(hub)
+}
+
+// Whether an action is answered as its row says.
+fn is_row(alloc: Global, hub: &mut Hub, rows: Rows, at: u32) -> Result<bool, Fail> {
+    let (by, action) = asked(alloc, rows, at)?;
+    let copy = copied(alloc, &action)?;
+    let wanted = answered(alloc, rows, at)?;
+    let told = act(hub, by, action, &copy)?;
+    Ok(same(&told, &wanted))
 }
 
 // Whether so many actions are answered as their rows say.
 fn go_through(alloc: Global, rows: Rows, count: u32) -> Result<bool, Fail> {
     let mut hub = running(alloc)?;
     for at in 0..count {
-        let (by, action) = asked(alloc, rows, at)?;
-        let copy = copied(alloc, &action)?;
-        let told = act(&mut hub, by, action, &copy)?;
-        if !same(&told, &answered(alloc, rows, at)?) {
+        if !is_row(alloc, &mut hub, rows, at)? {
             return Ok(false);
         }
     }

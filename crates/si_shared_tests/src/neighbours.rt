@@ -57,20 +57,34 @@ fn act(hub: &mut Hub, by: u32, action: Action) -> Result<bool, NoMemory> {
     }
 }
 
+fn hub(alloc: Global) -> Result<Hub, NoMemory> {
+    match Limits::new(2, 1_000) {
+        Ok(limits) => Hub::new(alloc, "", limits),
+        Err(_) => Err(AllocError),
+    }
+}
+
+// The first call that is not as wanted with the next, in this order or the other.
+fn wrong_call(hub: &Hub) -> Option<usize> {
+    for (at, pair) in hub.journal().windows(2).enumerate() {
+        let wanted = wanted(at);
+        let back = independent(&pair[1], &pair[0]);
+        if independent(&pair[0], &pair[1]) != wanted || back != wanted {
+            return Some(at);
+        }
+    }
+    None
+}
+
 #[test]
 fn neighbours(rt: HostRuntime) -> Result<(), Fail> {
     let alloc = rt.alloc();
-    let limits = Limits::new(2, 1_000).map_err(|_| "the limits")?;
-    let mut hub = Hub::new(alloc, "", limits)?;
+    let mut hub = hub(alloc)?;
     for at in 0..18 {
         let (by, action) = asked(alloc, at)?;
         assert!(rt; act(&mut hub, by, action)?, "at {at}");
     }
-    assert_eq!(rt; hub.journal().len(), 18);
-    for (at, pair) in hub.journal().windows(2).enumerate() {
-        let wanted = wanted(at);
-        assert_eq!(rt; independent(&pair[0], &pair[1]), wanted, "at {at}");
-        assert_eq!(rt; independent(&pair[1], &pair[0]), wanted, "back at {at}");
-    }
+    assert!(rt; hub.journal().len() == 18);
+    assert_eq!(rt; wrong_call(&hub), None);
     Ok(())
 }

@@ -2,93 +2,107 @@
 //
 // `cases/refuse_memory` refuses these tests each of their allocations in turn.
 
-use crate::parcels::{action, answer, binds, boxed, nested, raised};
-use si_parcel::{Ids, Job};
+use crate::parcels::{
+    action, answer, binds, boxed, is_action, is_answer, is_cloned, nested, raised, shows,
+};
+use si_parcel::{Binds, Ids, Job, Outcome};
+use si_plain::NoMemory;
+use std::alloc::Global;
 use std::test::Fail;
+
+// Whether a first call has given what it should, where it was given memory.
+fn is_right(first: Result<bool, NoMemory>) -> bool {
+    match first {
+        Ok(right) => right,
+        Err(_) => true,
+    }
+}
 
 #[test]
 fn refused_clone_of_a_parcel(rt: HostRuntime) -> Result<(), Fail> {
-    let alloc = rt.alloc();
-    let parcel = nested(alloc)?;
-    if let Ok(copy) = parcel.clone_parcel(alloc) {
-        assert!(rt; copy == parcel);
-    }
-    assert!(rt; parcel.clone_parcel(alloc)? == parcel);
+    let parcel = nested(rt.alloc())?;
+    assert!(rt; is_right(is_cloned(rt.alloc(), &parcel)));
+    assert!(rt; is_cloned(rt.alloc(), &parcel)?);
     Ok(())
 }
 
 #[test]
 fn refused_show_of_a_parcel(rt: HostRuntime) -> Result<(), Fail> {
-    let alloc = rt.alloc();
-    let parcel = nested(alloc)?;
-    if let Ok(shown) = parcel.show(alloc) {
-        assert_eq!(rt; shown.as_str(), "('a', (1, None), b'\\x00')");
-    }
-    assert_eq!(rt; parcel.show(alloc)?.as_str(), "('a', (1, None), b'\\x00')");
+    let parcel = nested(rt.alloc())?;
+    let wanted = "('a', (1, None), b'\\x00')";
+    assert!(rt; is_right(shows(rt.alloc(), &parcel, wanted)));
+    assert!(rt; shows(rt.alloc(), &parcel, wanted)?);
     Ok(())
 }
 
 #[test]
 fn refused_clone_of_an_action(rt: HostRuntime) -> Result<(), Fail> {
-    let alloc = rt.alloc();
-    let prepare = action(alloc, 7)?;
-    if let Ok(copy) = prepare.clone_action(alloc) {
-        assert!(rt; copy == prepare);
-    }
-    assert!(rt; prepare.clone_action(alloc)? == prepare);
+    let prepare = action(rt.alloc(), 7)?;
+    assert!(rt; is_right(is_action(rt.alloc(), &prepare, &prepare)));
+    assert!(rt; is_action(rt.alloc(), &prepare, &prepare)?);
     Ok(())
 }
 
 #[test]
 fn refused_clone_of_an_answer(rt: HostRuntime) -> Result<(), Fail> {
-    let alloc = rt.alloc();
-    let given = answer(alloc, 17)?;
-    if let Ok(copy) = given.clone_answer(alloc) {
-        assert!(rt; copy == given);
-    }
-    assert!(rt; given.clone_answer(alloc)? == given);
+    let given = answer(rt.alloc(), 17)?;
+    assert!(rt; is_right(is_answer(rt.alloc(), &given, &given)));
+    assert!(rt; is_answer(rt.alloc(), &given, &given)?);
     Ok(())
+}
+
+// Whether a clone of a job is the same.
+fn is_job(alloc: Global, job: &Job) -> Result<bool, NoMemory> {
+    let clone = job.clone_job(alloc)?;
+    Ok(clone == *job)
 }
 
 #[test]
 fn refused_clone_of_a_job(rt: HostRuntime) -> Result<(), Fail> {
-    let alloc = rt.alloc();
-    let job = Job::Run(1, boxed(alloc, "print('a long text')")?);
-    if let Ok(copy) = job.clone_job(alloc) {
-        assert!(rt; copy == job);
-    }
-    assert!(rt; job.clone_job(alloc)? == job);
+    let job = Job::Run(1, boxed(rt.alloc(), "print('a long text')")?);
+    assert!(rt; is_right(is_job(rt.alloc(), &job)));
+    assert!(rt; is_job(rt.alloc(), &job)?);
     Ok(())
+}
+
+// Whether a clone of an outcome is the same.
+fn is_outcome(outcome: &Outcome) -> Result<bool, NoMemory> {
+    let clone = outcome.clone_outcome()?;
+    Ok(clone == *outcome)
 }
 
 #[test]
 fn refused_clone_of_an_outcome(rt: HostRuntime) -> Result<(), Fail> {
     let outcome = raised(rt.alloc())?;
-    if let Ok(copy) = outcome.clone_outcome() {
-        assert!(rt; copy == outcome);
-    }
-    assert!(rt; outcome.clone_outcome()? == outcome);
+    assert!(rt; is_right(is_outcome(&outcome)));
+    assert!(rt; is_outcome(&outcome)?);
     Ok(())
+}
+
+// Whether a clone of a list is the same.
+fn are_ids(alloc: Global, ids: &Ids) -> Result<bool, NoMemory> {
+    let clone = ids.clone_ids(alloc)?;
+    Ok(clone == *ids)
 }
 
 #[test]
 fn refused_clone_of_lists(rt: HostRuntime) -> Result<(), Fail> {
-    let alloc = rt.alloc();
-    let ids = Ids::new(vec![in alloc; 0, 2]?);
-    if let Ok(copy) = ids.clone_ids(alloc) {
-        assert!(rt; copy == ids);
-    }
-    assert!(rt; ids.clone_ids(alloc)? == ids);
+    let ids = Ids::new(vec![in rt.alloc(); 0, 2]?);
+    assert!(rt; is_right(are_ids(rt.alloc(), &ids)));
+    assert!(rt; are_ids(rt.alloc(), &ids)?);
     Ok(())
+}
+
+// Whether a clone of names and values is the same.
+fn are_binds(alloc: Global, binds: &Binds) -> Result<bool, NoMemory> {
+    let clone = binds.clone_binds(alloc)?;
+    Ok(clone == *binds)
 }
 
 #[test]
 fn refused_clone_of_names(rt: HostRuntime) -> Result<(), Fail> {
-    let alloc = rt.alloc();
-    let binds = binds(alloc)?;
-    if let Ok(copy) = binds.clone_binds(alloc) {
-        assert!(rt; copy == binds);
-    }
-    assert!(rt; binds.clone_binds(alloc)? == binds);
+    let binds = binds(rt.alloc())?;
+    assert!(rt; is_right(are_binds(rt.alloc(), &binds)));
+    assert!(rt; are_binds(rt.alloc(), &binds)?);
     Ok(())
 }

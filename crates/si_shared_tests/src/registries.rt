@@ -11,12 +11,13 @@ fn boxed(alloc: Global, text: &str) -> Result<BoxedText, NoMemory> {
 }
 
 // Two interpreters, of which 1 has a run in its inbox.
-fn started(alloc: Global) -> Result<Registry, Fail> {
+fn started(alloc: Global) -> Result<Registry, NoMemory> {
+    let text = boxed(alloc, "t")?;
     let mut registry = Registry::new(alloc);
     registry.create(2)?;
     registry.create(2)?;
     if registry.count() == 2 {
-        registry.start(1, boxed(alloc, "t")?)?;
+        registry.start(1, text)?;
     }
     Ok(registry)
 }
@@ -29,39 +30,69 @@ fn take(registry: &mut Registry, id: u32) -> Option<Job> {
     registry.take(id)
 }
 
-fn standing(registry: &Registry, id: u32) -> Option<Standing> {
-    match registry.interpreter(id) {
-        None => None,
-        Some(interpreter) => Some(interpreter.standing()),
+// Whether that job is this.
+fn takes(registry: &mut Registry, id: u32, wanted: Job) -> bool {
+    match take(registry, id) {
+        None => false,
+        Some(job) => job == wanted,
     }
 }
 
-fn taken_run(registry: &Registry, id: u32) -> Option<u64> {
+fn is_standing(registry: &Registry, id: u32, wanted: Standing) -> bool {
     match registry.interpreter(id) {
-        None => None,
-        Some(interpreter) => interpreter.taken_run(),
+        None => false,
+        Some(interpreter) => interpreter.standing() == wanted,
     }
+}
+
+// Whether the run that an interpreter has taken is this, or it has none where that is none.
+fn has_taken(registry: &Registry, id: u32, wanted: Option<u64>) -> bool {
+    match registry.interpreter(id) {
+        None => false,
+        Some(interpreter) => interpreter.taken_run() == wanted,
+    }
+}
+
+// Whether a run has an outcome, and it has returned.
+fn has_returned(registry: &Registry, run: u64) -> bool {
+    match registry.run(run) {
+        None => false,
+        Some(run) => match run.outcome() {
+            None => false,
+            Some(outcome) => *outcome == Outcome::Returned,
+        },
+    }
+}
+
+// Whether one more interpreter has this number, or there is none where that is none.
+fn creates(registry: &mut Registry, wanted: Option<u32>) -> Result<bool, NoMemory> {
+    Ok(registry.create(2)? == wanted)
+}
+
+// Whether interpreter 0 alone is open.
+fn is_open_alone(registry: &Registry) -> Result<bool, NoMemory> {
+    let open = registry.open()?;
+    Ok(open.as_slice() == [0].as_slice())
 }
 
 #[test]
 fn at_most_as_many_as_told(rt: HostRuntime) -> Result<(), Fail> {
     let mut registry = Registry::new(rt.alloc());
-    assert_eq!(rt; registry.create(2)?, Some(0));
-    assert_eq!(rt; registry.create(2)?, Some(1));
-    assert_eq!(rt; registry.create(2)?, None);
-    assert_eq!(rt; registry.count(), 2);
+    assert!(rt; creates(&mut registry, Some(0))?);
+    assert!(rt; creates(&mut registry, Some(1))?);
+    assert!(rt; creates(&mut registry, None)?);
+    assert!(rt; registry.count() == 2);
     Ok(())
 }
 
 #[test]
 fn a_run_from_start_to_end(rt: HostRuntime) -> Result<(), Fail> {
-    let alloc = rt.alloc();
-    let mut registry = started(alloc)?;
-    assert_eq!(rt; standing(&registry, 1), Some(Standing::Running(0)));
-    assert_eq!(rt; taken_run(&registry, 1), None);
-    let job = take(&mut registry, 1).ok_or("no job")?;
-    assert!(rt; job == Job::Run(0, boxed(alloc, "t")?));
-    assert_eq!(rt; taken_run(&registry, 1), Some(0));
+    let job = Job::Run(0, boxed(rt.alloc(), "t")?);
+    let mut registry = started(rt.alloc())?;
+    assert!(rt; is_standing(&registry, 1, Standing::Running(0)));
+    assert!(rt; has_taken(&registry, 1, None));
+    assert!(rt; takes(&mut registry, 1, job));
+    assert!(rt; has_taken(&registry, 1, Some(0)));
     Ok(())
 }
 
@@ -72,10 +103,8 @@ fn an_outcome_is_kept(rt: HostRuntime) -> Result<(), Fail> {
     if registry.count() == 2 {
         registry.end(1, 0, Outcome::Returned);
     }
-    assert_eq!(rt; standing(&registry, 1), Some(Standing::Idle));
-    let run = registry.run(0).ok_or("no run")?;
-    let outcome = run.outcome().ok_or("no outcome")?;
-    assert!(rt; *outcome == Outcome::Returned);
+    assert!(rt; is_standing(&registry, 1, Standing::Idle));
+    assert!(rt; has_returned(&registry, 0));
     Ok(())
 }
 
@@ -86,8 +115,7 @@ fn a_closed_one_is_not_open(rt: HostRuntime) -> Result<(), Fail> {
     if registry.count() == 2 {
         registry.close(1)?;
     }
-    assert_eq!(rt; registry.open()?.as_slice(), [0].as_slice());
-    let job = take(&mut registry, 1).ok_or("no job")?;
-    assert!(rt; job == Job::Closing);
+    assert!(rt; is_open_alone(&registry)?);
+    assert!(rt; takes(&mut registry, 1, Job::Closing));
     Ok(())
 }

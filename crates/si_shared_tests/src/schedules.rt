@@ -1,5 +1,6 @@
 // Schedules to texts and back, and the first bad lines of other texts.
 
+use si_plain::NoMemory;
 use si_schedule::{ReadFault, Schedule, read, write};
 use std::alloc::Global;
 use std::test::Fail;
@@ -8,7 +9,7 @@ use std::test::Fail;
 const THREE_CALLERS: &str = "schedule 1\ninterpreters 8\nturns 3\n0\n1\n0\nend\n";
 
 // The first bad line of a text behind the first lines for 8 interpreters.
-fn bad_line(alloc: Global, text: &str) -> Result<Option<u64>, Fail> {
+fn bad_line(alloc: Global, text: &str) -> Result<Option<u64>, NoMemory> {
     let whole = format!(in alloc; "schedule 1\ninterpreters 8\n{text}")?;
     Ok(first_bad_line(alloc, whole.as_str()))
 }
@@ -20,30 +21,53 @@ fn first_bad_line(alloc: Global, text: &str) -> Option<u64> {
     }
 }
 
+// Whether that schedule is written so.
+fn is_written(alloc: Global) -> Result<bool, NoMemory> {
+    let callers = vec![in alloc; 0, 1, 0]?;
+    match Schedule::new(8, callers) {
+        None => Ok(false),
+        Some(schedule) => {
+            let text = write(alloc, &schedule)?;
+            Ok(text.as_str() == THREE_CALLERS)
+        }
+    }
+}
+
+// Whether it is read from that.
+fn is_read(alloc: Global) -> bool {
+    match read(alloc, THREE_CALLERS) {
+        Err(_) => false,
+        Ok(schedule) => {
+            let callers = [0, 1, 0];
+            schedule.interpreters() == 8 && schedule.callers() == callers.as_slice()
+        }
+    }
+}
+
 #[test]
 fn written_and_read_again(rt: HostRuntime) -> Result<(), Fail> {
-    let alloc = rt.alloc();
-    let schedule = Schedule::new(8, vec![in alloc; 0, 1, 0]?).ok_or("no schedule")?;
-    let text = write(alloc, &schedule)?;
-    assert_eq!(rt; text.as_str(), THREE_CALLERS);
-    let again = read(alloc, text.as_str()).map_err(|_| "not read")?;
-    assert_eq!(rt; again.interpreters(), 8);
-    assert_eq!(rt; again.callers(), [0, 1, 0].as_slice());
+    assert!(rt; is_written(rt.alloc())?);
+    assert!(rt; is_read(rt.alloc()));
     Ok(())
+}
+
+// Whether one caller of so many interpreters is a schedule.
+fn is_schedule(alloc: Global, interpreters: u32, caller: u32) -> Result<bool, NoMemory> {
+    let callers = vec![in alloc; caller]?;
+    Ok(Schedule::new(interpreters, callers).is_some())
 }
 
 #[test]
 fn numbers_past_their_limits(rt: HostRuntime) -> Result<(), Fail> {
-    let alloc = rt.alloc();
-    for (interpreters, caller, is_some) in [
+    for (interpreters, caller, wanted) in [
         (1, 0, true),
         (64, 63, true),
         (0, 0, false),
         (65, 0, false),
         (8, 8, false),
     ] {
-        let schedule = Schedule::new(interpreters, vec![in alloc; caller]?);
-        assert_eq!(rt; schedule.is_some(), is_some, "{caller} of {interpreters}");
+        let told = is_schedule(rt.alloc(), interpreters, caller)?;
+        assert!(rt; told == wanted, "{caller} of {interpreters}");
     }
     Ok(())
 }
@@ -59,7 +83,7 @@ fn bad_first_lines(rt: HostRuntime) {
         ("schedule 1\ninterpreters 0\nturns 0\nend\n", 2),
         ("schedule 1\ninterpreters 8", 2),
     ] {
-        assert_eq!(rt; first_bad_line(alloc, text), Some(line), "{text}");
+        assert!(rt; first_bad_line(alloc, text) == Some(line), "{text}");
     }
 }
 
@@ -77,7 +101,7 @@ fn bad_lines_behind_them(rt: HostRuntime) -> Result<(), Fail> {
         ("turns 2\n0\n0\n", 6),
         ("turns 2\n0\n0\nend", 6),
     ] {
-        assert_eq!(rt; bad_line(alloc, text)?, Some(line), "{text}");
+        assert!(rt; bad_line(alloc, text)? == Some(line), "{text}");
     }
     Ok(())
 }

@@ -2,6 +2,7 @@
 
 ghost use Rattle.std.specs.Prelude.{◌<◌, length};
 
+use crate::made::dict;
 use si_arena::{Arena, Contents, Ref};
 use std::test::Fail;
 
@@ -86,16 +87,17 @@ fn two_lists_are_two(rt: HostRuntime) -> Result<(), Fail> {
 }
 
 #[test]
-fn a_dict_keeps_the_order_of_its_keys(rt: HostRuntime) -> Result<(), Fail> {
+fn a_dict_keeps_the_order_of_its_keys(rt: HostRuntime) {
     let mut arena = Arena::new(rt.alloc());
     let operands = [Ref::Int(3), Ref::Int(30), Ref::Int(1), Ref::Int(10)];
-    let _dict = arena.make_dict(&operands)?;
-    assert!(rt; has_pairs(&arena, 0, &[3, 1], &[30, 10]));
-    Ok(())
+    match dict(&mut arena, &operands) {
+        Some(address) => assert!(rt; has_pairs(&arena, address, &[3, 1], &[30, 10])),
+        None => assert!(rt; false),
+    }
 }
 
 #[test]
-fn a_later_value_keeps_the_place_of_its_key(rt: HostRuntime) -> Result<(), Fail> {
+fn a_later_value_keeps_the_place_of_its_key(rt: HostRuntime) {
     let mut arena = Arena::new(rt.alloc());
     let operands = [
         Ref::Int(3),
@@ -105,41 +107,49 @@ fn a_later_value_keeps_the_place_of_its_key(rt: HostRuntime) -> Result<(), Fail>
         Ref::Int(3),
         Ref::Int(33),
     ];
-    let _dict = arena.make_dict(&operands)?;
-    assert!(rt; has_pairs(&arena, 0, &[3, 1], &[33, 10]));
-    Ok(())
+    match dict(&mut arena, &operands) {
+        Some(address) => assert!(rt; has_pairs(&arena, address, &[3, 1], &[33, 10])),
+        None => assert!(rt; false),
+    }
+}
+
+// Whether the value of a text in a dict is 5.
+fn has_five(arena: &mut Arena, address: usize, text: &str) -> bool
+    requires { address < length arena.old.store }
+{
+    match arena.place_text(text) {
+        Ok(key) => matches!(arena.find(address, key), Some(Ref::Int(5))),
+        Err(_) => false,
+    }
+}
+
+// What a dict gives for a text, whose one key is another text: whether its value is 5.
+fn gives_five(arena: &mut Arena, key: &str, text: &str) -> Option<bool> {
+    let Ok(key) = arena.place_text(key) else {
+        return None;
+    };
+    match dict(arena, &[key, Ref::Int(5)]) {
+        Some(address) => Some(has_five(arena, address, text)),
+        None => None,
+    }
 }
 
 // Keys of each form of a text: in the value itself, of one byte a character, and wide.
 #[test]
-fn texts_are_keys_by_their_characters(rt: HostRuntime) -> Result<(), Fail> {
+fn texts_are_keys_by_their_characters(rt: HostRuntime) {
     let mut arena = Arena::new(rt.alloc());
     for text in [
         "a",
         "a name of more than fourteen",
         "5 \u{20ac} for a caf\u{e9}",
     ] {
-        let Ok(key) = arena.place_text(text) else {
-            return Ok(());
-        };
-        let address = match arena.make_dict(&[key, Ref::Int(5)])? {
-            Some(Ref::Object(address)) => address,
-            _ => return Ok(()),
-        };
-        let Ok(again) = arena.place_text(text) else {
-            return Ok(());
-        };
-        let found = match arena.find(address, again) {
-            Some(Ref::Int(n)) => n == 5,
-            _ => false,
-        };
-        assert!(rt; found);
-        let Ok(other) = arena.place_text("another name of more than fourteen") else {
-            return Ok(());
-        };
-        assert!(rt; arena.find(address, other).is_none());
+        assert!(rt; gives_five(&mut arena, text, text) == Some(true), "{text}");
+        let other = "another name of more than fourteen";
+        assert!(rt;
+            gives_five(&mut arena, text, other) == Some(false),
+            "{text}"
+        );
     }
-    Ok(())
 }
 
 #[test]

@@ -6,6 +6,8 @@
 #[cfg(test)]
 mod arenas;
 #[cfg(test)]
+mod made;
+#[cfg(test)]
 mod methods;
 #[cfg(test)]
 mod operations;

@@ -1,9 +1,12 @@
 // Values that are placed in an arena or made there, and the messages of causes.
 
-ghost use Rattle.std.specs.Prelude.{◌<◌, length};
+ghost use Rattle.std.specs.Prelude.{IfSome, ◌<◌, length};
+ghost use Rattle.si_arena.specs.Causes.{CauseLies};
+ghost use Rattle.si_arena.specs.Memory.{AllLie, Lies};
 
+use crate::made;
 use si_arena::{Arena, Cause, Characters, Contents, Fault, Object, Ref, Refusal, Short, View};
-use si_plain::Kind;
+use si_plain::{Kind, NoMemory};
 use std::test::Fail;
 
 // The kind of the exception at an address.
@@ -16,40 +19,51 @@ fn kind_at(arena: &Arena, address: usize) -> Option<&'static str>
     }
 }
 
-#[test]
-fn narrow_texts_are_joined(rt: HostRuntime) -> Result<(), Fail> {
-    let mut arena = Arena::new(rt.alloc());
-    let Ok(left) = arena.place_text("caf\u{e9} noir") else {
-        return Ok(());
-    };
-    let Ok(whole) = arena.join(left, left) else {
-        return Ok(());
-    };
-    let shown = match arena.view(&whole) {
-        View::Str(Characters::Narrow(shown)) => { shown == b"caf\xe9 noircaf\xe9 noir".as_slice() },
-        _ => false,
-    };
-    assert!(rt; shown);
-    Ok(())
+// One text behind another, if there is room.
+fn joined(arena: &mut Arena, left: Ref, right: Ref) -> Option<Ref>
+    requires left { Lies arena.old left }
+    requires right { Lies arena.old right }
+    ensures { IfSome result (λ r. Lies arena.new r) }
+{
+    match arena.join(left, right) {
+        Ok(whole) => Some(whole),
+        Err(_) => None,
+    }
 }
 
 #[test]
-fn wide_texts_are_repeated(rt: HostRuntime) -> Result<(), Fail> {
+fn narrow_texts_are_joined(rt: HostRuntime) {
     let mut arena = Arena::new(rt.alloc());
-    let Ok(price) = arena.place_text("5\u{20ac}") else {
-        return Ok(());
+    let Some(left) = made::text(&mut arena, "caf\u{e9} noir") else {
+        panic!(rt; "no text")
     };
-    let Ok(prices) = arena.repeat(price, 2) else {
-        return Ok(());
+    let Some(whole) = joined(&mut arena, left, left) else {
+        panic!(rt; "not joined")
     };
-    let shown = match arena.view(&prices) {
-        View::Str(Characters::Wide(shown)) => {
-            shown == ['5', '\u{20ac}', '5', '\u{20ac}'].as_slice()
-        }
+    assert!(rt; made::is_narrow(&arena, whole, b"caf\xe9 noircaf\xe9 noir"));
+}
+
+// Whether a text is repeated as these characters, of which one does not fit into one byte.
+fn is_repeated(arena: &mut Arena, text: Ref, count: i64, wanted: &[char]) -> bool
+    requires { Lies arena.old text }
+{
+    let Ok(whole) = arena.repeat(text, count) else {
+        return false;
+    };
+    match arena.view(&whole) {
+        View::Str(Characters::Wide(shown)) => shown == wanted,
         _ => false,
+    }
+}
+
+#[test]
+fn wide_texts_are_repeated(rt: HostRuntime) {
+    let mut arena = Arena::new(rt.alloc());
+    let Some(price) = made::text(&mut arena, "5\u{20ac}") else {
+        panic!(rt; "no text")
     };
-    assert!(rt; shown);
-    Ok(())
+    let wanted = ['5', '\u{20ac}', '5', '\u{20ac}'];
+    assert!(rt; is_repeated(&mut arena, price, 2, &wanted));
 }
 
 #[test]
@@ -66,33 +80,65 @@ fn a_text_has_an_end(rt: HostRuntime) -> Result<(), Fail> {
     Ok(())
 }
 
-#[test]
-fn a_tuple_holds_its_items(rt: HostRuntime) -> Result<(), Fail> {
-    let mut arena = Arena::new(rt.alloc());
-    let Ok(empty) = arena.place_tuple(&[]) else {
-        return Ok(());
-    };
-    let Ok(pair) = arena.place_tuple(&[Ref::Int(7), empty]) else {
-        return Ok(());
-    };
-    let shown = match arena.view(&pair) {
-        View::Tuple(items) => items.len() == 2,
+// A tuple that is placed, if it is.
+fn tuple(arena: &mut Arena, items: &[Ref]) -> Option<Ref>
+    requires { AllLie arena.old items.now }
+    ensures { IfSome result (λ r. Lies arena.new r) }
+{
+    match arena.place_tuple(items) {
+        Ok(value) => Some(value),
+        Err(_) => None,
+    }
+}
+
+// Whether a value is a tuple of so many items, and has so many values in so many levels.
+fn has_size(arena: &Arena, value: Ref, items: usize, values: u32, levels: u32) -> bool
+    requires { Lies arena.now value }
+{
+    let size = arena.size(value);
+    let right = match arena.view(&value) {
+        View::Tuple(held) => held.len() == items,
         _ => false,
     };
-    assert!(rt; shown);
-    let size = arena.size(pair);
-    assert!(rt; size.values == 3 && size.levels == 2);
-    Ok(())
+    right && size.values == values && size.levels == levels
+}
+
+#[test]
+fn a_tuple_holds_its_items(rt: HostRuntime) {
+    let mut arena = Arena::new(rt.alloc());
+    let Some(empty) = tuple(&mut arena, &[]) else {
+        panic!(rt; "no empty tuple")
+    };
+    let Some(pair) = tuple(&mut arena, &[Ref::Int(7), empty]) else {
+        panic!(rt; "no pair")
+    };
+    assert!(rt; has_size(&arena, pair, 2, 3, 2));
+}
+
+// Whether this is the message of a cause.
+fn says(arena: &Arena, cause: Cause, wanted: &str) -> Result<bool, NoMemory>
+    requires { CauseLies arena.now.names cause }
+{
+    let text = arena.message(cause)?;
+    Ok(text.as_str() == wanted)
 }
 
 #[test]
 fn an_exception_says_why(rt: HostRuntime) -> Result<(), Fail> {
     let mut arena = Arena::new(rt.alloc());
-    let number = arena.add_name("total")?;
-    let text = arena.message(Cause::NotDefined(number))?;
-    assert_eq!(rt; text.as_str(), "name total is not defined");
-    let _value = arena.make(Object::Caused(Cause::NotBound(number)))?;
-    assert_eq!(rt; kind_at(&arena, 0), Some("UnboundLocalError"));
+    let number = made::name(&mut arena, "total")?;
+    assert!(rt;
+        says(
+            &arena,
+            Cause::NotDefined(number),
+            "name total is not defined"
+        )?
+    );
+    let value = made::object(&mut arena, Object::Caused(Cause::NotBound(number)))?;
+    let Ref::Object(address) = value else {
+        panic!(rt; "no object")
+    };
+    assert!(rt; kind_at(&arena, address) == Some("UnboundLocalError"));
     Ok(())
 }
 
@@ -110,17 +156,21 @@ fn a_thread_is_started(rt: HostRuntime) -> Result<(), Fail> {
         _ => false,
     };
     assert!(rt; started);
-    assert_eq!(rt; kind_at(&arena, 0), Some("ValueError"));
+    assert!(rt; kind_at(&arena, 0) == Some("ValueError"));
     Ok(())
 }
 
 #[test]
 fn a_refusal_says_why(rt: HostRuntime) -> Result<(), Fail> {
     let mut arena = Arena::new(rt.alloc());
-    let number = arena.add_name("pop")?;
-    let text = arena.message(Cause::NoAttribute(number))?;
-    assert_eq!(rt; text.as_str(), "no attribute pop");
-    let text = arena.message(Cause::Refused(Refusal::QueueIsFull))?;
-    assert_eq!(rt; text.as_str(), "queue is full");
+    let number = made::name(&mut arena, "pop")?;
+    assert!(rt; says(&arena, Cause::NoAttribute(number), "no attribute pop")?);
+    assert!(rt;
+        says(
+            &arena,
+            Cause::Refused(Refusal::QueueIsFull),
+            "queue is full"
+        )?
+    );
     Ok(())
 }
