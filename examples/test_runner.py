@@ -28,8 +28,10 @@ except Exception as failure:
 
 
 results = interpreters.create_queue()
+runners = []
 for number in range(len(tests)):
     own = interpreters.create()
+    runners.append(own)
     own.prepare_main(number=number, results=results)
     threading.Thread(target=own.exec, args=(text_of(tests[number][1]),)).start()
 
