@@ -17,35 +17,31 @@ set_truth_at-requires g c = ready_line c.in-Some.line.now _ c.args.self.now g.p 
 
 pub set_literal_at-requires : goal.set_literal_at-requires
 set_literal_at-requires g c =
-    let t = c.args.self.now.table in (
-      ready_line c.in-Some.line.now _ c.args.self.now g.p c.in-SetLiteral.is c.in-Some.ensures.is c.requires.0 c.requires.1.0 c.requires.1.1,
-      subst (Resolves (length t.literals) (length t.names) (length t.full)) c.in-SetLiteral.is c.in-Some.ensures.resolves,
-    )
+    let t = c.args.self.now.table in
+    (ready_line c.in-Some.line.now _ c.args.self.now g.p c.in-SetLiteral.is c.in-Some.ensures.is c.requires.0 c.requires.1.0 c.requires.1.1,
+    subst (Resolves (length t.literals) (length t.names) (length t.full)) c.in-SetLiteral.is c.in-Some.ensures.resolves)
 
 pub jump_if_at-requires : goal.jump_if_at-requires
 jump_if_at-requires g c = ready_line c.in-Some.line.now _ c.args.self.now g.p c.in-JumpIf.is c.in-Some.ensures.is c.requires.0 c.requires.1.0 c.requires.1.1
 
 pub load_global_at-requires : goal.load_global_at-requires
 load_global_at-requires g c =
-    let t = c.args.self.now.table in (
-      ready_line c.in-Some.line.now _ c.args.self.now g.p c.in-LoadGlobal.is c.in-Some.ensures.is c.requires.0 c.requires.1.0 c.requires.1.1,
-      subst (Resolves (length t.literals) (length t.names) (length t.full)) c.in-LoadGlobal.is c.in-Some.ensures.resolves,
-    )
+    let t = c.args.self.now.table in
+    (ready_line c.in-Some.line.now _ c.args.self.now g.p c.in-LoadGlobal.is c.in-Some.ensures.is c.requires.0 c.requires.1.0 c.requires.1.1,
+    subst (Resolves (length t.literals) (length t.names) (length t.full)) c.in-LoadGlobal.is c.in-Some.ensures.resolves)
 
 pub store_global_at-requires : goal.store_global_at-requires
 store_global_at-requires g c =
-    let t = c.args.self.now.table in (
-      ready_line c.in-Some.line.now _ c.args.self.now g.p c.in-StoreGlobal.is c.in-Some.ensures.is c.requires.0 c.requires.1.0 c.requires.1.1,
-      subst (Resolves (length t.literals) (length t.names) (length t.full)) c.in-StoreGlobal.is c.in-Some.ensures.resolves,
-    )
+    let t = c.args.self.now.table in
+    (ready_line c.in-Some.line.now _ c.args.self.now g.p c.in-StoreGlobal.is c.in-Some.ensures.is c.requires.0 c.requires.1.0 c.requires.1.1,
+    subst (Resolves (length t.literals) (length t.names) (length t.full)) c.in-StoreGlobal.is c.in-Some.ensures.resolves)
 
 pub store_global_integer_at-requires : goal.store_global_integer_at-requires
 store_global_integer_at-requires g c =
     let same : to_z w16 (of_z w16 c.in-StoreGlobalInteger.n) ≡ c.in-StoreGlobalInteger.n = grind (arith, c.well_formed) in
-    let t = c.args.self.now.table in (
-      ready_line c.in-Some.line.now _ c.args.self.now g.p (c.in-StoreGlobalInteger.is ∙ ap (λ n. instr.StoreGlobalInteger n c.in-StoreGlobalInteger.slot) (sym same)) c.in-Some.ensures.is c.requires.0 c.requires.1.0 c.requires.1.1,
-      subst (Resolves (length t.literals) (length t.names) (length t.full)) c.in-StoreGlobalInteger.is c.in-Some.ensures.resolves,
-    )
+    let t = c.args.self.now.table in
+    (ready_line c.in-Some.line.now _ c.args.self.now g.p (c.in-StoreGlobalInteger.is ∙ ap (λ n. instr.StoreGlobalInteger n c.in-StoreGlobalInteger.slot) (sym same)) c.in-Some.ensures.is c.requires.0 c.requires.1.0 c.requires.1.1,
+    subst (Resolves (length t.literals) (length t.names) (length t.full)) c.in-StoreGlobalInteger.is c.in-Some.ensures.resolves)
 
 pub binary_at-requires : goal.binary_at-requires
 binary_at-requires g c = ready_line c.in-Some.line.now _ c.args.self.now g.p c.in-Add.is c.in-Some.ensures.is c.requires.0 c.requires.1.0 c.requires.1.1
@@ -63,35 +59,35 @@ binary_integer_at-requires-in-SubtractInteger g c =
     let same : to_z w16 (of_z w16 c.in-SubtractInteger.n) ≡ c.in-SubtractInteger.n = grind (arith, c.well_formed) in
     ready_line c.in-Some.line.now _ c.args.self.now g.p (c.in-SubtractInteger.is ∙ ap (λ n. instr.SubtractInteger c.in-SubtractInteger.t c.in-SubtractInteger.a n) (sym same)) c.in-Some.ensures.is c.requires.0 c.requires.1.0 c.requires.1.1
 
-pub binary_at-requires-in-Multiply : goal.binary_at-requires-in-Multiply
-binary_at-requires-in-Multiply g c = ready_line c.in-Some.line.now _ c.args.self.now g.p c.in-Multiply.is c.in-Some.ensures.is c.requires.0 c.requires.1.0 c.requires.1.1
-
-pub binary_integer_at-requires-in-MultiplyInteger : goal.binary_integer_at-requires-in-MultiplyInteger
-binary_integer_at-requires-in-MultiplyInteger g c =
-    let same : to_z w16 (of_z w16 c.in-MultiplyInteger.n) ≡ c.in-MultiplyInteger.n = grind (arith, c.well_formed) in
-    ready_line c.in-Some.line.now _ c.args.self.now g.p (c.in-MultiplyInteger.is ∙ ap (λ n. instr.MultiplyInteger c.in-MultiplyInteger.t c.in-MultiplyInteger.a n) (sym same)) c.in-Some.ensures.is c.requires.0 c.requires.1.0 c.requires.1.1
-
-pub binary_at-requires-in-FloorDivide : goal.binary_at-requires-in-FloorDivide
-binary_at-requires-in-FloorDivide g c = ready_line c.in-Some.line.now _ c.args.self.now g.p c.in-FloorDivide.is c.in-Some.ensures.is c.requires.0 c.requires.1.0 c.requires.1.1
-
-pub binary_integer_at-requires-in-FloorDivideInteger : goal.binary_integer_at-requires-in-FloorDivideInteger
-binary_integer_at-requires-in-FloorDivideInteger g c =
-    let same : to_z w16 (of_z w16 c.in-FloorDivideInteger.n) ≡ c.in-FloorDivideInteger.n = grind (arith, c.well_formed) in
-    ready_line c.in-Some.line.now _ c.args.self.now g.p (c.in-FloorDivideInteger.is ∙ ap (λ n. instr.FloorDivideInteger c.in-FloorDivideInteger.t c.in-FloorDivideInteger.a n) (sym same)) c.in-Some.ensures.is c.requires.0 c.requires.1.0 c.requires.1.1
-
-pub binary_at-requires-in-Modulo : goal.binary_at-requires-in-Modulo
-binary_at-requires-in-Modulo g c = ready_line c.in-Some.line.now _ c.args.self.now g.p c.in-Modulo.is c.in-Some.ensures.is c.requires.0 c.requires.1.0 c.requires.1.1
-
-pub binary_integer_at-requires-in-ModuloInteger : goal.binary_integer_at-requires-in-ModuloInteger
-binary_integer_at-requires-in-ModuloInteger g c =
-    let same : to_z w16 (of_z w16 c.in-ModuloInteger.n) ≡ c.in-ModuloInteger.n = grind (arith, c.well_formed) in
-    ready_line c.in-Some.line.now _ c.args.self.now g.p (c.in-ModuloInteger.is ∙ ap (λ n. instr.ModuloInteger c.in-ModuloInteger.t c.in-ModuloInteger.a n) (sym same)) c.in-Some.ensures.is c.requires.0 c.requires.1.0 c.requires.1.1
-
 pub operate_at-requires : goal.operate_at-requires
-operate_at-requires g c = ready_line c.in-Some.line.now _ c.args.self.now g.p c.in-Binary.is c.in-Some.ensures.is c.requires.0 c.requires.1.0 c.requires.1.1
+operate_at-requires g c = ready_line c.in-Some.line.now _ c.args.self.now g.p c.in-Multiply.is c.in-Some.ensures.is c.requires.0 c.requires.1.0 c.requires.1.1
 
 pub operate_integer_at-requires : goal.operate_integer_at-requires
 operate_integer_at-requires g c =
+    let same : to_z w16 (of_z w16 c.in-MultiplyInteger.n) ≡ c.in-MultiplyInteger.n = grind (arith, c.well_formed) in
+    ready_line c.in-Some.line.now _ c.args.self.now g.p (c.in-MultiplyInteger.is ∙ ap (λ n. instr.MultiplyInteger c.in-MultiplyInteger.t c.in-MultiplyInteger.a n) (sym same)) c.in-Some.ensures.is c.requires.0 c.requires.1.0 c.requires.1.1
+
+pub operate_at-requires-in-FloorDivide : goal.operate_at-requires-in-FloorDivide
+operate_at-requires-in-FloorDivide g c = ready_line c.in-Some.line.now _ c.args.self.now g.p c.in-FloorDivide.is c.in-Some.ensures.is c.requires.0 c.requires.1.0 c.requires.1.1
+
+pub operate_integer_at-requires-in-FloorDivideInteger : goal.operate_integer_at-requires-in-FloorDivideInteger
+operate_integer_at-requires-in-FloorDivideInteger g c =
+    let same : to_z w16 (of_z w16 c.in-FloorDivideInteger.n) ≡ c.in-FloorDivideInteger.n = grind (arith, c.well_formed) in
+    ready_line c.in-Some.line.now _ c.args.self.now g.p (c.in-FloorDivideInteger.is ∙ ap (λ n. instr.FloorDivideInteger c.in-FloorDivideInteger.t c.in-FloorDivideInteger.a n) (sym same)) c.in-Some.ensures.is c.requires.0 c.requires.1.0 c.requires.1.1
+
+pub operate_at-requires-in-Modulo : goal.operate_at-requires-in-Modulo
+operate_at-requires-in-Modulo g c = ready_line c.in-Some.line.now _ c.args.self.now g.p c.in-Modulo.is c.in-Some.ensures.is c.requires.0 c.requires.1.0 c.requires.1.1
+
+pub operate_integer_at-requires-in-ModuloInteger : goal.operate_integer_at-requires-in-ModuloInteger
+operate_integer_at-requires-in-ModuloInteger g c =
+    let same : to_z w16 (of_z w16 c.in-ModuloInteger.n) ≡ c.in-ModuloInteger.n = grind (arith, c.well_formed) in
+    ready_line c.in-Some.line.now _ c.args.self.now g.p (c.in-ModuloInteger.is ∙ ap (λ n. instr.ModuloInteger c.in-ModuloInteger.t c.in-ModuloInteger.a n) (sym same)) c.in-Some.ensures.is c.requires.0 c.requires.1.0 c.requires.1.1
+
+pub operate_at-requires-in-Binary : goal.operate_at-requires-in-Binary
+operate_at-requires-in-Binary g c = ready_line c.in-Some.line.now _ c.args.self.now g.p c.in-Binary.is c.in-Some.ensures.is c.requires.0 c.requires.1.0 c.requires.1.1
+
+pub operate_integer_at-requires-in-BinaryInteger : goal.operate_integer_at-requires-in-BinaryInteger
+operate_integer_at-requires-in-BinaryInteger g c =
     let same : to_z w16 (of_z w16 c.in-BinaryInteger.n) ≡ c.in-BinaryInteger.n = grind (arith, c.well_formed) in
     ready_line c.in-Some.line.now _ c.args.self.now g.p (c.in-BinaryInteger.is ∙ ap (λ n. instr.BinaryInteger c.in-BinaryInteger.operator c.in-BinaryInteger.t c.in-BinaryInteger.a n) (sym same)) c.in-Some.ensures.is c.requires.0 c.requires.1.0 c.requires.1.1
 
@@ -181,9 +177,6 @@ compare_value_integer_at-requires g c =
     let same : to_z w16 (of_z w16 c.in-CompareInteger.n) ≡ c.in-CompareInteger.n = grind (arith, c.well_formed) in
     ready_line c.in-Some.line.now _ c.args.self.now g.p (c.in-CompareInteger.is ∙ ap (λ n. instr.CompareInteger c.in-CompareInteger.operator c.in-CompareInteger.t c.in-CompareInteger.a n) (sym same)) c.in-Some.ensures.is c.requires.0 c.requires.1.0 c.requires.1.1
 
-pub compare_kept_at-requires : goal.compare_kept_at-requires
-compare_kept_at-requires g c = ready_line c.in-Some.line.now _ c.args.self.now g.p c.in-CompareKept.is c.in-Some.ensures.is c.requires.0 c.requires.1.0 c.requires.1.1
-
 pub unary_at-requires : goal.unary_at-requires
 unary_at-requires g c = ready_line c.in-Some.line.now _ c.args.self.now g.p c.in-Unary.is c.in-Some.ensures.is c.requires.0 c.requires.1.0 c.requires.1.1
 
@@ -224,9 +217,6 @@ store_integer_item_at-requires g c =
     let same : to_z w16 (of_z w16 c.in-StoreIntegerItem.n) ≡ c.in-StoreIntegerItem.n = grind (arith, c.well_formed) in
     ready_line c.in-Some.line.now _ c.args.self.now g.p (c.in-StoreIntegerItem.is ∙ ap (λ n. instr.StoreIntegerItem n c.in-StoreIntegerItem.a c.in-StoreIntegerItem.b) (sym same)) c.in-Some.ensures.is c.requires.0 c.requires.1.0 c.requires.1.1
 
-pub delete_item_at-requires : goal.delete_item_at-requires
-delete_item_at-requires g c = ready_line c.in-Some.line.now _ c.args.self.now g.p c.in-DeleteItem.is c.in-Some.ensures.is c.requires.0 c.requires.1.0 c.requires.1.1
-
 pub end_chain_at-requires : goal.end_chain_at-requires
 end_chain_at-requires g c = ready_line c.in-Some.line.now _ c.args.self.now g.p c.in-EndChain.is c.in-Some.ensures.is c.requires.0 c.requires.1.0 c.requires.1.1
 
@@ -247,33 +237,27 @@ call_alone_at-requires g c = ready_line c.in-Some.line.now _ c.args.self.now g.p
 
 pub find_at-requires : goal.find_at-requires
 find_at-requires g c =
-    let t = c.args.self.now.table in (
-      ready_line c.in-Some.line.now _ c.args.self.now g.p c.in-Find.is c.in-Some.ensures.is c.requires.0 c.requires.1.0 c.requires.1.1,
-      subst (Resolves (length t.literals) (length t.names) (length t.full)) c.in-Find.is c.in-Some.ensures.resolves,
-    )
+    let t = c.args.self.now.table in
+    (ready_line c.in-Some.line.now _ c.args.self.now g.p c.in-Find.is c.in-Some.ensures.is c.requires.0 c.requires.1.0 c.requires.1.1,
+    subst (Resolves (length t.literals) (length t.names) (length t.full)) c.in-Find.is c.in-Some.ensures.resolves)
 
 pub call_method_at-requires : goal.call_method_at-requires
 call_method_at-requires g c =
-    let t = c.args.self.now.table in (
-      ready_line c.in-Some.line.now _ c.args.self.now g.p c.in-CallMethod.is c.in-Some.ensures.is c.requires.0 c.requires.1.0 c.requires.1.1,
-      subst (Resolves (length t.literals) (length t.names) (length t.full)) c.in-CallMethod.is c.in-Some.ensures.resolves,
-    )
+    let t = c.args.self.now.table in
+    (ready_line c.in-Some.line.now _ c.args.self.now g.p c.in-CallMethod.is c.in-Some.ensures.is c.requires.0 c.requires.1.0 c.requires.1.1,
+    subst (Resolves (length t.literals) (length t.names) (length t.full)) c.in-CallMethod.is c.in-Some.ensures.resolves)
 
 pub call_method_alone_at-requires : goal.call_method_alone_at-requires
 call_method_alone_at-requires g c =
-    let t = c.args.self.now.table in (
-      ready_line c.in-Some.line.now _ c.args.self.now g.p c.in-CallMethodAlone.is c.in-Some.ensures.is c.requires.0 c.requires.1.0 c.requires.1.1,
-      subst (Resolves (length t.literals) (length t.names) (length t.full)) c.in-CallMethodAlone.is c.in-Some.ensures.resolves,
-    )
+    let t = c.args.self.now.table in
+    (ready_line c.in-Some.line.now _ c.args.self.now g.p c.in-CallMethodAlone.is c.in-Some.ensures.is c.requires.0 c.requires.1.0 c.requires.1.1,
+    subst (Resolves (length t.literals) (length t.names) (length t.full)) c.in-CallMethodAlone.is c.in-Some.ensures.resolves)
 
 pub gather_at-requires : goal.gather_at-requires
 gather_at-requires g c = ready_line c.in-Some.line.now _ c.args.self.now g.p c.in-Gather.is c.in-Some.ensures.is c.requires.0 c.requires.1.0 c.requires.1.1
 
 pub gather_list_at-requires : goal.gather_list_at-requires
 gather_list_at-requires g c = ready_line c.in-Some.line.now _ c.args.self.now g.p c.in-GatherList.is c.in-Some.ensures.is c.requires.0 c.requires.1.0 c.requires.1.1
-
-pub gather_dict_at-requires : goal.gather_dict_at-requires
-gather_dict_at-requires g c = ready_line c.in-Some.line.now _ c.args.self.now g.p c.in-GatherDict.is c.in-Some.ensures.is c.requires.0 c.requires.1.0 c.requires.1.1
 
 pub unpack_at-requires : goal.unpack_at-requires
 unpack_at-requires g c = ready_line c.in-Some.line.now _ c.args.self.now g.p c.in-Unpack.is c.in-Some.ensures.is c.requires.0 c.requires.1.0 c.requires.1.1

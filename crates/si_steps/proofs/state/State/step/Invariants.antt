@@ -75,9 +75,6 @@ ghost-compare_value_at g a = g.p
 abbrev pub ghost-compare_value_integer_at : goal.ghost-compare_value_integer_at
 ghost-compare_value_integer_at g a = g.p
 
-abbrev pub ghost-compare_kept_at : goal.ghost-compare_kept_at
-ghost-compare_kept_at g a = g.p
-
 abbrev pub ghost-unary_at : goal.ghost-unary_at
 ghost-unary_at g a = g.p
 
@@ -111,14 +108,8 @@ ghost-store_item_integer_at g a = g.p
 abbrev pub ghost-store_integer_item_at : goal.ghost-store_integer_item_at
 ghost-store_integer_item_at g a = g.p
 
-abbrev pub ghost-delete_item_at : goal.ghost-delete_item_at
-ghost-delete_item_at g a = g.p
-
 abbrev pub ghost-gather_list_at : goal.ghost-gather_list_at
 ghost-gather_list_at g a = g.p
-
-abbrev pub ghost-gather_dict_at : goal.ghost-gather_dict_at
-ghost-gather_dict_at g a = g.p
 
 abbrev pub ghost-unpack_at : goal.ghost-unpack_at
 ghost-unpack_at g a = g.p
