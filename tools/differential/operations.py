@@ -238,6 +238,8 @@ class Operations:
 
     def item(self, whole, at):
         self.spend()
+        if isinstance(whole, BuiltIn):
+            self.differs()
         return whole[self.key(at) if isinstance(whole, dict) else at]
 
     def set_item(self, whole, at, value):

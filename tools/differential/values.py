@@ -66,7 +66,7 @@ FORMS = {
     'KEY': row("'a'  'k'  1  2"),
     'TEXT': TEXTS, 'BYTES': BYTES, 'RANGE': RANGES, 'LISTED': TUPLES + LISTS + DICTS,
     'OTHER': row('''None  ValueError  KeyError  error  ValueError()  KeyError('k')  print  len  str  int  range  min
-        same  ring()  rings()'''),
+        list  tuple  same  ring()  rings()'''),
     'METHOD': row('append  join  startswith  encode  pop  get  sort  x'),
     'ATTRIBUTE': row('args  x  stop  append  join  real  id  exec'),
 }

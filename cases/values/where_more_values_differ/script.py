@@ -1,6 +1,6 @@
 def f(x):
     return x
-for k in range(14):
+for k in range(16):
     try:
         if k == 0: {}.pop([])
         elif k == 1: print(int(b'12'))
@@ -15,6 +15,8 @@ for k in range(14):
         elif k == 10: print(int('\u00a07'))
         elif k == 11: print(int('\x1c7'))
         elif k == 12: chr(1 << 31)
-        else: chr(55296)
+        elif k == 13: chr(55296)
+        elif k == 14: print(list[0])
+        else: print(tuple[1])
     except Exception as e:
         print(k, repr(e))
