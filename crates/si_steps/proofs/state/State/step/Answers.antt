@@ -17,31 +17,35 @@ set_truth_at-requires g c = ready_line c.in-Some.line.now _ c.args.self.now g.p 
 
 pub set_literal_at-requires : goal.set_literal_at-requires
 set_literal_at-requires g c =
-    let t = c.args.self.now.table in
-    (ready_line c.in-Some.line.now _ c.args.self.now g.p c.in-SetLiteral.is c.in-Some.ensures.is c.requires.0 c.requires.1.0 c.requires.1.1,
-    subst (Resolves (length t.literals) (length t.names) (length t.full)) c.in-SetLiteral.is c.in-Some.ensures.resolves)
+    let t = c.args.self.now.table in (
+      ready_line c.in-Some.line.now _ c.args.self.now g.p c.in-SetLiteral.is c.in-Some.ensures.is c.requires.0 c.requires.1.0 c.requires.1.1,
+      subst (Resolves (length t.literals) (length t.names) (length t.full)) c.in-SetLiteral.is c.in-Some.ensures.resolves,
+    )
 
 pub jump_if_at-requires : goal.jump_if_at-requires
 jump_if_at-requires g c = ready_line c.in-Some.line.now _ c.args.self.now g.p c.in-JumpIf.is c.in-Some.ensures.is c.requires.0 c.requires.1.0 c.requires.1.1
 
 pub load_global_at-requires : goal.load_global_at-requires
 load_global_at-requires g c =
-    let t = c.args.self.now.table in
-    (ready_line c.in-Some.line.now _ c.args.self.now g.p c.in-LoadGlobal.is c.in-Some.ensures.is c.requires.0 c.requires.1.0 c.requires.1.1,
-    subst (Resolves (length t.literals) (length t.names) (length t.full)) c.in-LoadGlobal.is c.in-Some.ensures.resolves)
+    let t = c.args.self.now.table in (
+      ready_line c.in-Some.line.now _ c.args.self.now g.p c.in-LoadGlobal.is c.in-Some.ensures.is c.requires.0 c.requires.1.0 c.requires.1.1,
+      subst (Resolves (length t.literals) (length t.names) (length t.full)) c.in-LoadGlobal.is c.in-Some.ensures.resolves,
+    )
 
 pub store_global_at-requires : goal.store_global_at-requires
 store_global_at-requires g c =
-    let t = c.args.self.now.table in
-    (ready_line c.in-Some.line.now _ c.args.self.now g.p c.in-StoreGlobal.is c.in-Some.ensures.is c.requires.0 c.requires.1.0 c.requires.1.1,
-    subst (Resolves (length t.literals) (length t.names) (length t.full)) c.in-StoreGlobal.is c.in-Some.ensures.resolves)
+    let t = c.args.self.now.table in (
+      ready_line c.in-Some.line.now _ c.args.self.now g.p c.in-StoreGlobal.is c.in-Some.ensures.is c.requires.0 c.requires.1.0 c.requires.1.1,
+      subst (Resolves (length t.literals) (length t.names) (length t.full)) c.in-StoreGlobal.is c.in-Some.ensures.resolves,
+    )
 
 pub store_global_integer_at-requires : goal.store_global_integer_at-requires
 store_global_integer_at-requires g c =
     let same : to_z w16 (of_z w16 c.in-StoreGlobalInteger.n) ≡ c.in-StoreGlobalInteger.n = grind (arith, c.well_formed) in
-    let t = c.args.self.now.table in
-    (ready_line c.in-Some.line.now _ c.args.self.now g.p (c.in-StoreGlobalInteger.is ∙ ap (λ n. instr.StoreGlobalInteger n c.in-StoreGlobalInteger.slot) (sym same)) c.in-Some.ensures.is c.requires.0 c.requires.1.0 c.requires.1.1,
-    subst (Resolves (length t.literals) (length t.names) (length t.full)) c.in-StoreGlobalInteger.is c.in-Some.ensures.resolves)
+    let t = c.args.self.now.table in (
+      ready_line c.in-Some.line.now _ c.args.self.now g.p (c.in-StoreGlobalInteger.is ∙ ap (λ n. instr.StoreGlobalInteger n c.in-StoreGlobalInteger.slot) (sym same)) c.in-Some.ensures.is c.requires.0 c.requires.1.0 c.requires.1.1,
+      subst (Resolves (length t.literals) (length t.names) (length t.full)) c.in-StoreGlobalInteger.is c.in-Some.ensures.resolves,
+    )
 
 pub binary_at-requires : goal.binary_at-requires
 binary_at-requires g c = ready_line c.in-Some.line.now _ c.args.self.now g.p c.in-Add.is c.in-Some.ensures.is c.requires.0 c.requires.1.0 c.requires.1.1
@@ -237,21 +241,24 @@ call_alone_at-requires g c = ready_line c.in-Some.line.now _ c.args.self.now g.p
 
 pub find_at-requires : goal.find_at-requires
 find_at-requires g c =
-    let t = c.args.self.now.table in
-    (ready_line c.in-Some.line.now _ c.args.self.now g.p c.in-Find.is c.in-Some.ensures.is c.requires.0 c.requires.1.0 c.requires.1.1,
-    subst (Resolves (length t.literals) (length t.names) (length t.full)) c.in-Find.is c.in-Some.ensures.resolves)
+    let t = c.args.self.now.table in (
+      ready_line c.in-Some.line.now _ c.args.self.now g.p c.in-Find.is c.in-Some.ensures.is c.requires.0 c.requires.1.0 c.requires.1.1,
+      subst (Resolves (length t.literals) (length t.names) (length t.full)) c.in-Find.is c.in-Some.ensures.resolves,
+    )
 
 pub call_method_at-requires : goal.call_method_at-requires
 call_method_at-requires g c =
-    let t = c.args.self.now.table in
-    (ready_line c.in-Some.line.now _ c.args.self.now g.p c.in-CallMethod.is c.in-Some.ensures.is c.requires.0 c.requires.1.0 c.requires.1.1,
-    subst (Resolves (length t.literals) (length t.names) (length t.full)) c.in-CallMethod.is c.in-Some.ensures.resolves)
+    let t = c.args.self.now.table in (
+      ready_line c.in-Some.line.now _ c.args.self.now g.p c.in-CallMethod.is c.in-Some.ensures.is c.requires.0 c.requires.1.0 c.requires.1.1,
+      subst (Resolves (length t.literals) (length t.names) (length t.full)) c.in-CallMethod.is c.in-Some.ensures.resolves,
+    )
 
 pub call_method_alone_at-requires : goal.call_method_alone_at-requires
 call_method_alone_at-requires g c =
-    let t = c.args.self.now.table in
-    (ready_line c.in-Some.line.now _ c.args.self.now g.p c.in-CallMethodAlone.is c.in-Some.ensures.is c.requires.0 c.requires.1.0 c.requires.1.1,
-    subst (Resolves (length t.literals) (length t.names) (length t.full)) c.in-CallMethodAlone.is c.in-Some.ensures.resolves)
+    let t = c.args.self.now.table in (
+      ready_line c.in-Some.line.now _ c.args.self.now g.p c.in-CallMethodAlone.is c.in-Some.ensures.is c.requires.0 c.requires.1.0 c.requires.1.1,
+      subst (Resolves (length t.literals) (length t.names) (length t.full)) c.in-CallMethodAlone.is c.in-Some.ensures.resolves,
+    )
 
 pub gather_at-requires : goal.gather_at-requires
 gather_at-requires g c = ready_line c.in-Some.line.now _ c.args.self.now g.p c.in-Gather.is c.in-Some.ensures.is c.requires.0 c.requires.1.0 c.requires.1.1
