@@ -331,6 +331,6 @@ pub record TargetCases : Type 0 where
   --     a = [7]
   --     del a[0]
   pub visits_of_a_deletion : end_of (run_of (set a (list_of (int 7 ∷ [])) ∷ tree.Delete (tree.Name a) (int 0) ∷ [])) ≡ Some (Some (End Returned), 10)
-  -- the statement is 2, the text 3, the targets in a row 4, each of them 5 and 6
+  -- after the wait for the job: the statement, its text, the targets in a row, and each of the two
   --     a, b = 'xy'
   pub visits_of_an_unpacking : end_of (run_of (unpacks (tree.Named a ∷ tree.Named b ∷ []) (str (codes "xy")) ∷ [])) ≡ Some (Some (End Returned), 7)
