@@ -1,2 +1,4 @@
 pub mod Limits
+pub mod Longest
 pub mod Parts
+pub mod ReadOff

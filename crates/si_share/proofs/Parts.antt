@@ -52,11 +52,6 @@ pub listed : (ts : Trees) → (us : List Tree) × (ts ≡ trees_of us)
 listed NoTrees = ([], refl)
 listed (MoreTrees t ts) = let l = listed ts in (t ∷ l.0, ap (MoreTrees t) l.1)
 
--- what is there
-pub there : (a : Option Tree) → is_some a ≡ true → (t : Tree) × (a ≡ Some t)
-there (Some t) e = (t, refl)
-there None e = absurd cc
-
 -- the trees of a tuple
 pub record Grouped (b : Option Trees) (t : Tree) : Type 0 where
   pub trees : Trees
@@ -66,20 +61,6 @@ pub record Grouped (b : Option Trees) (t : Tree) : Type 0 where
 pub grouped : (b : Option Trees) (t : Tree) → option_map (Group tree.Tuple) b ≡ Some t → Grouped b t
 grouped (Some us) t e = record { trees = us; trees_are = refl; is = cc }
 grouped None t e = absurd cc
-
--- where the first is there, the rest decides
-pub first_is_there : (a : Option Tree) (b : Option Trees) → is_some a ≡ true → is_some (more_trees a b) ≡ is_some b
-first_is_there (Some t) (Some us) e = refl
-first_is_there (Some t) None e = refl
-first_is_there None b e = absurd cc
-
-pub first_is_not : (a : Option Tree) (b : Option Trees) → is_some a ≡ false → is_some (more_trees a b) ≡ false
-first_is_not (Some t) b e = absurd cc
-first_is_not None b e = refl
-
-pub mapped : (b : Option Trees) → is_some (option_map (Group tree.Tuple) b) ≡ is_some b
-mapped (Some us) = refl
-mapped None = refl
 
 -- ---- a parcel is as large as its value
 

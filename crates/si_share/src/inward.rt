@@ -9,6 +9,7 @@ ghost use Rattle.si_arena.specs.Short.{FitsShort};
 ghost use Rattle.si_share.specs.Copies.{CopiesIn, NeedsRoom};
 
 use crate::bytes::bytes_in;
+use crate::scalars::scalar_in;
 use si_arena::{Arena, Fault, Ref};
 use si_parcel::{Atom, Parcel, Top};
 use si_plain::{NoMemory, Text};
@@ -52,7 +53,10 @@ fn tuple_in(arena: &mut Arena, items: &[Parcel]) -> Result<Ref, NoMemory>
 {
     let mut values = Vec::with_capacity(arena.allocator(), items.len())?;
     'items: for item in items {
-        let value = value_in(arena, item)?;
+        let value = match scalar_in(item) {
+            Some(value) => value,
+            None => value_in(arena, item)?,
+        };
         match values.push(value) {
             Ok(()) => {}
             Err(_) => return Err(AllocError),

@@ -5,8 +5,8 @@
 // value that was copied out of one arena and into another is equal to itself (`laws`). Which values are shareable never
 // depends on memory: that is asked first. `specs/Copies.antt` says when each call is refused; nothing has changed then.
 //
-// In reading order: `fault` (why a copy is refused), `text` (the text of characters), `bytes`, `outward` (`is_shareable` and
-// `copy_out`), `inward` (`copy_in`), `laws`.
+// In reading order: `fault` (why a copy is refused), `text` (the text of characters), `bytes`, `scalars` (items that are
+// copied at once), `outward` (`is_shareable` and `copy_out`), `inward` (`copy_in`), `laws`.
 #![tactic(auto)]
 
 mod bytes;
@@ -14,6 +14,7 @@ mod fault;
 mod inward;
 pub mod laws;
 mod outward;
+mod scalars;
 mod text;
 
 pub use fault::ShareFault;

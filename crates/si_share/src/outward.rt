@@ -1,8 +1,8 @@
 // Values that are copied out of an arena.
 
-ghost use Rattle.std.specs.Prelude.{◌≡◌, Some, length};
+ghost use Rattle.std.specs.Prelude.{◌≡◌, length, option_map};
 ghost use Rattle.si_semantics.specs.Shareable.{is_shareable, parcel_of};
-ghost use Rattle.si_semantics.specs.Parcels.{Tree, longest_in};
+ghost use Rattle.si_semantics.specs.Parcels.{longest_in};
 ghost use Rattle.si_semantics.specs.Value as pure;
 ghost use Rattle.si_arena.specs.Memory.{value_of, Lies};
 ghost use Rattle.si_arena.specs.Texts.{characters_in};
@@ -11,6 +11,7 @@ ghost use Rattle.si_share.specs.inner.Fitting.{Fits};
 
 use crate::bytes::bytes_out;
 use crate::fault::ShareFault;
+use crate::scalars::{is_scalar, scalar_out};
 use crate::text::text_of;
 use si_arena::{Arena, Characters, Ref, View};
 use si_parcel::{Parcel, StrFault, TupleFault};
@@ -23,30 +24,7 @@ pub fn is_shareable(arena: &Arena, value: Ref) -> bool
     requires { Lies arena.now value }
     ensures { result ≡ is_shareable (value_of arena.now value) }
 {
-    match arena.view(&value) {
-        View::None => true,
-        View::Truth(_) => true,
-        View::Int(_) => true,
-        View::Str(_) => true,
-        View::Bytes(_) => true,
-        View::Tuple(items) => {
-            'items: for item in items {
-                if !is_shareable(arena, *item) {
-                    return false;
-                }
-            }
-            true
-        }
-        View::BuiltIn(_) => false,
-        View::Function(_, _) => false,
-        View::Range(_) => false,
-        View::Kind(_) => false,
-        View::Module(_) => false,
-        View::Queue(_, _) => true,
-        View::Interpreter(_) => false,
-        View::Exec(_) => false,
-        View::Object(_) => false,
-    }
+    longest(arena, value).is_some()
 }
 
 /// The parcel of a value, a copy that may be sent to another interpreter (PEP 734, "Shareable Objects"). `NotShareable`
@@ -57,9 +35,9 @@ pub fn copy_out(alloc: Global, arena: &Arena, value: Ref) -> Result<Parcel, Shar
     requires { Lies arena.now value }
     ensures { CopiesOut (value_of arena.now value) result }
 {
-    if !is_shareable(arena, value) {
+    let Some(longest) = longest(arena, value) else {
         return Err(ShareFault::NotShareable);
-    }
+    };
     let size = arena.size(value);
     if size.values > MAX_TUPLE_VALUES {
         return Err(ShareFault::TooLarge);
@@ -67,39 +45,44 @@ pub fn copy_out(alloc: Global, arena: &Arena, value: Ref) -> Result<Parcel, Shar
     if size.levels > MAX_TUPLE_LEVELS {
         return Err(ShareFault::TooLarge);
     }
-    if longest(arena, value) > MAX_STR_LENGTH {
+    if longest > MAX_STR_LENGTH {
         return Err(ShareFault::TooLarge);
     }
     parcel_out(alloc, arena, value)
 }
 
-// How long the longest str or bytes in a shareable value is.
-fn longest(arena: &Arena, value: Ref) -> usize
+// How long the longest str or bytes in a value is, where it is shareable.
+fn longest(arena: &Arena, value: Ref) -> Option<usize>
     requires { Lies arena.now value }
-    ensures { (p : Tree) → parcel_of (value_of arena.now value) ≡ Some p → result ≡ longest_in p }
+    ensures { result ≡ option_map longest_in (parcel_of (value_of arena.now value)) }
 {
     match arena.view(&value) {
-        View::None => 0,
-        View::Truth(_) => 0,
-        View::Int(_) => 0,
-        View::Str(characters) => length_of(characters),
-        View::Bytes(bytes) => bytes.len(),
+        View::None => Some(0),
+        View::Truth(_) => Some(0),
+        View::Int(_) => Some(0),
+        View::Str(characters) => Some(length_of(characters)),
+        View::Bytes(bytes) => Some(bytes.len()),
         View::Tuple(items) => {
             let mut most = 0;
             'items: for item in items {
-                most = longest(arena, *item).max(most);
+                if !is_scalar(*item) {
+                    let Some(length) = longest(arena, *item) else {
+                        return None;
+                    };
+                    most = length.max(most);
+                }
             }
-            most
+            Some(most)
         }
-        View::BuiltIn(_) => 0,
-        View::Function(_, _) => 0,
-        View::Range(_) => 0,
-        View::Kind(_) => 0,
-        View::Module(_) => 0,
-        View::Queue(_, _) => 0,
-        View::Interpreter(_) => 0,
-        View::Exec(_) => 0,
-        View::Object(_) => 0,
+        View::BuiltIn(_) => None,
+        View::Function(_, _) => None,
+        View::Range(_) => None,
+        View::Kind(_) => None,
+        View::Module(_) => None,
+        View::Queue(_, _) => Some(0),
+        View::Interpreter(_) => None,
+        View::Exec(_) => None,
+        View::Object(_) => None,
     }
 }
 
@@ -118,7 +101,10 @@ fn parcel_out(alloc: Global, arena: &Arena, value: Ref) -> Result<Parcel, ShareF
         View::Tuple(items) => {
             let mut parcels = Vec::with_capacity(alloc, items.len())?;
             'items: for item in items {
-                let parcel = parcel_out(alloc, arena, *item)?;
+                let parcel = match scalar_out(*item) {
+                    Some(parcel) => parcel,
+                    None => parcel_out(alloc, arena, *item)?,
+                };
                 match parcels.push(parcel) {
                     Ok(()) => {}
                     Err(_) => return Err(ShareFault::NoMemory),

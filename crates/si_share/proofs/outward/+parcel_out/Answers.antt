@@ -8,6 +8,8 @@ use Rattle.si_semantics.specs.Shareable.{parcel_of, parcels_of}
 use Rattle.si_arena.specs.Memory.{value_of, all_of}
 use Rattle.si_arena.proofs.Sizes.{lies_at}
 use Rattle.si_share.proofs.Parts.{left_step, less_than_all, split_parcels, grouped, listed, part_is_parcel, all_parceled, memory_refused, part_refused, complete, parcel_of_all, large_is, deep_is}
+use Rattle.si_share.proofs.ReadOff.{scalar_sent}
+use Rattle.si_share.proofs.outward.+parcel_out.Goals.{in-Some, in-None-scalar_out+in_ok-parcel-in-None-scalar_out}
 use Rattle.si_share.proofs.outward.+parcel_out.Goals as goal
 
 pub returns-in_err-parcels-in-Tuple : goal.returns-in_err-parcels-in-Tuple
@@ -37,8 +39,8 @@ parcel_out-requires t c =
       (lies_at m xs c.items.item-index _ _ c.item-item.is c.items-test.true c.in-Tuple.ensures.parts, (s.0, s.3, small)),
     )
 
-pub returns-in_err-parcel-in-Tuple : goal.returns-in_err-parcel-in-Tuple
-returns-in_err-parcel-in-Tuple t c =
+pub returns-in_err-parcel-in-None-scalar_out : goal.returns-in_err-parcel-in-None-scalar_out
+returns-in_err-parcel-in-None-scalar_out t c =
     let m = c.args.arena.now in
     let xs = c.in-Tuple.items.now in
     let inv = c.items.invariant in
@@ -46,8 +48,8 @@ returns-in_err-parcel-in-Tuple t c =
     let s = split_parcels (parcel_of (value_of m c.item-item.result)) (parcels_of (values_of (drop (c.items.item-index + 1) (all_of m xs)))) inv.0 (sym left ∙ inv.1) in
     let fits = all_parceled (all_of m xs) c.in-Tuple.ensures.value c.requires.fits (c.items.parcels.items ++ inv.0) inv.2 in
     let small = part_is_parcel c.items.parcels.items s.1 s.0 (subst (λ us. IsParcel (tuple_of (c.items.parcels.items ++ us))) s.2 fits) in
-    let p = err_from_is_err_and c.from_residual-in_err-parcel-in-Tuple.result c.from_residual-in_err-parcel-in-Tuple.ensures.1 in
-    rw (p.1, p.2) (part_refused (all_of m xs) (value_of m c.item-item.result) _ c.in-Tuple.ensures.value c.requires.fits (s.0, s.3, small) c.in_err-parcel-in-Tuple.ensures)
+    let p = err_from_is_err_and c.from_residual-in_err-parcel-in-None-scalar_out.result c.from_residual-in_err-parcel-in-None-scalar_out.ensures.1 in
+    rw (p.1, p.2) (part_refused (all_of m xs) (value_of m c.item-item.result) _ c.in-Tuple.ensures.value c.requires.fits (s.0, s.3, small) c.in_err-parcel-in-None-scalar_out.ensures)
 
 pub items-preserved : goal.items-preserved
 items-preserved t c =
@@ -56,10 +58,14 @@ items-preserved t c =
     let inv = c.items.invariant in
     let left = ap (λ vs. parcels_of (values_of vs)) (left_step m xs c.items.item-index _ _ c.item-item.is c.items-test.true) in
     let s = split_parcels (parcel_of (value_of m c.item-item.result)) (parcels_of (values_of (drop (c.items.item-index + 1) (all_of m xs)))) inv.0 (sym left ∙ inv.1) in
-    let same : Some c.in_ok-parcel-in-Tuple.parcel ≡ Some s.0 = sym c.in_ok-parcel-in-Tuple.ensures.0 ∙ s.3 in
-    let first : s.0 ≡ c.in_ok-parcel-in-Tuple.parcel = cc in
+    let sent : parcel_of (value_of m c.item-item.result) ≡ Some c.match-scalar_out.parcel = elim c.match-scalar_out.branch [
+      | in-Some w ↦ rw w.parcel-is (scalar_sent m c.item-item.result w.in-Some.parcel (sym w.in-Some.ensures))
+      | in-None-scalar_out+in_ok-parcel-in-None-scalar_out w ↦ rw w.parcel-is w.in_ok-parcel-in-None-scalar_out.ensures.0
+    ] in
+    let same : Some c.match-scalar_out.parcel ≡ Some s.0 = sym sent ∙ s.3 in
+    let first : s.0 ≡ c.match-scalar_out.parcel = cc in
     let all = inv.2 ∙ ap (λ us. Some (trees_of (c.items.parcels.items ++ us))) (s.2 ∙ ap (λ p. p ∷ s.1) first) in
-    let next = ap (λ us. Some (trees_of us)) (sym (append_assoc c.items.parcels.items (c.in_ok-parcel-in-Tuple.parcel ∷ []) s.1)) in
+    let next = ap (λ us. Some (trees_of us)) (sym (append_assoc c.items.parcels.items (c.match-scalar_out.parcel ∷ []) s.1)) in
     (s.1, s.4, rw (c.push.ensures.items, c.in-Ok.is) (all ∙ next))
 
 pub returns-in-Ok-tuple : goal.returns-in-Ok-tuple
