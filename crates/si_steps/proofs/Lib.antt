@@ -23,3 +23,4 @@ pub mod Unpacked
 pub mod Listed
 pub mod Shown
 pub mod Fetching
+pub mod Indices
