@@ -25,7 +25,9 @@ fn are(marks: &[Mark], wanted: &[Mark]) -> bool {
 
 #[test]
 fn marks_of_a_list(rt: HostRuntime) -> Result<(), Fail> {
-    let mut world = world(rt.alloc(), "print(1); print(2)\n", 2, 1_000)?;
+    let script =
+        "print(1); print(2)\nfrom concurrent import interpreters\ni = interpreters.create()\ni.exec('x = 1')\ni.exec('print(x + 1)')\n";
+    let mut world = world(rt.alloc(), script, 8, 1_000)?;
     let marks = world.run(&[0, 0, 1, 0, 1])?;
     let wanted = [
         Mark::Acted,
