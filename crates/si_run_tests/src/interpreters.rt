@@ -1,7 +1,7 @@
 // One interpreter, with a test as its host.
 
 use si_interp::{Interp, NotShown, RunOrigin, State, Step};
-use si_parcel::{Action, Answer, BoxedText, Job, Outcome, Parcel};
+use si_parcel::{Action, Answer, Atom, BoxedText, Job, Outcome, Parcel, Top};
 use si_plain::{Kind, Text};
 use std::alloc::{AllocError, Global};
 use std::test::Fail;
@@ -173,8 +173,58 @@ fn has_raised(interp: &Interp, wanted: Kind) -> bool {
     matches!(interp.pending(), Some(Action::End(Outcome::Raised(kind, _))) if *kind == wanted)
 }
 
+// Whether it asks for a queue without a bound.
+fn asks_for_a_queue(interp: &Interp) -> bool {
+    matches!(interp.pending(), Some(Action::CreateQueue(0)))
+}
+
+fn is_five(parcel: &Parcel) -> bool {
+    matches!(parcel.top(), Top::Atom(Atom::Int(5)))
+}
+
+// Whether it puts 5 into queue 3.
+fn puts_five(interp: &Interp) -> bool {
+    match interp.pending() {
+        Some(Action::Put(queue, parcel)) => *queue == 3 && is_five(parcel),
+        _ => false,
+    }
+}
+
+// Whether it asks for an item of queue 3.
+fn gets_an_item(interp: &Interp) -> bool {
+    matches!(interp.pending(), Some(Action::Get(3)))
+}
+
+// The item `a`.
+fn item_of_a(alloc: Global) -> Result<Answer, AllocError> {
+    let parcel = Parcel::str(alloc, Text::from_str(alloc, "a")?).or(Err(AllocError))?;
+    Ok(Answer::Item(parcel))
+}
+
 #[test]
 fn answered_by_its_host(rt: HostRuntime) -> Result<(), Fail> {
+    let text =
+        "from concurrent import interpreters\nq = interpreters.create_queue()\nq.put(5)\nprint(q.get())\n";
+    let item = item_of_a(rt.alloc())?;
+    let mut interp = given(rt.alloc(), text)?;
+    go_on(&mut interp);
+    assert!(rt; asks_for_a_queue(&interp));
+    give(&mut interp, Answer::QueueMade(3));
+    go_on(&mut interp);
+    assert!(rt; puts_five(&interp));
+    give(&mut interp, Answer::Done);
+    go_on(&mut interp);
+    assert!(rt; gets_an_item(&interp));
+    give(&mut interp, item);
+    go_on(&mut interp);
+    assert!(rt; has_returned(&interp));
+    assert!(rt; interp.printed() == "a\n");
+    assert_eq!(rt; interp.log().len(), 4);
+    Ok(())
+}
+
+#[test]
+fn all_that_it_asks_is_answered(rt: HostRuntime) -> Result<(), Fail> {
     let text =
         "from concurrent import interpreters\nq = interpreters.create_queue()\nq.put(35)\nx = q.get()\ni = interpreters.create()\ni.exec('pass')\nprint(x + 7)\n";
     let mut interp = given(rt.alloc(), text)?;
