@@ -15,8 +15,6 @@ mod hubs_refused;
 #[cfg(test)]
 mod integers;
 #[cfg(test)]
-mod neighbours;
-#[cfg(test)]
 mod parcels;
 #[cfg(test)]
 mod parcels_refused;
