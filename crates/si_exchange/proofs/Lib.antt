@@ -1,3 +1,4 @@
 pub mod Rows
 pub mod Swapping
 pub mod Exchanging
+pub mod Asking

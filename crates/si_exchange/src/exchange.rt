@@ -43,8 +43,8 @@ fn are_apart(first: &Action, second: &Action) -> bool
 }
 
 /// Whether two calls are independent: of two interpreters, each a `Put`, `PutNow`, `Get`, `GetNow` or `Size`, on different
-/// queues or both `Size`. Neighbours of which it is true may be exchanged (`laws::may_exchange`). It takes no memory. The
-/// rule is this project's own.
+/// queues or both `Size`. Neighbours of which it is true may be exchanged (`laws::may_exchange`), and a legal history stays
+/// legal so (`laws::may_exchange_legal`). It takes no memory. The rule is this project's own.
 pub fn independent(first: &Call, second: &Call) -> bool
     ensures exact { IsTrue result ↔ Independent first.now second.now }
 {

@@ -1,5 +1,5 @@
-// Tests of integers and texts, and of what interpreters share: parcels, queues, the registry, the hub, and what is done with
-// journals.
+// Tests of integers and texts, and of what interpreters share: parcels, queues, the registry, the hub, and the texts of
+// journals and schedules.
 //
 // They stand in a crate of their own, since a crate with tests is proved twice, and this one has nothing else.
 #![tactic(auto)]
@@ -14,8 +14,6 @@ mod hubs;
 mod hubs_refused;
 #[cfg(test)]
 mod integers;
-#[cfg(test)]
-mod neighbours;
 #[cfg(test)]
 mod parcels;
 #[cfg(test)]
