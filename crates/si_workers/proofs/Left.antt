@@ -56,6 +56,9 @@ no_calls_by p done (c ∷ cs) i t le =
     let le' : created (past_at p ((done ++ c ∷ []) ++ cs)) ≤ i = subst (λ (x : List Call). created (past_at p x) ≤ i) (sym e) le in
     none_by i c cs ne (no_calls_by p (done ++ c ∷ []) cs i (subst (λ (x : List Call). IsTold (past_at p x)) (sym e) t) le')
 
+pub no_calls : (p : Past) (i : ℕ) → IsTold p → created p ≤ i → calls_of i p.journal ≡ []
+no_calls p i t le = no_calls_by p [] p.journal i t le
+
 pub world_of : (p : Past) (worked vs : List InterpView) → IsTold p → created p ≤ p.limits.interpreters → AreMembers p worked p.limits.interpreters vs → IsWorld (world p vs)
 world_of p worked vs t few m = record {
   told = t;
@@ -63,7 +66,7 @@ world_of p worked vs t few m = record {
   some = some_created p t;
   few = few;
   each = λ i v at. (m.each i v at).0;
-  others = λ i le. no_calls_by p [] p.journal i t (let n = m.count in omega arith);
+  others = λ i le. no_calls p i t (let n = m.count in omega arith);
 }
 
 -- ---- who was starved

@@ -93,6 +93,29 @@ log_long i js log next lt h = λ e.
     let k : exchanges (drop next log) ≡ [] = cancel (calls_of i js) (exchanges (drop next log)) [] (sym h ∙ sym e ∙ sym (append-nil (calls_of i js))) in
     drop_some log next lt (none_exchanged (drop next log) k)
 
+none_by : (log : List Logged) → length log ≡ 0 → exchanges log ≡ []
+none_by [] e = refl
+none_by (l ∷ ls) e = absurd (omega arith)
+
+some_by : (log : List Logged) → length log ≢ 0 → exchanges log ≢ []
+some_by [] ne = absurd (ne refl)
+some_by (l ∷ ls) ne = λ h. cc
+
+-- by its length, a log has no exchange, or some
+pub none_in_it : (log : List Logged) → nat_eq (length log) 0 ≡ true → exchanges log ≡ []
+none_in_it log e =
+    elim (eqb_tells (length log) 0) [
+      | inl w ↦ none_by log w.1
+      | inr w ↦ (let b : false ≡ true = sym w.0 ∙ e in absurd (cc b))
+    ]
+
+pub some_in_it : (log : List Logged) → nat_eq (length log) 0 ≡ false → exchanges log ≢ []
+some_in_it log e =
+    elim (eqb_tells (length log) 0) [
+      | inl w ↦ (let b : true ≡ false = sym w.0 ∙ e in absurd (cc b))
+      | inr w ↦ some_by log w.1
+    ]
+
 pub long_or : (k n : ℕ) → k ≤ n → nat_eq k n ≡ false → k < n
 long_or k n le f =
     elim (eqb_tells k n) [

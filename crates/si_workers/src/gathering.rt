@@ -14,6 +14,7 @@ use crate::book::Book;
 use crate::fault::RunFault;
 use crate::worked::Worked;
 use si_hub::{Call, Hub};
+use si_interp::Logged;
 use si_parcel::Answer;
 use si_plain::{Limits, NoMemory};
 use si_world::{End, Recording, Report};
@@ -79,9 +80,24 @@ fn place_of(worked: &[Worked], i: u32) -> Option<usize>
     }
 }
 
+// Whether a log has the journal's calls of interpreter i, each once and in their order, where `made` interpreters were created: one
+// that was not has made none, and the journal is not gone over for it.
+fn has_calls(hub: &Hub, log: &[Logged], i: u32, made: u32) -> bool
+    requires { made ≡ created hub.now.past }
+    ensures yes { result ≡ true → calls_of i hub.now.past.journal ≡ exchanges log.now }
+    ensures no { result ≡ false → calls_of i hub.now.past.journal ≢ exchanges log.now }
+{
+    hub.facts();
+    if i >= made {
+        return log.is_empty();
+    }
+    agrees(hub.journal(), i, log)
+}
+
 // Whether the report of interpreter i has the journal's calls of it, and no more lines than there are turns.
-fn is_member(hub: &Hub, seen: &Worked, i: u32) -> bool
-    requires { seen.now.id ≡ i }
+fn is_member(hub: &Hub, seen: &Worked, i: u32, made: u32) -> bool
+    requires id { seen.now.id ≡ i }
+    requires made { made ≡ created hub.now.past }
     ensures yes { result ≡ true → IsMember hub.now.past i seen.now }
     ensures no { result ≡ false → (calls_of i hub.now.past.journal ≢ exchanges seen.now.log) ⊎ (hub.now.past.limits.turns < seen.now.locals) }
 {
@@ -89,12 +105,19 @@ fn is_member(hub: &Hub, seen: &Worked, i: u32) -> bool
     if seen.locals() > hub.limits().turns() {
         return false;
     }
-    agrees(hub.journal(), i, seen.log())
+    has_calls(hub, seen.log(), i, made)
 }
 
 // The report of interpreter i, by copy.
-fn member(alloc: Global, hub: &Hub, worked: &[Worked], i: u32) -> Result<Report, RunFault>
-    requires { i < hub.now.past.limits.interpreters }
+fn member(
+    alloc: Global,
+    hub: &Hub,
+    worked: &[Worked],
+    i: u32,
+    made: u32,
+) -> Result<Report, RunFault>
+    requires allowed { i < hub.now.past.limits.interpreters }
+    requires made { made ≡ created hub.now.past }
     ensures is { IfOk result (IsMember hub.now.past i) }
     ensures from { IfOk result (λ v. (k : ℕ) × IsReport worked.now i k v) }
     ensures fault { IfErr result (IsMemberFault hub.now.past worked.now) }
@@ -103,7 +126,7 @@ fn member(alloc: Global, hub: &Hub, worked: &[Worked], i: u32) -> Result<Report,
         None => Err(RunFault::Broken(i)),
         Some(place) => {
             let seen = &worked[place];
-            if !is_member(hub, seen, i) {
+            if !is_member(hub, seen, i, made) {
                 return Err(RunFault::Broken(i));
             }
             match seen.report(alloc) {
@@ -123,13 +146,14 @@ fn add(reports: &mut Vec<Report>, report: Report) -> Result<(), NoMemory>
 }
 
 // The reports of all interpreters that the limits allow, by their numbers.
-fn members(alloc: Global, hub: &Hub, worked: &[Worked]) -> Result<Vec<Report>, RunFault>
+fn members(alloc: Global, hub: &Hub, worked: &[Worked], made: u32) -> Result<Vec<Report>, RunFault>
+    requires { made ≡ created hub.now.past }
     ensures are { IfOk result (λ rs. AreMembers hub.now.past worked.now hub.now.past.limits.interpreters rs.items) }
     ensures fault { IfErr result (IsMemberFault hub.now.past worked.now) }
 {
     let mut reports = Vec::new(alloc);
     for i in 0..hub.limits().interpreters() {
-        match member(alloc, hub, worked, i) {
+        match member(alloc, hub, worked, i, made) {
             Err(fault) => return Err(fault),
             Ok(report) => add(&mut reports, report)?,
         }
@@ -143,9 +167,10 @@ fn record(alloc: Global, hub: &Hub, worked: &[Worked]) -> Result<Recording, RunF
     ensures of { IfOk result (IsOfReports hub.now.past worked.now) }
     ensures fault { IfErr result (IsRunFault hub.now.past worked.now hub.now.past.script hub.now.past.limits) }
 {
-    match members(alloc, hub, worked) {
+    let made = created(hub);
+    match members(alloc, hub, worked, made) {
         Err(fault) => Err(fault),
-        Ok(reports) => record_reports(alloc, hub, worked, reports),
+        Ok(reports) => record_reports(alloc, hub, worked, reports, made),
     }
 }
 
@@ -155,15 +180,17 @@ fn record_reports(
     hub: &Hub,
     worked: &[Worked],
     reports: Vec<Report>,
+    made: u32,
 ) -> Result<Recording, RunFault>
-    requires { AreMembers hub.now.past worked.now hub.now.past.limits.interpreters reports.items }
+    requires members { AreMembers hub.now.past worked.now hub.now.past.limits.interpreters reports.items }
+    requires made { made ≡ created hub.now.past }
     ensures gathered { IfOk result (IsGathered hub.now.past.script hub.now.past.limits) }
     ensures of { IfOk result (IsOfReports hub.now.past worked.now) }
     ensures fault { IfErr result (IsRunFault hub.now.past worked.now hub.now.past.script hub.now.past.limits) }
 {
     hub.facts();
     let mut reports = reports;
-    reports.truncate(created(hub) as usize);
+    reports.truncate(made as usize);
     match Recording::of(alloc, hub, reports) {
         Err(_) => Err(RunFault::NoMemory),
         Ok(recording) => match recording.end() {

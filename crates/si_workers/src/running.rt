@@ -18,6 +18,7 @@ use si_parcel::Action;
 use si_plain::{Limits, NoMemory};
 use si_world::{Recording, stretch};
 use std::alloc::Global;
+use std::hint::spin_loop;
 use std::sync::{Condvar, Mutex, MutexGuard, Wait};
 use std::thread;
 use std::thread::{JoinHandle, Threads};
@@ -82,6 +83,30 @@ fn give_back(interp: &mut Interp, action: Action) -> bool {
     true
 }
 
+// How often a worker tries to take the lock before it waits for it in the system: to sleep and to be woken takes longer than the lock
+// is held, and whoever gives it up then has to wake in turn.
+const TRIES: u32 = 200;
+
+// How long it pauses after each try, so that whoever has the lock is not held up by it.
+const PAUSES: u32 = 5;
+
+fn pause() {
+    for _ in 0..PAUSES {
+        spin_loop();
+    }
+}
+
+// Takes the lock.
+fn enter<'b, R: Wait>(rt: &R, shared: &'b Mutex<Shared>) -> MutexGuard<'b, Shared> {
+    for _ in 0..TRIES {
+        match shared.try_lock() {
+            Some(guard) => return guard,
+            None => pause(),
+        }
+    }
+    shared.lock(rt)
+}
+
 // Looks at the book some times, without the lock in between, until slot i is woken or all is over.
 fn look<'b, R: Wait>(rt: &R, guard: MutexGuard<'b, Shared>, i: u32) -> MutexGuard<'b, Shared> {
     let mut guard = guard;
@@ -91,7 +116,7 @@ fn look<'b, R: Wait>(rt: &R, guard: MutexGuard<'b, Shared>, i: u32) -> MutexGuar
         }
         let lock = MutexGuard::unlock(guard);
         thread::yield_now();
-        guard = lock.lock(rt);
+        guard = enter(rt, lock);
     }
     guard
 }
@@ -132,7 +157,7 @@ fn wait_in<'b, R: Wait>(
 
 // The worker of slot i is done. Those that wait are told, where none is left that could wake them.
 fn rest<R: Wait>(rt: &R, desk: &Desk, i: u32) {
-    let mut guard = desk.shared.lock(rt);
+    let mut guard = enter(rt, &desk.shared);
     if guard.book.is_busy(i) {
         guard.book.rest(i);
         if guard.book.over() {
@@ -160,7 +185,7 @@ fn share<R: Wait>(rt: &R, desk: &Desk, interp: &mut Interp, i: u32, action: Acti
     requires stands { interp.old.stand ≡ At (action_of action) }
     requires taken { interp.old.taken ≡ true }
 {
-    let mut guard = desk.shared.lock(rt);
+    let mut guard = enter(rt, &desk.shared);
     if !guard.book.is_busy(i) {
         return false;
     }

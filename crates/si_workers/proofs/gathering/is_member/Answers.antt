@@ -1,13 +1,13 @@
 use Rattle.std.proofs.Common.{◌≡◌, ◌∙◌, ◌≤◌, ap, sym, arith}
 use Rattle.si_plain.specs.Ranges.{Numbers}
-use Rattle.si_world.specs.Legal.{calls_of, exchanges}
+use Rattle.si_world.specs.Legal.{exchanges}
 use Rattle.si_workers.proofs.gathering.is_member.Goals as goal
 
 pub returns-clause-yes : goal.returns-clause-yes
 returns-clause-yes c = λ t. record {
-  id = c.requires;
+  id = c.requires.id;
   shows = c.facts.ensures.shows;
-  log = ap (calls_of c.args.i) (sym c.journal.ensures) ∙ c.agrees.ensures.yes t ∙ ap exchanges c.log.ensures;
+  log = c.has_calls.ensures.yes t ∙ ap exchanges c.log.ensures;
   taken = c.facts.ensures.free;
   locals =
       let a = c.if-locals-turns.false in

@@ -12,7 +12,7 @@ returns-then-not-is_member-clause-fault c =
     let lt : c.in-Some.place < length worked = slice_get_within worked c.in-Some.place some.0 some.1.at in
     let at = slice_get_read worked (length worked) c.in-Some.place c.index-worked-place.result refl lt c.index-worked-place.is in
     let report = report_read worked c.args.i c.in-Some.place some.0 c.index-worked-place.result some.1 at in
-    (c.requires, is_unfit c.args.hub.now.past worked c.args.i c.in-Some.place c.index-worked-place.result report (c.is_member.ensures.no c.if-not-is_member.true))
+    (c.requires.allowed, is_unfit c.args.hub.now.past worked c.args.i c.in-Some.place c.index-worked-place.result report (c.is_member.ensures.no c.if-not-is_member.true))
 
 pub returns-in-Ok-clause-is : goal.returns-in-Ok-clause-is
 returns-in-Ok-clause-is c = subst (IsMember c.args.hub.now.past c.args.i) (sym c.in-Ok.ensures) (c.is_member.ensures.yes c.if-not-is_member.false)
