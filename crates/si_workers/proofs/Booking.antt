@@ -1,11 +1,11 @@
 -- What a book keeps true.
-use Rattle.std.proofs.Common.{◌≡◌, ◌≢◌, ℕ, zero, suc, ◌+◌, ◌<◌, ◌≤◌, List, [], ◌∷◌, ◌++◌, length, set, replicate, refl, ap, sym, ◌∙◌, subst, arith, inl, inr, true, false, slice_get, Some, if◌then◌else◌, Bool}
+use Rattle.std.proofs.Common.{◌≡◌, ◌≢◌, ℕ, zero, suc, ◌+◌, List, [], ◌∷◌, length, set, replicate, refl, ap, sym, ◌∙◌, subst, arith, inl, inr, true, false, slice_get, Some, if◌then◌else◌, Bool}
 use Rattle.std.proofs.lemmas.List.{length-replicate, length-set}
 use Rattle.std.proofs.lemmas.Bool.Decides.{eqb_tells}
 use Rattle.si_semantics.specs.Actions.{Action}
 use Rattle.si_hub.specs.HubCode.{Past}
 use Rattle.si_hub.specs.Hubs.{IsTold, can_act}
-use Rattle.si_workers.specs.Books.{Slot, Busy, Woken, Waiting, Rest, BookView, book, with_slot, roused, roused_from, IsBook}
+use Rattle.si_workers.specs.Books.{Slot, Busy, Woken, Waiting, Rest, book, roused, roused_from, IsBook}
 use Rattle.si_workers.specs.inner.Slots.{is_waiting}
 
 busy_at : (n i : ℕ) (s : Slot) → slice_get (replicate n Busy) i ≡ Some s → s ≡ Busy

@@ -1,6 +1,6 @@
 -- What may cross threads: all that interpreters and hubs own, since it does so of parcels.
 use Rattle.std.specs.Thread.{IsSend, IsSync}
-use mathlib.Core.List.{List, [], ◌∷◌}
+use mathlib.Core.List.{[], ◌∷◌}
 use mir.Syntax.{Sym}
 use denote.RattleType.{RattleType}
 use denote.Struct.Tuple.{type_at, TupleAt}

@@ -1,7 +1,5 @@
 -- Interpreters that were created, and their reports, one more.
-use Rattle.std.proofs.Common.{◌≡◌, ◌≢◌, ℕ, zero, suc, ◌+◌, ◌<◌, ◌≤◌, ◌⊎◌, List, [], ◌∷◌, ◌++◌, length, length-append, take, drop, refl, ap, sym, ◌∙◌, subst, arith, inl, inr, slice_get, Some, None, if◌then◌else◌}
-use Rattle.std.proofs.lemmas.Bool.Decides.{eqb_tells}
-use Rattle.std.proofs.lemmas.Option.{slice_get_within}
+use Rattle.std.proofs.Common.{◌≡◌, ◌≢◌, ℕ, zero, suc, ◌+◌, ◌<◌, ◌≤◌, ◌⊎◌, List, [], ◌∷◌, ◌++◌, length, length-append, take, drop, refl, ap, sym, ◌∙◌, subst, arith, inl, inr, slice_get, Some, if◌then◌else◌}
 use Rattle.si_semantics.specs.History.{Call}
 use Rattle.si_hub.specs.HubCode.{Past}
 use Rattle.si_hub.specs.Hubs.{IsTold}

@@ -1,12 +1,10 @@
 -- What is put together is of a world at rest, which one order of turns leaves.
-use Rattle.std.proofs.Common.{◌≡◌, ◌≢◌, ℕ, zero, suc, ◌+◌, ◌<◌, ◌≤◌, ◌⊎◌, List, [], ◌∷◌, ◌++◌, length, map, take, refl, ap, sym, ◌∙◌, subst, arith, append_assoc, inl, inr, Bool, true, false, slice_get, slice_index, Some, if◌then◌else◌}
-use Rattle.std.specs.Prelude.{nat_le, nat_lt, ◌==◌}
+use Rattle.std.proofs.Common.{◌≡◌, ◌≢◌, ℕ, zero, suc, ◌+◌, ◌<◌, ◌≤◌, ◌⊎◌, List, [], ◌∷◌, ◌++◌, length, take, refl, ap, sym, ◌∙◌, subst, arith, append_assoc, inl, inr, Bool, true, false, slice_get, Some, if◌then◌else◌}
+use Rattle.std.specs.Prelude.{nat_le, nat_lt}
 use Rattle.std.proofs.lemmas.List.{length-take}
 use Rattle.std.proofs.lemmas.Bool.{ltb-true}
 use Rattle.std.proofs.lemmas.Bool.Decides.{eqb_tells}
 use Rattle.std.proofs.lemmas.Option.{slice_get_within}
-use Rattle.si_plain.specs.Ranges.{Numbers}
-use Rattle.si_semantics.specs.Value.{Text}
 use Rattle.si_semantics.specs.Actions.{Action}
 use Rattle.si_semantics.specs.Shared.{is_take}
 use Rattle.si_semantics.specs.History.{Call}
@@ -15,20 +13,20 @@ use Rattle.si_hub.specs.Hubs.{IsTold, can_act}
 use Rattle.si_interp.specs.Meaning.{InterpView, Stand, Ready, At, Gone, Starved}
 use Rattle.si_world.specs.declared.ending.End.{End}
 use Rattle.si_world.specs.declared.ending.End.TheVariants as end
-use Rattle.si_world.specs.Legal.{Exchange, exchange, chosen, calls_of}
-use Rattle.si_world.specs.Worlds.{WorldView, world, created, IsMember, IsWorld}
+use Rattle.si_world.specs.Legal.{exchange, chosen, calls_of}
+use Rattle.si_world.specs.Worlds.{WorldView, world, created, IsWorld}
 use Rattle.si_world.specs.Marks.{CanMove, AtRest}
-use Rattle.si_world.specs.Core.{Core, core_of, core_stand, core_text}
+use Rattle.si_world.specs.Core.{Core, core_of}
 use Rattle.si_world.specs.Reports.{end_by, first_of_ends, end_from, end_of, rank, members, recorded}
 use Rattle.si_world.proofs.Turning.{legal}
 use Rattle.si_world.proofs.Firsts.{created_first}
 use Rattle.si_world.proofs.Coring.{stands_so, prints_so, index-map}
 use Rattle.si_world.proofs.Ends.{rests_so}
-use Rattle.si_replay.specs.Replays.{callers, core_after, CoreAtRest, Completes, IsInCore, IsOfTurns}
+use Rattle.si_replay.specs.Replays.{callers, CoreAtRest, IsInCore, IsOfTurns}
 use Rattle.si_replay.specs.Order.{order_of}
 use Rattle.si_replay.proofs.Histories.{past_at, after_grows, caller_created}
 use Rattle.si_replay.proofs.Worlds.{order_is}
-use Rattle.si_workers.specs.Gathers.{LeavesAgain, IsGathered, IsReport, IsOpen, IsOfReports}
+use Rattle.si_workers.specs.Gathers.{LeavesAgain, IsGathered, IsOpen, IsOfReports}
 use Rattle.si_workers.specs.inner.Members.{AreMembers}
 
 -- ---- a world of all reports

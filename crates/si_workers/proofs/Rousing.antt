@@ -1,5 +1,5 @@
 -- Slots that are roused one after the other.
-use Rattle.std.proofs.Common.{◌≡◌, ℕ, zero, suc, ◌+◌, ◌<◌, ◌≤◌, List, [], ◌∷◌, length, set, refl, ap, sym, ◌∙◌, subst, arith, add-one, slice_get, Some}
+use Rattle.std.proofs.Common.{◌≡◌, ℕ, zero, suc, ◌+◌, ◌<◌, ◌≤◌, List, [], ◌∷◌, length, set, refl, ap, sym, ◌∙◌, arith, add-one, slice_get, Some}
 use Rattle.si_hub.specs.HubCode.{Past}
 use Rattle.si_workers.specs.Books.{Slot, roused, roused_from}
 use Rattle.si_workers.specs.inner.Slots.{roused_first}

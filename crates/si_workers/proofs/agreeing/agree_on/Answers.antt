@@ -1,4 +1,4 @@
-use Rattle.std.proofs.Common.{◌≡◌, ◌≢◌, ◌<◌, ◌≤◌, ◌∙◌, ap, sym, arith, refl, length}
+use Rattle.std.proofs.Common.{◌<◌, ◌∙◌, ap, sym, arith, refl, length}
 use Rattle.std.proofs.lemmas.Option.{slice_get_read}
 use Rattle.si_semantics.specs.History.{Call}
 use Rattle.si_workers.proofs.Logs.{other_more, own_more, log_short, log_differs}

@@ -1,4 +1,4 @@
-use Rattle.std.proofs.Common.{◌≡◌, ◌∙◌, ◌≤◌, ap, sym, arith}
+use Rattle.std.proofs.Common.{◌∙◌, ap, arith}
 use Rattle.si_plain.specs.Ranges.{Numbers}
 use Rattle.si_world.specs.Legal.{exchanges}
 use Rattle.si_workers.proofs.gathering.is_member.Goals as goal

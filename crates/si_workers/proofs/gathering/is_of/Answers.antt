@@ -1,4 +1,4 @@
-use Rattle.std.proofs.Common.{◌≡◌, ◌∙◌, List, ℕ, sym, inl}
+use Rattle.std.proofs.Common.{◌∙◌, sym, inl}
 use Rattle.si_workers.proofs.Scripts.{texts_differ}
 use Rattle.si_workers.proofs.gathering.is_of.Goals as goal
 

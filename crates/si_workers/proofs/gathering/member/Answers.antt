@@ -1,4 +1,4 @@
-use Rattle.std.proofs.Common.{◌≡◌, ◌<◌, ◌∙◌, arith, refl, sym, subst, length}
+use Rattle.std.proofs.Common.{◌<◌, refl, sym, subst, length}
 use Rattle.std.proofs.lemmas.Option.{slice_get_read, slice_get_within}
 use Rattle.si_world.specs.Worlds.{IsMember}
 use Rattle.si_workers.specs.Gathers.{IsReport}

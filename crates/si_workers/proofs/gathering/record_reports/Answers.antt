@@ -1,4 +1,4 @@
-use Rattle.std.proofs.Common.{◌≡◌, ◌∙◌, ap, inl, inr, refl, sym, take, ℕ}
+use Rattle.std.proofs.Common.{◌∙◌, ap, inl, inr, refl, sym, take, ℕ}
 use Rattle.si_world.proofs.Copying.{recorded_is}
 use Rattle.si_workers.proofs.Left.{world_of, is_open, gathered, of_reports}
 use Rattle.si_workers.proofs.gathering.record_reports.Goals as goal

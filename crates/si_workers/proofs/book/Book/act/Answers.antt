@@ -1,9 +1,8 @@
-use Rattle.std.proofs.Common.{◌≡◌, ◌∙◌, ap, sym, slice_get, Some}
+use Rattle.std.proofs.Common.{◌∙◌, ap, slice_get}
 use Rattle.std.proofs.lemmas.Option.{slice_get_within}
 use Rattle.si_hub.specs.HubCode.{Past}
-use Rattle.si_parcel.specs.Shared.{action_of}
 use Rattle.si_workers.specs.Books.{Busy, BookView}
-use Rattle.si_workers.proofs.Booking.{book_roused, book_waits}
+use Rattle.si_workers.proofs.Booking.{book_roused}
 use Rattle.si_workers.proofs.book.Book.act.Goals as goal
 
 pub invariant_of-self : goal.invariant_of-self
