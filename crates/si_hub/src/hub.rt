@@ -126,6 +126,13 @@ impl Hub {
         self.journal.as_slice()
     }
 
+    /// The same calls, handed over; all else is let go of.
+    pub fn into_journal(self) -> Vec<Call>
+        ensures { result.items ≡ self.past.journal }
+    {
+        self.journal
+    }
+
     /// The script of interpreter 0's first run.
     pub fn script(&self) -> &str
         ensures { characters_of result.now ≡ self.now.past.script }

@@ -190,6 +190,13 @@ impl Interp {
         self.log.as_slice()
     }
 
+    /// The same actions, handed over; all else is let go of.
+    pub fn into_log(self) -> Vec<Logged>
+        ensures { result.items ≡ self.log }
+    {
+        self.log
+    }
+
     /// How many lines it has run.
     pub fn locals(&self) -> u64
         ensures { result ≡ self.now.locals }

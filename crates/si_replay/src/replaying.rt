@@ -135,7 +135,7 @@ fn completed(
         Err(fault) => Err(fault),
         Ok(world) => {
             world.facts();
-            match world.recording() {
+            match world.into_recording() {
                 Ok(recording) => Ok(recording),
                 Err(_) => Err(ReplayFault::NoMemory),
             }

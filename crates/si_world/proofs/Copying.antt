@@ -33,6 +33,14 @@ take_none [] (suc i) e = refl
 take_none (x ∷ xs) zero e = cc
 take_none (x ∷ xs) (suc i) e = ap (λ (ys : List _). x ∷ ys) (take_none xs i e)
 
+-- what stands in a beginning stands there in the whole
+pub taken_get : {X : Type 0} (xs : List X) (n i : ℕ) (x : X) → slice_get (take n xs) i ≡ Some x → slice_get xs i ≡ Some x
+taken_get [] zero i x e = cc
+taken_get [] (suc n) i x e = cc
+taken_get (y ∷ xs) zero i x e = cc
+taken_get (y ∷ xs) (suc n) zero x e = e
+taken_get (y ∷ xs) (suc n) (suc i) x e = taken_get xs n i x e
+
 -- one that has not handed out its action is seen as it is
 pub free_view : (v : InterpView) → v.taken ≡ false → taken_view v false ≡ v
 free_view v e = ap (taken_view v) (sym e)

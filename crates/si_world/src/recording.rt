@@ -134,6 +134,23 @@ fn copy_reports(alloc: Global, interps: &[Interp], count: u32) -> Result<Vec<Rep
     Ok(copy)
 }
 
+// The same of interpreters that are let go of: the logs are taken over.
+fn take_reports(
+    alloc: Global,
+    mut interps: Vec<Interp>,
+    count: u32,
+) -> Result<Vec<Report>, NoMemory>
+    requires { AllFree interps.items }
+    ensures { IfOk result (λ reports. reports.items ≡ take count interps.items) }
+{
+    let mut reports = Vec::with_capacity(alloc, count as usize)?;
+    interps.truncate(count as usize);
+    for interp in interps {
+        reports.push(Report::taking(alloc, interp)?)?;
+    }
+    Ok(reports)
+}
+
 impl World {
     /// What is seen of interpreter i, if it was created.
     ///
@@ -161,6 +178,18 @@ impl World {
         let reports = copy_reports(self.alloc, self.interps.as_slice(), self.made)?;
         Recording::of(self.alloc, &self.hub, reports)
     }
+
+    /// The same of a world that is let go of: its journal and the logs of its interpreters are taken over, not copied.
+    ///
+    /// # Errors
+    ///
+    /// `NoMemory` where memory was refused. The world is gone then.
+    pub fn into_recording(self) -> Result<Recording, NoMemory>
+        ensures { IfOk result (λ r. r ≡ recorded self) }
+    {
+        let reports = take_reports(self.alloc, self.interps, self.made)?;
+        Recording::taking(self.alloc, self.hub, reports)
+    }
 }
 
 impl Recording {
@@ -183,6 +212,26 @@ impl Recording {
             script,
             limits,
             journal,
+            queues,
+            reports,
+            end,
+        })
+    }
+
+    // The same of a hub that is let go of: its journal is taken over.
+    fn taking(alloc: Global, hub: Hub, reports: Vec<Report>) -> Result<Recording, NoMemory>
+        requires { IsRecorded (world hub.past reports.items) }
+        ensures { IfOk result (λ r. r ≡ world hub.past reports.items) }
+    {
+        let script = Text::from_str(alloc, hub.script())?;
+        let limits = hub.limits();
+        let queues = copy_queues(alloc, &hub)?;
+        let _most = limits.interpreters();
+        let end = end_of_reports(&hub, reports.as_slice());
+        Ok(Recording {
+            script,
+            limits,
+            journal: hub.into_journal(),
             queues,
             reports,
             end,

@@ -97,6 +97,26 @@ impl Report {
         })
     }
 
+    // What is seen of an interpreter that is let go of: its log is taken over.
+    pub(crate) fn taking(alloc: Global, interp: Interp) -> Result<Report, NoMemory>
+        ensures { IfOk result (λ r. r ≡ taken_view interp false) }
+    {
+        let id = interp.id();
+        let printed = Text::from_str(alloc, interp.printed())?;
+        let locals = interp.locals();
+        let standing = standing_of(alloc, &interp)?;
+        let origins = Vec::from_slice(alloc, interp.origins())?;
+        let log = interp.into_log();
+        Ok(Report {
+            id,
+            printed,
+            log,
+            locals,
+            standing,
+            origins,
+        })
+    }
+
     /// The interpreter's number.
     pub fn id(&self) -> u32
         ensures { result ≡ self.now.id }
