@@ -1,15 +1,9 @@
-// Tests of interpreters, worlds, replays and workers, and of neighbours in a journal, through what is public there.
+// Tests of interpreters and worlds, through what is public there.
 //
 // They stand in a crate of their own, since a crate with tests is proved twice, and this one has nothing else.
 #![tactic(auto)]
 
 #[cfg(test)]
 mod interpreters;
-#[cfg(test)]
-mod neighbours;
-#[cfg(test)]
-mod replays;
-#[cfg(test)]
-mod workers;
 #[cfg(test)]
 mod worlds;

@@ -5,13 +5,26 @@ ghost use Rattle.std.specs.Prelude.{IfOk, IfSome, ◌<◌, length};
 ghost use Rattle.si_arena.specs.Memory.{AllLie, Lies, ObjectLies};
 
 use si_arena::{Arena, Characters, Object, Ref, View};
+use si_ops::push_repr;
 use si_plain::NoMemory;
+use std::alloc::Global;
 
 // A text that is placed, if it is.
 pub(crate) fn text(arena: &mut Arena, text: &str) -> Option<Ref>
     ensures { IfSome result (λ r. Lies arena.new r) }
 {
     match arena.place_text(text) {
+        Ok(value) => Some(value),
+        Err(_) => None,
+    }
+}
+
+// A tuple that is placed, if it is.
+pub(crate) fn tuple(arena: &mut Arena, items: &[Ref]) -> Option<Ref>
+    requires { AllLie arena.old items.now }
+    ensures { IfSome result (λ r. Lies arena.new r) }
+{
+    match arena.place_tuple(items) {
         Ok(value) => Some(value),
         Err(_) => None,
     }
@@ -49,6 +62,17 @@ pub(crate) fn name(arena: &mut Arena, name: &str) -> Result<usize, NoMemory>
     ensures { IfOk result (λ number. number < length arena.new.names) }
 {
     arena.add_name(name)
+}
+
+// Whether a value is written so by `repr`.
+pub(crate) fn is_repr(alloc: Global, arena: &Arena, value: Ref, wanted: &str) -> bool
+    requires { Lies arena.now value }
+{
+    let mut written = String::new(alloc);
+    match push_repr(&mut written, arena, value) {
+        Ok(()) => written.as_str() == wanted,
+        Err(_) => false,
+    }
 }
 
 // Whether a value is a text of these characters, each of one byte.

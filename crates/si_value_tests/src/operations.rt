@@ -5,7 +5,7 @@ ghost use Rattle.si_arena.specs.Memory.{Lies};
 
 use crate::made;
 use si_arena::{Arena, Cause, Contents, Object, Ref, Refusal, Short};
-use si_ops::{catches, push_repr, push_str, raised_by};
+use si_ops::{catches, push_str, raised_by};
 use si_plain::{Kind, ModuleName};
 use std::alloc::Global;
 use std::test::Fail;
@@ -21,22 +21,11 @@ fn is_str(alloc: Global, arena: &Arena, value: Ref, wanted: &str) -> bool
     }
 }
 
-// Whether a value is written so by `repr`.
-fn is_repr(alloc: Global, arena: &Arena, value: Ref, wanted: &str) -> bool
-    requires { Lies arena.now value }
-{
-    let mut written = String::new(alloc);
-    match push_repr(&mut written, arena, value) {
-        Ok(()) => written.as_str() == wanted,
-        Err(_) => false,
-    }
-}
-
 // Whether a value is written so by `str` and by `repr`.
 fn is_written(alloc: Global, arena: &Arena, value: Ref, str: &str, repr: &str) -> bool
     requires { Lies arena.now value }
 {
-    is_str(alloc, arena, value, str) && is_repr(alloc, arena, value, repr)
+    is_str(alloc, arena, value, str) && made::is_repr(alloc, arena, value, repr)
 }
 
 #[test]

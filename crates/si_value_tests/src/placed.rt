@@ -2,7 +2,7 @@
 
 ghost use Rattle.std.specs.Prelude.{IfSome, ◌<◌, length};
 ghost use Rattle.si_arena.specs.Causes.{CauseLies};
-ghost use Rattle.si_arena.specs.Memory.{AllLie, Lies};
+ghost use Rattle.si_arena.specs.Memory.{Lies};
 
 use crate::made;
 use si_arena::{Arena, Cause, Characters, Contents, Fault, Object, Ref, Refusal, Short, View};
@@ -80,17 +80,6 @@ fn a_text_has_an_end(rt: HostRuntime) -> Result<(), Fail> {
     Ok(())
 }
 
-// A tuple that is placed, if it is.
-fn tuple(arena: &mut Arena, items: &[Ref]) -> Option<Ref>
-    requires { AllLie arena.old items.now }
-    ensures { IfSome result (λ r. Lies arena.new r) }
-{
-    match arena.place_tuple(items) {
-        Ok(value) => Some(value),
-        Err(_) => None,
-    }
-}
-
 // Whether a value is a tuple of so many items, and has so many values in so many levels.
 fn has_size(arena: &Arena, value: Ref, items: usize, values: u32, levels: u32) -> bool
     requires { Lies arena.now value }
@@ -106,10 +95,10 @@ fn has_size(arena: &Arena, value: Ref, items: usize, values: u32, levels: u32) -
 #[test]
 fn a_tuple_holds_its_items(rt: HostRuntime) {
     let mut arena = Arena::new(rt.alloc());
-    let Some(empty) = tuple(&mut arena, &[]) else {
+    let Some(empty) = made::tuple(&mut arena, &[]) else {
         panic!(rt; "no empty tuple")
     };
-    let Some(pair) = tuple(&mut arena, &[Ref::Int(7), empty]) else {
+    let Some(pair) = made::tuple(&mut arena, &[Ref::Int(7), empty]) else {
         panic!(rt; "no pair")
     };
     assert!(rt; has_size(&arena, pair, 2, 3, 2));

@@ -1,9 +1,10 @@
 // Copies from end to end.
 
+ghost use Rattle.std.specs.Prelude.{IfSome, ◌≤◌, length};
 ghost use Rattle.si_arena.specs.Memory.{Lies};
 
 use crate::made;
-use si_arena::{Arena, BuiltIn, Object, Ref, Steps};
+use si_arena::{Arena, BuiltIn, Contents, Object, Ref, Short, Steps};
 use si_parcel::Parcel;
 use si_plain::{Kind, ModuleName, Octets, Text};
 use si_share::{ShareFault, copy_in, copy_out, is_shareable};
@@ -64,6 +65,27 @@ fn filled(alloc: Global) -> Result<Arena, AllocError> {
     Ok(arena)
 }
 
+// Whether the objects at the first addresses are exceptions that hold nothing, of the kind ValueError.
+fn are_value_errors(arena: &Arena, count: usize) -> bool
+    requires { count ≤ length arena.now.store }
+{
+    for address in 0..count {
+        match arena.object(address) {
+            Contents::Plain(Object::Bare(Kind::ValueError)) => {}
+            _ => return false,
+        }
+    }
+    true
+}
+
+// Whether an arena holds the hundred exceptions, and no object besides: one that is made comes after them.
+fn holds_a_hundred(arena: &mut Arena) -> Result<bool, AllocError> {
+    match made::object(arena, Object::Bare(Kind::TypeError))? {
+        Ref::Object(100) => Ok(are_value_errors(arena, 100)),
+        _ => Ok(false),
+    }
+}
+
 // What a value is that is copied out of an arena.
 fn out_of(alloc: Global, arena: &Arena, value: Ref) -> Result<Parcel, AllocError>
     requires { Lies arena.now value }
@@ -114,8 +136,7 @@ fn texts_are_copied(rt: HostRuntime) -> Result<(), Fail> {
     ] {
         assert!(rt; is_sent(rt.alloc(), &mut to, text)?, "{text}");
     }
-    let next = to.make(Object::Bare(Kind::TypeError))?;
-    assert!(rt; matches!(next, Ref::Object(100)));
+    assert!(rt; holds_a_hundred(&mut to)?);
     Ok(())
 }
 
@@ -142,12 +163,7 @@ fn numbers_are_copied(rt: HostRuntime) -> Result<(), Fail> {
     let from = Arena::new(rt.alloc());
     let mut to = filled(rt.alloc())?;
     for int in [i64::MIN, -1, 0, 1, i64::MAX] {
-        let parcel = Parcel::int(int);
-        assert!(rt; is_int(rt.alloc(), &from, int, &parcel)?, "{int}");
-        assert!(rt;
-            matches!(copy_in(&mut to, &parcel), Ok(Ref::Int(n)) if n == int),
-            "{int}"
-        );
+        assert!(rt; is_copied(rt.alloc(), &from, &mut to, int)?, "{int}");
     }
     Ok(())
 }
@@ -205,12 +221,26 @@ fn names_of_what_there_is_are_not_shareable(rt: HostRuntime) {
     assert!(rt; is_kept(alloc, &arena, Ref::Exec(1)));
 }
 
-#[test]
-fn lists_are_not_shareable(rt: HostRuntime) -> Result<(), Fail> {
-    let alloc = rt.alloc();
+fn list_is_kept(alloc: Global) -> Result<bool, AllocError> {
     let mut arena = Arena::new(alloc);
     let list = made::list(&mut arena, &[Ref::Int(1)])?;
-    assert!(rt; is_kept(alloc, &arena, list));
+    Ok(is_kept(alloc, &arena, list))
+}
+
+// Whether `(1, [2])` is not shareable.
+fn tuple_with_a_list_is_kept(alloc: Global) -> Result<bool, AllocError> {
+    let mut arena = Arena::new(alloc);
+    let list = made::list(&mut arena, &[Ref::Int(2)])?;
+    match made::tuple(&mut arena, &[Ref::Int(1), list]) {
+        Some(tuple) => Ok(is_kept(alloc, &arena, tuple)),
+        None => Err(AllocError),
+    }
+}
+
+#[test]
+fn lists_and_what_holds_them_are_not_shareable(rt: HostRuntime) -> Result<(), Fail> {
+    assert!(rt; list_is_kept(rt.alloc())?);
+    assert!(rt; tuple_with_a_list_is_kept(rt.alloc())?);
     Ok(())
 }
 
@@ -239,10 +269,43 @@ fn comes_back(alloc: Global, parcel: Parcel) -> Result<bool, AllocError> {
     goes_through(alloc, &mut arena, &parcel)
 }
 
+// `('a', (1, None), b'\x00')`, placed in an arena.
+fn placed_tuple(arena: &mut Arena) -> Option<Ref>
+    ensures { IfSome result (λ r. Lies arena.new r) }
+{
+    let inner = made::tuple(arena, &[Ref::Int(1), Ref::None])?;
+    let text = Ref::Short(Short::of(b'a'));
+    let bytes = Ref::ShortBytes(Short::of(b'\x00'));
+    made::tuple(arena, &[text, inner, bytes])
+}
+
+// The same, copied out of an arena of its own.
+fn sent_tuple(alloc: Global) -> Result<Parcel, AllocError> {
+    let mut arena = Arena::new(alloc);
+    match placed_tuple(&mut arena) {
+        Some(tuple) => out_of(alloc, &arena, tuple),
+        None => Err(AllocError),
+    }
+}
+
+// Whether a parcel is copied into an arena as a value that is written so.
+fn arrives_as(
+    alloc: Global,
+    arena: &mut Arena,
+    parcel: &Parcel,
+    repr: &str,
+) -> Result<bool, AllocError> {
+    let value = copy_in(arena, parcel)?;
+    Ok(made::is_repr(alloc, arena, value, repr))
+}
+
 #[test]
-fn tuples_go_over(rt: HostRuntime) -> Result<(), Fail> {
-    let parcel = nested(rt.alloc())?;
-    assert!(rt; comes_back(rt.alloc(), parcel)?);
+fn a_tuple_goes_over_to_a_hundred_objects(rt: HostRuntime) -> Result<(), Fail> {
+    let parcel = sent_tuple(rt.alloc())?;
+    let mut to = filled(rt.alloc())?;
+    let repr = "('a', (1, None), b'\\x00')";
+    assert!(rt; arrives_as(rt.alloc(), &mut to, &parcel, repr)?);
+    assert!(rt; holds_a_hundred(&mut to)?);
     Ok(())
 }
 

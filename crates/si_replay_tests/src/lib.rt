@@ -1,0 +1,9 @@
+// Tests of replays, and of neighbours in a journal, through what is public there.
+//
+// They stand in a crate of their own, since a crate with tests is proved twice, and this one has nothing else.
+#![tactic(auto)]
+
+#[cfg(test)]
+mod neighbours;
+#[cfg(test)]
+mod replays;
