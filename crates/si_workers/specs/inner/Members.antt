@@ -16,7 +16,7 @@ pub record IsFit (p : Past) (worked : List InterpView) (i : ℕ) : Type 0 where
   pub some : HasReport worked i
   pub each : (k : ℕ) (v : InterpView) → IsReport worked i k v → IsMember p i v
 
--- so do the first n interpreters
+-- the first n interpreters have
 abbrev pub AreFit : Past → List InterpView → ℕ → Type 0
 AreFit p worked n = (i : ℕ) → i < n → IsFit p worked i
 
