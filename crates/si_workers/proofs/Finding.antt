@@ -1,5 +1,6 @@
 -- Interpreters that were created, and their reports, one more.
 use Rattle.std.proofs.Common.{◌≡◌, ◌≢◌, ℕ, zero, suc, ◌+◌, ◌<◌, ◌≤◌, ◌⊎◌, List, [], ◌∷◌, ◌++◌, length, length-append, take, drop, refl, ap, sym, ◌∙◌, subst, arith, inl, inr, slice_get, Some, if◌then◌else◌}
+use Rattle.std.proofs.lemmas.Bool.Decides.{leb_tells, eqb_tells}
 use Rattle.si_semantics.specs.History.{Call}
 use Rattle.si_hub.specs.HubCode.{Past}
 use Rattle.si_hub.specs.Hubs.{IsTold}
@@ -12,7 +13,7 @@ use Rattle.si_world.proofs.Firsts.{created_first}
 use Rattle.si_replay.proofs.Histories.{past_at, acts_at, after_grows}
 use Rattle.si_world.specs.Legal.{calls_of, exchanges}
 use Rattle.si_workers.specs.Gathers.{IsReport, IsUnfit}
-use Rattle.si_workers.specs.inner.Members.{AreMembers}
+use Rattle.si_workers.specs.inner.Members.{IsFit}
 use Rattle.si_workers.proofs.Logs.{split_at, whole}
 
 -- ---- how many were created
@@ -41,28 +42,6 @@ created_more p k c n m t at e f =
 
 -- ---- reports
 
-get_snoc : (vs : List InterpView) (v u : InterpView) (i : ℕ) → slice_get (vs ++ v ∷ []) i ≡ Some u → (slice_get vs i ≡ Some u) ⊎ ((i ≡ length vs) × (v ≡ u))
-get_snoc [] v u zero e = let h : v ≡ u = cc in inr (refl, h)
-get_snoc [] v u (suc i) e = absurd (cc e)
-get_snoc (x ∷ vs) v u zero e = inl e
-get_snoc (x ∷ vs) v u (suc i) e = elim (get_snoc vs v u i e) [ inl h ↦ inl h | inr h ↦ inr (ap suc h.0, h.1) ]
-
-pub members_none : (p : Past) (worked : List InterpView) → AreMembers p worked 0 []
-members_none p worked = record { count = refl; each = λ i v at. absurd (cc at) }
-
-pub members_more : (p : Past) (worked : List InterpView) (n : ℕ) (vs ws : List InterpView) (v : InterpView) → AreMembers p worked n vs → ws ≡ vs ++ v ∷ [] → IsMember p n v → (k : ℕ) × IsReport worked n k v
-    → AreMembers p worked (n + 1) ws
-members_more p worked n vs ws v h e m r = record {
-  count = ap (λ (xs : List InterpView). length xs) e ∙ length-append vs (v ∷ []) ∙ ap (λ (x : ℕ). x + 1) h.count;
-  each = λ i u at.
-      elim (get_snoc vs v u i (ap (λ (xs : List InterpView). slice_get xs i) (sym e) ∙ at)) [
-        | inl a ↦ h.each i u a
-        | inr a ↦ (
-            let n_is : n ≡ i = sym h.count ∙ sym a.0 in
-            subst (λ (j : ℕ). IsMember p j u × ((k : ℕ) × IsReport worked j k u)) n_is (subst (λ (x : InterpView). IsMember p n x × ((k : ℕ) × IsReport worked n k x)) a.1 (m, r)))
-      ];
-}
-
 -- what is read at a report's place is the report
 pub report_read : (worked : List InterpView) (i k : ℕ) (v x : InterpView) → IsReport worked i k v → slice_get worked k ≡ Some x → IsReport worked i k x
 report_read worked i k v x r at =
@@ -73,3 +52,25 @@ report_read worked i k v x r at =
 pub is_unfit : (p : Past) (worked : List InterpView) (i k : ℕ) (x : InterpView) → IsReport worked i k x → (calls_of i p.journal ≢ exchanges x.log) ⊎ (p.limits.turns < x.locals) → IsUnfit p worked i
 is_unfit p worked i k x r (inl h) = inr (inr (inl (record { place = k; seen = x; report = r; differs = h })))
 is_unfit p worked i k x r (inr h) = inr (inr (inr (record { place = k; seen = x; report = r; more = h })))
+
+-- where no report of interpreter i stands before this one, nor after it, there is no other
+pub only_at : (worked : List InterpView) (i k : ℕ) → ((j : ℕ) (v : InterpView) → 0 ≤ j → j < k → IsReport worked i j v → ⊥) → ((j : ℕ) (v : InterpView) → k + 1 ≤ j → IsReport worked i j v → ⊥)
+    → (j : ℕ) (v : InterpView) → IsReport worked i j v → j ≡ k
+only_at worked i k before after j v r =
+    elim (leb_tells k j) [
+      | inl a ↦ elim (eqb_tells j k) [
+        | inl e ↦ e.1
+        | inr ne ↦ (let le = a.1 in let apart = ne.1 in let lt : k + 1 ≤ j = omega arith in absurd (after j v lt r))
+      ]
+      | inr a ↦ (let least : 0 ≤ j = omega arith in absurd (before j v least a.1 r))
+    ]
+
+-- and all is fit, where it is
+pub fit_at : (p : Past) (worked : List InterpView) (i k : ℕ) (x : InterpView) → IsReport worked i k x → ((j : ℕ) (v : InterpView) → IsReport worked i j v → j ≡ k) → IsMember p i x → IsFit p worked i
+fit_at p worked i k x r only m = record {
+  some = record { place = k; seen = x; report = r };
+  each = λ j v s.
+      let one : Some x ≡ Some v = sym r.at ∙ ap (λ (n : ℕ). slice_get worked n) (sym (only j v s)) ∙ s.at in
+      let same : x ≡ v = cc one in
+      subst (IsMember p i) same m;
+}

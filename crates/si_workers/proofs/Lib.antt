@@ -3,5 +3,6 @@ mod Booking
 mod Logs
 mod Scripts
 mod Finding
+mod Taking
 mod Left
 mod Crossing

@@ -1,13 +1,14 @@
 // What workers leave, put together.
 
-ghost use Rattle.std.specs.Prelude.{◌≡◌, ◌≢◌, ◌<◌, ◌≤◌, ◌⊎◌, ℕ, ◌+◌, IfOk, IfErr, IfSome, IfNone, OnOk, Some, None, ◌++◌, ◌∷◌, [], true, false, if◌then◌else◌, length, slice_get};
+ghost use Rattle.std.specs.Prelude.{◌≡◌, ◌≢◌, ◌<◌, ◌≤◌, ◌⊎◌, ℕ, ◌+◌, IfOk, IfErr, IfSome, IfNone, ◌∷◌, true, false, if◌then◌else◌};
+ghost use Rattle.std.specs.List.Sorted.{IsPermutation};
 ghost use Rattle.si_plain.specs.Characters.{characters_of};
 ghost use Rattle.si_interp.specs.Meaning.{InterpView};
 ghost use Rattle.si_world.specs.Legal.{calls_of, exchanges};
 ghost use Rattle.si_world.specs.Worlds.{IsMember, created};
 ghost use Rattle.si_world.specs.inner.Counting.{is_created};
 ghost use Rattle.si_workers.specs.Gathers.{IsGathered, IsOfReports, IsReport, IsMissing, IsDoubled, IsUnfit, IsStrange, IsRunFault};
-ghost use Rattle.si_workers.specs.inner.Members.{AreMembers, IsMemberFault};
+ghost use Rattle.si_workers.specs.inner.Members.{HasReport, AreReports, IsFit, AreFit};
 
 use crate::agreeing::agrees;
 use crate::book::Book;
@@ -56,6 +57,7 @@ fn created(hub: &Hub) -> u32
 // The first place of a report of interpreter i from this place on.
 fn first_from(worked: &[Worked], i: u32, from: usize) -> Option<usize>
     ensures some { IfSome result (λ k. (from ≤ k) × ((v : InterpView) × IsReport worked.now i k v)) }
+    ensures first { IfSome result (λ k. (j : ℕ) (v : InterpView) → from ≤ j → j < k → IsReport worked.now i j v → ⊥) }
     ensures none { IfNone result ((k : ℕ) (v : InterpView) → from ≤ k → IsReport worked.now i k v → ⊥) }
 {
     for k in from..worked.len() {
@@ -69,6 +71,7 @@ fn first_from(worked: &[Worked], i: u32, from: usize) -> Option<usize>
 // The place of interpreter i's report, if it has one and no other.
 fn place_of(worked: &[Worked], i: u32) -> Option<usize>
     ensures some { IfSome result (λ k. (v : InterpView) × IsReport worked.now i k v) }
+    ensures only { IfSome result (λ k. (j : ℕ) (v : InterpView) → IsReport worked.now i j v → j ≡ k) }
     ensures none { IfNone result (IsMissing worked.now i ⊎ IsDoubled worked.now i) }
 {
     match first_from(worked, i, 0) {
@@ -108,100 +111,97 @@ fn is_member(hub: &Hub, seen: &Worked, i: u32, made: u32) -> bool
     has_calls(hub, seen.log(), i, made)
 }
 
-// The report of interpreter i, by copy.
-fn member(
-    alloc: Global,
-    hub: &Hub,
-    worked: &[Worked],
-    i: u32,
-    made: u32,
-) -> Result<Report, RunFault>
-    requires allowed { i < hub.now.past.limits.interpreters }
-    requires made { made ≡ created hub.now.past }
-    ensures is { IfOk result (IsMember hub.now.past i) }
-    ensures from { IfOk result (λ v. (k : ℕ) × IsReport worked.now i k v) }
-    ensures fault { IfErr result (IsMemberFault hub.now.past worked.now) }
+// Whether interpreter i has one report, with the journal's calls of it, and no more lines than there are turns.
+fn is_fit(hub: &Hub, worked: &[Worked], i: u32, made: u32) -> bool
+    requires { made ≡ created hub.now.past }
+    ensures yes { result ≡ true → IsFit hub.now.past worked.now i }
+    ensures no { result ≡ false → IsUnfit hub.now.past worked.now i }
 {
     match place_of(worked, i) {
-        None => Err(RunFault::Broken(i)),
-        Some(place) => {
-            let seen = &worked[place];
-            if !is_member(hub, seen, i, made) {
-                return Err(RunFault::Broken(i));
-            }
-            match seen.report(alloc) {
-                Ok(report) => Ok(report),
-                Err(_) => Err(RunFault::NoMemory),
-            }
-        }
+        None => false,
+        Some(place) => is_member(hub, &worked[place], i, made),
     }
 }
 
-// One report more.
-fn add(reports: &mut Vec<Report>, report: Report) -> Result<(), NoMemory>
-    ensures { OnOk result (reports.new.items ≡ reports.old.items ++ report ∷ []) }
+// The first interpreter that the limits allow of which what is left doesn't fit the journal.
+fn first_unfit(hub: &Hub, worked: &[Worked], made: u32) -> Option<u32>
+    requires { made ≡ created hub.now.past }
+    ensures some { IfSome result (λ i. (i < hub.now.past.limits.interpreters) × IsUnfit hub.now.past worked.now i) }
+    ensures none { IfNone result (AreFit hub.now.past worked.now hub.now.past.limits.interpreters) }
 {
-    reports.push(report)?;
-    Ok(())
+    for i in 0..hub.limits().interpreters() {
+        if !is_fit(hub, worked, i, made) {
+            return Some(i);
+        }
+    }
+    None
 }
 
-// The reports of all interpreters that the limits allow, by their numbers.
-fn members(alloc: Global, hub: &Hub, worked: &[Worked], made: u32) -> Result<Vec<Report>, RunFault>
-    requires { made ≡ created hub.now.past }
-    ensures are { IfOk result (λ rs. AreMembers hub.now.past worked.now hub.now.past.limits.interpreters rs.items) }
-    ensures fault { IfErr result (IsMemberFault hub.now.past worked.now) }
+// A report of interpreter i, of those that are left.
+fn take_report(alloc: Global, worked: &mut Vec<Worked>, i: u32) -> Result<Report, NoMemory>
+    requires { HasReport worked.old.items i }
+    ensures id { IfOk result (λ v. v.id ≡ i) }
+    ensures others { IfOk result (λ v. IsPermutation worked.old.items (v ∷ worked.new.items)) }
 {
-    let mut reports = Vec::new(alloc);
-    for i in 0..hub.limits().interpreters() {
-        match member(alloc, hub, worked, i, made) {
-            Err(fault) => return Err(fault),
-            Ok(report) => add(&mut reports, report)?,
-        }
+    match first_from(worked.as_slice(), i, 0) {
+        None => unreachable!(),
+        Some(place) => worked.swap_remove(place).into_report(alloc),
+    }
+}
+
+// The reports of the first so many interpreters, by their numbers. What is left of interpreters is let go of: their logs are
+// taken over.
+fn take_reports(alloc: Global, mut worked: Vec<Worked>, count: u32) -> Result<Vec<Report>, NoMemory>
+    requires { (i : ℕ) → i < count → HasReport worked.items i }
+    ensures { IfOk result (λ reports. AreReports worked.items count reports.items) }
+{
+    let mut reports = Vec::with_capacity(alloc, count as usize)?;
+    for i in 0..count {
+        reports.push(take_report(alloc, &mut worked, i)?)?;
     }
     Ok(reports)
 }
 
-// What is recorded of a hub of this script and limits, with the reports of all interpreters.
-fn record(alloc: Global, hub: &Hub, worked: &[Worked]) -> Result<Recording, RunFault>
-    ensures gathered { IfOk result (IsGathered hub.now.past.script hub.now.past.limits) }
-    ensures of { IfOk result (IsOfReports hub.now.past worked.now) }
-    ensures fault { IfErr result (IsRunFault hub.now.past worked.now hub.now.past.script hub.now.past.limits) }
+// What is recorded of a hub of this script and limits, with the reports of all interpreters. All is tested before anything is
+// taken over.
+fn record(alloc: Global, hub: Hub, worked: Vec<Worked>) -> Result<Recording, RunFault>
+    ensures gathered { IfOk result (IsGathered hub.past.script hub.past.limits) }
+    ensures of { IfOk result (IsOfReports hub.past worked.items) }
+    ensures fault { IfErr result (IsRunFault hub.past worked.items hub.past.script hub.past.limits) }
 {
-    let made = created(hub);
-    match members(alloc, hub, worked, made) {
-        Err(fault) => Err(fault),
-        Ok(reports) => record_reports(alloc, hub, worked, reports, made),
+    let made = created(&hub);
+    match first_unfit(&hub, worked.as_slice(), made) {
+        Some(i) => Err(RunFault::Broken(i)),
+        None => record_fit(alloc, hub, worked, made),
     }
 }
 
-// The same, with the reports of all interpreters that the limits allow, by their numbers.
-fn record_reports(
+// The same where what is left of each interpreter fits the journal.
+fn record_fit(
     alloc: Global,
-    hub: &Hub,
-    worked: &[Worked],
-    reports: Vec<Report>,
+    hub: Hub,
+    worked: Vec<Worked>,
     made: u32,
 ) -> Result<Recording, RunFault>
-    requires members { AreMembers hub.now.past worked.now hub.now.past.limits.interpreters reports.items }
-    requires made { made ≡ created hub.now.past }
-    ensures gathered { IfOk result (IsGathered hub.now.past.script hub.now.past.limits) }
-    ensures of { IfOk result (IsOfReports hub.now.past worked.now) }
-    ensures fault { IfErr result (IsRunFault hub.now.past worked.now hub.now.past.script hub.now.past.limits) }
+    requires fit { AreFit hub.past worked.items hub.past.limits.interpreters }
+    requires made { made ≡ created hub.past }
+    ensures gathered { IfOk result (IsGathered hub.past.script hub.past.limits) }
+    ensures of { IfOk result (IsOfReports hub.past worked.items) }
+    ensures fault { IfErr result (IsRunFault hub.past worked.items hub.past.script hub.past.limits) }
 {
     hub.facts();
-    let mut reports = reports;
+    let mut reports = take_reports(alloc, worked, hub.limits().interpreters())?;
     reports.truncate(made as usize);
-    match Recording::of(alloc, hub, reports) {
-        Err(_) => Err(RunFault::NoMemory),
-        Ok(recording) => match recording.end() {
-            End::Open => Err(RunFault::Broken(0)),
-            _ => Ok(recording),
-        },
+    let recording = Recording::taking(alloc, hub, reports)?;
+    match recording.end() {
+        End::Open => Err(RunFault::Broken(0)),
+        _ => Ok(recording),
     }
 }
 
 /// What is recorded of a run of this script within these limits, of what its workers have left: the book, and of each
-/// interpreter that the limits allow what its worker has left of it, in any order.
+/// interpreter that the limits allow what its worker has left of it, in any order. The journal and the logs are taken over, not
+/// copied.
 ///
 /// # Errors
 ///
@@ -226,5 +226,5 @@ pub fn gather(
     if !is_of(&hub, script, limits) {
         return Err(RunFault::Broken(0));
     }
-    record(alloc, &hub, worked.as_slice())
+    record(alloc, hub, worked)
 }

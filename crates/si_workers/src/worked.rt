@@ -69,10 +69,10 @@ impl Worked {
         self.interp.locals()
     }
 
-    // Its report, by copy.
-    pub(crate) fn report(&self, alloc: Global) -> Result<Report, NoMemory>
-        ensures { IfOk result (λ r. r ≡ self.now) }
+    // Its report: its log is taken over, not copied.
+    pub(crate) fn into_report(self, alloc: Global) -> Result<Report, NoMemory>
+        ensures { IfOk result (λ r. r ≡ self) }
     {
-        Report::of(alloc, &self.interp)
+        Report::taking(alloc, self.interp)
     }
 }

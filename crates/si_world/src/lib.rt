@@ -6,8 +6,8 @@
 // which turns led there, and `World::serial` gives turns in rounds until nothing can move.
 //
 // In reading order: `mark` (what a turn did), `moving` (a turn of one interpreter), `world` (all of them, and a turn),
-// `listed` (turns of a list), `rounds` (turns in rounds), `ending` (how it ended), `report` and `recording` (copies of what
-// is seen).
+// `listed` (turns of a list), `rounds` (turns in rounds), `ending` (how it ended), `report` and `recording` (what is seen, by
+// copy or taken over).
 #![tactic(auto)]
 
 mod ending;

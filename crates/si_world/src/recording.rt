@@ -1,4 +1,4 @@
-// What is seen of a world, by copy.
+// What is seen of a world.
 
 ghost use Rattle.std.specs.Prelude.{◌≡◌, ◌≤◌, ◌<◌, IfOk, IfSome, MatchOption, None, Some, length, slice_get, take};
 ghost use Rattle.si_plain.specs.Characters.{characters_of};
@@ -218,8 +218,12 @@ impl Recording {
         })
     }
 
-    // The same of a hub that is let go of: its journal is taken over.
-    fn taking(alloc: Global, hub: Hub, reports: Vec<Report>) -> Result<Recording, NoMemory>
+    /// The same of a hub that is let go of: its journal is taken over, not copied.
+    ///
+    /// # Errors
+    ///
+    /// `NoMemory` where memory was refused. The hub is gone then.
+    pub fn taking(alloc: Global, hub: Hub, reports: Vec<Report>) -> Result<Recording, NoMemory>
         requires { IsRecorded (world hub.past reports.items) }
         ensures { IfOk result (λ r. r ≡ world hub.past reports.items) }
     {

@@ -1,7 +1,7 @@
-// What is seen of one interpreter, by copy.
+// What is seen of one interpreter.
 
-ghost use Rattle.std.specs.Prelude.{◌≡◌, IfOk, false};
-ghost use Rattle.si_interp.specs.View.{taken_view};
+ghost use Rattle.std.specs.Prelude.{◌≡◌, [], IfOk, false};
+ghost use Rattle.si_interp.specs.View.{taken_view, view_of};
 ghost use Rattle.si_world.specs.Reports.{stand_of};
 
 use si_interp::{Interp, Logged, RunOrigin, State};
@@ -79,7 +79,21 @@ fn standing_of(alloc: Global, interp: &Interp) -> Result<Standing, NoMemory>
 }
 
 impl Report {
-    /// What is seen of an interpreter.
+    // What is seen of an interpreter, but for its log.
+    fn without_log(alloc: Global, interp: &Interp) -> Result<Report, NoMemory>
+        ensures { IfOk result (λ r. r ≡ view_of interp.now.id interp.now.printed [] interp.now.locals interp.now.stand false) }
+    {
+        Ok(Report {
+            id: interp.id(),
+            printed: Text::from_str(alloc, interp.printed())?,
+            log: Vec::new(alloc),
+            locals: interp.locals(),
+            standing: standing_of(alloc, interp)?,
+            origins: Vec::from_slice(alloc, interp.origins())?,
+        })
+    }
+
+    /// What is seen of an interpreter, by copy.
     ///
     /// # Errors
     ///
@@ -87,34 +101,22 @@ impl Report {
     pub fn of(alloc: Global, interp: &Interp) -> Result<Report, NoMemory>
         ensures { IfOk result (λ r. r ≡ taken_view interp.now false) }
     {
-        Ok(Report {
-            id: interp.id(),
-            printed: Text::from_str(alloc, interp.printed())?,
-            log: copy_log(alloc, interp.log())?,
-            locals: interp.locals(),
-            standing: standing_of(alloc, interp)?,
-            origins: Vec::from_slice(alloc, interp.origins())?,
-        })
+        let mut report = Report::without_log(alloc, interp)?;
+        report.log = copy_log(alloc, interp.log())?;
+        Ok(report)
     }
 
-    // What is seen of an interpreter that is let go of: its log is taken over.
-    pub(crate) fn taking(alloc: Global, interp: Interp) -> Result<Report, NoMemory>
+    /// The same of an interpreter that is let go of: its log is taken over, not copied.
+    ///
+    /// # Errors
+    ///
+    /// `NoMemory` where memory was refused. The interpreter is gone then.
+    pub fn taking(alloc: Global, interp: Interp) -> Result<Report, NoMemory>
         ensures { IfOk result (λ r. r ≡ taken_view interp false) }
     {
-        let id = interp.id();
-        let printed = Text::from_str(alloc, interp.printed())?;
-        let locals = interp.locals();
-        let standing = standing_of(alloc, &interp)?;
-        let origins = Vec::from_slice(alloc, interp.origins())?;
-        let log = interp.into_log();
-        Ok(Report {
-            id,
-            printed,
-            log,
-            locals,
-            standing,
-            origins,
-        })
+        let mut report = Report::without_log(alloc, &interp)?;
+        report.log = interp.into_log();
+        Ok(report)
     }
 
     /// The interpreter's number.
