@@ -7,7 +7,6 @@ use Rattle.std.proofs.lemmas.List.Sorted.{IsPermutation-refl, IsPermutation-sym,
 use Rattle.std.proofs.lemmas.Option.{slice_get_read, slice_get_within, get_or_from_slice_get}
 use Rattle.si_hub.specs.HubCode.{Past}
 use Rattle.si_interp.specs.Meaning.{InterpView}
-use Rattle.si_workers.specs.Gathers.{IsReport}
 use Rattle.si_workers.specs.inner.Members.{HasReport, AreReports, AreFit, AreMembers}
 
 contains_at : (xs : List InterpView) (k : ℕ) (x : InterpView) → slice_get xs k ≡ Some x → Contains xs x

@@ -1,4 +1,4 @@
-use Rattle.std.proofs.Common.{◌≡◌, ◌<◌, ◌∙◌, ap, inl, inr, refl, sym, subst, take, ℕ}
+use Rattle.std.proofs.Common.{◌<◌, ◌∙◌, ap, inl, inr, refl, sym, subst, take, ℕ}
 use Rattle.si_plain.specs.Ranges.{Numbers}
 use Rattle.si_world.proofs.Copying.{recorded_is}
 use Rattle.si_workers.specs.inner.Members.{AreReports}

@@ -1,4 +1,4 @@
-use Rattle.std.proofs.Common.{◌≡◌, ℕ, arith, subst, sym}
+use Rattle.std.proofs.Common.{◌≡◌, ℕ, arith, subst}
 use Rattle.si_workers.specs.inner.Members.{AreReports}
 use Rattle.si_workers.proofs.Taking.{taken_more, next_left, taken_all}
 use Rattle.si_workers.proofs.gathering.take_reports.Goals as goal
