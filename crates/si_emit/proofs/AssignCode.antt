@@ -7,12 +7,12 @@ use Rattle.si_semantics.specs.Tree.{count_of_targets}
 use Rattle.si_syntax.specs.declared.target.Target.{Target}
 use Rattle.si_syntax.specs.Trees.{target_of, targets_of}
 use Rattle.si_syntax.proofs.Rows.{rest_is}
-use Rattle.si_slots.specs.declared.operand.Source as operand
+use Rattle.si_slots.specs.declared.operand.Operand as operand
 use Rattle.si_slots.specs.Machine as machine
 use Rattle.si_slots.specs.Machine.{Source, Kept, ToTemporary, ToNowhere}
 use Rattle.si_slots.specs.Code.{in_place, expr_code, target_code, targets_code, each_code, store_code, assign_target_code, assign_all_code}
 use Rattle.si_slots.specs.Contents.{Contents}
-use Rattle.si_slots.specs.Views.{Gains, locals_now, words_now, source_of}
+use Rattle.si_slots.specs.Views.{Gains, locals_now, words_now, operand_of}
 use Rattle.si_slots.proofs.Gained.{Gains-append, locals_kept}
 use Rattle.si_emit.specs.inner.Fronts.{front, held}
 use Rattle.si_emit.specs.inner.Stores.{stored, one_or}
@@ -33,8 +33,8 @@ pub not_stored : (a b c : Option Source) (s t : Source) → Some s ≡ a → Som
 not_stored a b c s t is_a is_b is_c = ap (λ o. stored o b c) (sym is_a) ∙ ap (λ o. stored (Some s) o c) (sym is_b) ∙ ap (stored (Some s) (Some t)) (sym is_c)
 
 -- an operand that is unpacked, and the targets
-pub unpacks : {t0 t1 t2 : Contents} (ls : List Text) (a : tree.Expr) (ts : tree.Targets) (s : operand.Source) → locals_now t0 ≡ ls → Gains t0 t1 (front (in_place ls a) (expr_code ls 0 (ToTemporary 0) a)) → Lies ls s (held (in_place ls a) 0)
-    → Gains t1 t2 (machine.Unpack (source_of (words_now t1) s) 0 (count_of_targets ts) ∷ targets_code ls 0 ts) → Gains t0 t2 (assign_target_code ls (tree.Unpack ts) a)
+pub unpacks : {t0 t1 t2 : Contents} (ls : List Text) (a : tree.Expr) (ts : tree.Targets) (s : operand.Operand) → locals_now t0 ≡ ls → Gains t0 t1 (front (in_place ls a) (expr_code ls 0 (ToTemporary 0) a)) → Lies ls s (held (in_place ls a) 0)
+    → Gains t1 t2 (machine.Unpack (operand_of (words_now t1) s) 0 (count_of_targets ts) ∷ targets_code ls 0 ts) → Gains t0 t2 (assign_target_code ls (tree.Unpack ts) a)
 unpacks {t0} {t1} {t2} ls a ts s names h lies k =
     let code = expr_code ls 0 (ToTemporary 0) a in
     let before = front (in_place ls a) code in

@@ -2,12 +2,12 @@
 use Rattle.std.proofs.Common.{◌≡◌, ℕ, ◌+◌, ◌-◌, ◌≤◌, List, [], ◌∷◌, ◌++◌, length, true, Result, Ok, Err, OnOk, OnErr, sym, ap, subst, ◌∙◌, append_assoc, length-append, arith}
 use Rattle.si_semantics.specs.Value.{Text}
 use Rattle.si_semantics.specs.Tree as tree
-use Rattle.si_slots.specs.declared.operand.Source as operand
+use Rattle.si_slots.specs.declared.operand.Operand as operand
 use Rattle.si_slots.specs.Machine as machine
 use Rattle.si_slots.specs.Machine.{Source, Temporary, ToTemporary, ToJump, Target, Ahead, Back}
 use Rattle.si_slots.specs.Code.{in_place, expr_code, with_code, condition_code, loop_code, for_code}
 use Rattle.si_slots.specs.Contents.{Contents, Extends}
-use Rattle.si_slots.specs.Views.{Gains, locals_now, words_now, source_of}
+use Rattle.si_slots.specs.Views.{Gains, locals_now, words_now, operand_of}
 use Rattle.si_slots.specs.inner.Jumps.{Leads, Bounds}
 use Rattle.si_slots.proofs.Gained.{Extends-trans, Gains-append, length_gained}
 use Rattle.si_emit.specs.inner.Fronts.{front, held}
@@ -72,8 +72,8 @@ entry ls a = with_code ls a (λ s. machine.StartFor 0 0 s)
 
 module _ (ls : List Text) (a : tree.Expr) where
   -- what it goes over, and the entry
-  pub entry_gains : {t0 t1 t2 t3 : Contents} (s : operand.Source) (bound : List machine.Instr) → locals_now t0 ≡ ls → Gains t0 t1 (front (in_place ls a) (expr_code ls 0 (ToTemporary 0) a)) → Lies ls s (held (in_place ls a) 0)
-      → Gains t1 t2 (machine.StartFor 0 0 (source_of (words_now t1) s) ∷ []) → Gains t2 t3 bound → Gains t0 t3 (entry ls a ++ bound)
+  pub entry_gains : {t0 t1 t2 t3 : Contents} (s : operand.Operand) (bound : List machine.Instr) → locals_now t0 ≡ ls → Gains t0 t1 (front (in_place ls a) (expr_code ls 0 (ToTemporary 0) a)) → Lies ls s (held (in_place ls a) 0)
+      → Gains t1 t2 (machine.StartFor 0 0 (operand_of (words_now t1) s) ∷ []) → Gains t2 t3 bound → Gains t0 t3 (entry ls a ++ bound)
   entry_gains {t0} {t1} {t2} {t3} s bound names h lies k l =
       let place = in_place ls a in
       let code = expr_code ls 0 (ToTemporary 0) a in

@@ -13,12 +13,12 @@ use Rattle.si_syntax.specs.declared.target.Target.TheVariants.{rolls-Unpack}
 use Rattle.si_syntax.specs.declared.target.Target.TheViews as views
 use Rattle.si_syntax.specs.Trees.{expr_of, object_of, index_of, target_of, targets_of, target_step}
 use Rattle.si_syntax.proofs.Rows.{rest_is}
-use Rattle.si_slots.specs.declared.operand.Source as operand
+use Rattle.si_slots.specs.declared.operand.Operand as operand
 use Rattle.si_slots.specs.Machine as machine
 use Rattle.si_slots.specs.Machine.{Source, Temporary, ToTemporary}
 use Rattle.si_slots.specs.Code.{in_place, pair_code, expr_code, target_code, targets_code}
 use Rattle.si_slots.specs.Contents.{Contents}
-use Rattle.si_slots.specs.Views.{Gains, locals_now, words_now, source_of}
+use Rattle.si_slots.specs.Views.{Gains, locals_now, words_now, operand_of}
 use Rattle.si_slots.proofs.Gained.{Gains-nil, Gains-append}
 use Rattle.si_emit.specs.inner.Fronts.{kept, front, held, is_there}
 use Rattle.si_emit.proofs.Emitted.{Lies, pair_gains}
@@ -35,11 +35,11 @@ count_row (t ∷ ts) = omega (arith, count_row ts)
 -- ---- an item
 
 -- an object and an index, and an instruction with both
-pub item_gains : {t0 t1 t2 t3 : Contents} (ls : List Text) (d up : ℕ) (item : Item) (x y z : Expr) (stays : Bool) (s u : operand.Source) (i : Source → Source → machine.Instr)
+pub item_gains : {t0 t1 t2 t3 : Contents} (ls : List Text) (d up : ℕ) (item : Item) (x y z : Expr) (stays : Bool) (s u : operand.Operand) (i : Source → Source → machine.Instr)
     → x ≡ item.object.value → y ≡ item.index.value → z ≡ item.index.value → up ≡ d + 1 → stays ≡ is_there (in_place ls (expr_of z)) → locals_now t0 ≡ ls
     → Gains t0 t1 (front (kept stays (in_place ls (expr_of x))) (expr_code ls d (ToTemporary d) (expr_of x))) → Lies ls s (held (kept stays (in_place ls (expr_of x))) d)
     → Gains t1 t2 (front (in_place ls (expr_of y)) (expr_code ls up (ToTemporary up) (expr_of y))) → Lies ls u (held (in_place ls (expr_of y)) up)
-    → Gains t2 t3 (i (source_of (words_now t2) s) (source_of (words_now t2) u) ∷ [])
+    → Gains t2 t3 (i (operand_of (words_now t2) s) (operand_of (words_now t2) u) ∷ [])
     → Gains t0 t3 (pair_code (in_place ls (object_of item)) (in_place ls (index_of item)) (expr_code ls d (ToTemporary d) (object_of item)) (expr_code ls (d + 1) (ToTemporary (d + 1)) (index_of item)) d i)
 item_gains {t0} {t1} {t2} {t3} ls d up item x y z stays s u i at_object at_index at_there next there names h lies k lies_right l =
     let first = subst (λ e. Gains t0 t1 (front (kept stays (in_place ls (expr_of e))) (expr_code ls d (ToTemporary d) (expr_of e)))) at_object h in

@@ -4,16 +4,16 @@ ghost use Rattle.std.specs.Option.{option_map};
 ghost use Rattle.si_semantics.specs.Tree as tree;
 ghost use Rattle.si_syntax.specs.Trees.{expr_of, index_of, object_of, target_of, targets_of};
 ghost use Rattle.si_slots.specs.Code.{assign_all_code, assign_target_code, delete_code, in_place};
-ghost use Rattle.si_slots.specs.Contents.{Extends, FullResolves};
-ghost use Rattle.si_slots.specs.Views.{Gains, Words, full_of, locals_now};
+ghost use Rattle.si_slots.specs.Contents.{Extends, NamedResolves};
+ghost use Rattle.si_slots.specs.Views.{Gains, Words, locals_now, named_of};
 ghost use Rattle.si_emit.specs.inner.Stores.{stored};
 
 use crate::expression::{emit_expr, emit_operand};
 use crate::naming::bind_value;
-use crate::operand::operand_of;
+use crate::operand::operand_in_place;
 use crate::targets::{emit_item, emit_store, emit_target, emit_unpack};
 use si_plain::{Names, NoMemory};
-use si_slots::{CodeTable, FullInstr, Source};
+use si_slots::{CodeTable, FullInstr, NamedInstr, Source};
 use si_syntax::{Assign, Expr, Item, Target};
 
 /// Each of some targets is bound to the value of an expression.
@@ -107,7 +107,7 @@ fn assign_item(
     ensures extends { Extends table.old table.new }
 {
     match store_in_place(locals, item, value) {
-        Some(instr) => table.put(instr),
+        Some(instr) => table.put_named(instr),
         None => {
             emit_expr(table, locals, 0, si_slots::Target::Temporary(0), value)?;
             emit_store(table, locals, 0, item)
@@ -116,14 +116,14 @@ fn assign_item(
 }
 
 // The instruction that sets an item to the value of an expression, where the value, the object and the index need none.
-fn store_in_place(locals: &Names, item: &Item, value: &Expr) -> Option<FullInstr>
-    ensures is { (w : Words) → w.locals ≡ locals.now → option_map (full_of w) result ≡ stored (in_place locals.now (expr_of value.now)) (in_place locals.now (object_of item.now)) (in_place locals.now (index_of item.now)) }
-    ensures resolves { IfSome result (λ instr. FullResolves 0 0 instr) }
+fn store_in_place<'e>(locals: &Names, item: &'e Item, value: &'e Expr) -> Option<NamedInstr<'e>>
+    ensures is { (w : Words) → w.locals ≡ locals.now → option_map (named_of w) result ≡ stored (in_place locals.now (expr_of value.now)) (in_place locals.now (object_of item.now)) (in_place locals.now (index_of item.now)) }
+    ensures resolves { IfSome result (λ instr. NamedResolves 0 instr) }
 {
-    let operand = operand_of(locals, value)?;
-    let object = operand_of(locals, &item.object)?;
-    let index = operand_of(locals, &item.index)?;
-    Some(FullInstr::StoreItem(operand, object, index))
+    let operand = operand_in_place(locals, value)?;
+    let object = operand_in_place(locals, &item.object)?;
+    let index = operand_in_place(locals, &item.index)?;
+    Some(NamedInstr::StoreItem(operand, object, index))
 }
 
 /// An item is deleted.
@@ -137,5 +137,5 @@ pub(crate) fn emit_delete(
     ensures extends { Extends table.old table.new }
 {
     let (object, index) = emit_item(table, locals, 0, item)?;
-    table.put(FullInstr::DeleteItem(object, index))
+    table.put_named(NamedInstr::DeleteItem(object, index))
 }

@@ -13,7 +13,7 @@ use crate::condition::emit_repeat;
 use crate::expression::emit_operand;
 use crate::targets::{emit_store, emit_unpack};
 use si_plain::{Names, NoMemory};
-use si_slots::{CodeTable, FullInstr, Source, Target};
+use si_slots::{CodeTable, FullInstr, NamedInstr, Operand, Target};
 use si_syntax::Expr;
 use std::alloc::AllocError;
 
@@ -50,9 +50,9 @@ pub(crate) fn emit_entry(
     ensures at { IfOk result (λ at. at + 1 ≡ length table.old.lines + length (with_code locals.now (expr_of items.now) (λ s. machine.StartFor 0 0 s))) }
     ensures extends { Extends table.old table.new }
 {
-    let source = emit_operand(table, locals, 0, true, items)?;
+    let operand = emit_operand(table, locals, 0, true, items)?;
     let at = table.len();
-    table.put(FullInstr::StartFor(0, 0, source))?;
+    table.put_named(NamedInstr::StartFor(0, 0, operand))?;
     emit_bound(table, locals, target)?;
     Ok(at)
 }
@@ -71,7 +71,7 @@ fn emit_bound(
         si_syntax::Target::Named(name) => bind_item(table, locals, name.as_str()),
         si_syntax::Target::Item(item) => emit_store(table, locals, 0, item),
         si_syntax::Target::Unpack(targets) => {
-            emit_unpack(table, locals, Source::Temporary(0), 0, targets)
+            emit_unpack(table, locals, Operand::Temporary(0), 0, targets)
         }
     }
 }
@@ -83,7 +83,7 @@ fn bind_item(table: &mut CodeTable, locals: &Names, name: &str) -> Result<(), No
 {
     match locals.position(name) {
         Some(_) => Ok(()),
-        None => table.put_store(name, Source::Temporary(0)),
+        None => table.put_named(NamedInstr::StoreGlobal(name, Operand::Temporary(0))),
     }
 }
 

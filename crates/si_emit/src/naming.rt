@@ -5,13 +5,13 @@ ghost use Rattle.si_semantics.specs.Text.{module_name};
 ghost use Rattle.si_semantics.specs.Value.{Function, Module};
 ghost use Rattle.si_syntax.specs.Trees.{expr_of};
 ghost use Rattle.si_slots.specs.Code.{assign_code, bind_code, unbind_code};
-ghost use Rattle.si_slots.specs.Contents.{Extends, SourceResolves};
+ghost use Rattle.si_slots.specs.Contents.{Extends, OperandResolves};
 ghost use Rattle.si_slots.specs.Machine as machine;
-ghost use Rattle.si_slots.specs.Views.{Gains, locals_now, source_of, words_now};
+ghost use Rattle.si_slots.specs.Views.{Gains, locals_now, operand_of, words_now};
 
 use crate::expression::{emit_expr, emit_operand};
 use si_plain::{ModuleName, Names, NoMemory};
-use si_slots::{CodeTable, Constant, FullInstr, Source, Target};
+use si_slots::{CodeTable, Constant, FullInstr, NamedInstr, Operand, Target};
 use si_syntax::Expr;
 
 /// A name is bound to an operand that speaks of no literal: one of the local names, or else it is global.
@@ -19,15 +19,15 @@ pub(crate) fn emit_bind(
     table: &mut CodeTable,
     locals: &Names,
     name: &str,
-    operand: Source,
+    operand: Operand<'_>,
 ) -> Result<(), NoMemory>
-    requires { SourceResolves 0 operand }
-    ensures ok { OnOk result (Gains table.old table.new (bind_code name.now (place_of name.now locals.now) (source_of (words_now table.old) operand) ∷ [])) }
+    requires { OperandResolves 0 operand }
+    ensures ok { OnOk result (Gains table.old table.new (bind_code name.now (place_of name.now locals.now) (operand_of (words_now table.old) operand.entry) ∷ [])) }
     ensures extends { Extends table.old table.new }
 {
     match locals.position(name) {
-        Some(place) => table.put(FullInstr::Copy(Target::Local(place), operand)),
-        None => table.put_store(name, operand),
+        Some(place) => table.put_named(NamedInstr::Copy(Target::Local(place), operand)),
+        None => table.put_named(NamedInstr::StoreGlobal(name, operand)),
     }
 }
 
@@ -54,7 +54,7 @@ pub(crate) fn emit_import(
         table,
         locals,
         name_of(which),
-        Source::Literal(Constant::Module(which)),
+        Operand::Literal(Constant::Module(which)),
     )
 }
 
@@ -89,7 +89,7 @@ pub(crate) fn bind_value(
         Some(place) => emit_expr(table, locals, 0, Target::Local(place), value),
         None => {
             let operand = emit_operand(table, locals, 0, true, value)?;
-            table.put_store(name, operand)
+            table.put_named(NamedInstr::StoreGlobal(name, operand))
         }
     }
 }

@@ -12,7 +12,7 @@ ghost use Rattle.si_slots.specs.Views.{Gains, locals_now};
 use crate::expression::emit_operand;
 use crate::naming::bind_function;
 use si_plain::{Names, NoMemory};
-use si_slots::{CodeTable, Constant, FullInstr, Source};
+use si_slots::{CodeTable, Constant, FullInstr, NamedInstr, Source};
 use si_syntax::Expr;
 use std::alloc::AllocError;
 
@@ -46,7 +46,7 @@ pub(crate) fn emit_return(
     match value {
         Some(expr) => {
             let operand = emit_operand(table, locals, 0, true, expr)?;
-            table.put(FullInstr::Return(operand))
+            table.put_named(NamedInstr::Return(operand))
         }
         None => table.put(FullInstr::Return(Source::Literal(Constant::Nothing))),
     }
@@ -65,7 +65,7 @@ pub(crate) fn emit_raise(
     match value {
         Some(expr) => {
             let operand = emit_operand(table, locals, 0, true, expr)?;
-            table.put(FullInstr::Raise(operand))
+            table.put_named(NamedInstr::Raise(operand))
         }
         None => table.put(FullInstr::RaiseAgain),
     }

@@ -4,15 +4,15 @@ ghost use Rattle.si_semantics.specs.Tree as tree;
 ghost use Rattle.si_semantics.specs.Tree.{count_of_targets};
 ghost use Rattle.si_syntax.specs.Trees.{index_of, object_of, target_of, targets_of};
 ghost use Rattle.si_slots.specs.Code.{expr_code, in_place, pair_code, target_code, targets_code};
-ghost use Rattle.si_slots.specs.Contents.{Contents, Extends, SourceResolves};
+ghost use Rattle.si_slots.specs.Contents.{Contents, Extends, OperandResolves};
 ghost use Rattle.si_slots.specs.Machine as machine;
-ghost use Rattle.si_slots.specs.Views.{Gains, locals_now, source_of, words_now};
+ghost use Rattle.si_slots.specs.Views.{Gains, locals_now, operand_of, words_now};
 
 use crate::expression::{emit_operand, next};
 use crate::naming::emit_bind;
 use crate::operand::lies_in_place;
 use si_plain::{Names, NoMemory};
-use si_slots::{CodeTable, FullInstr, Source};
+use si_slots::{CodeTable, NamedInstr, Operand};
 use si_syntax::{Item, Target};
 use std::alloc::AllocError;
 
@@ -29,9 +29,9 @@ pub(crate) fn emit_target(
     ensures extends { Extends table.old table.new }
 {
     match target {
-        Target::Named(name) => emit_bind(table, locals, name.as_str(), Source::Temporary(d)),
+        Target::Named(name) => emit_bind(table, locals, name.as_str(), Operand::Temporary(d)),
         Target::Item(item) => emit_store(table, locals, d, item),
-        Target::Unpack(targets) => emit_unpack(table, locals, Source::Temporary(d), d, targets),
+        Target::Unpack(targets) => emit_unpack(table, locals, Operand::Temporary(d), d, targets),
     }
 }
 
@@ -42,19 +42,19 @@ pub(crate) fn emit_target(
 pub(crate) fn emit_unpack(
     table: &mut CodeTable,
     locals: &Names,
-    operand: Source,
+    operand: Operand<'_>,
     d: u32,
     targets: &[Target],
 ) -> Result<(), NoMemory>
     requires names { locals_now table.old ≡ locals.now }
-    requires there { SourceResolves 0 operand }
+    requires there { OperandResolves 0 operand }
     ensures ok { let row = targets_of targets.now in
-        OnOk result (Gains table.old table.new (machine.Unpack (source_of (words_now table.old) operand) d (count_of_targets row) ∷ targets_code locals.now d row)) }
+        OnOk result (Gains table.old table.new (machine.Unpack (operand_of (words_now table.old) operand.entry) d (count_of_targets row) ∷ targets_code locals.now d row)) }
     ensures extends { Extends table.old table.new }
 {
     let count = u32::try_from(targets.len()).map_err(|_| AllocError)?;
     let mut at = above(d, count)?;
-    table.put(FullInstr::Unpack(operand, d, count))?;
+    table.put_named(NamedInstr::Unpack(operand, d, count))?;
     for target in targets {
         at -= 1;
         emit_target(table, locals, at, target)?;
@@ -82,23 +82,23 @@ pub(crate) fn emit_store(
 {
     let above = next(d)?;
     let (object, index) = emit_item(table, locals, above, item)?;
-    table.put(FullInstr::StoreItem(Source::Temporary(d), object, index))
+    table.put_named(NamedInstr::StoreItem(Operand::Temporary(d), object, index))
 }
 
 /// The operands of an item: its object and its index, where the temporaries from `d` on are free. With an instruction of
 /// both it is the code of that instruction.
-pub(crate) fn emit_item(
+pub(crate) fn emit_item<'e>(
     table: &mut CodeTable,
     locals: &Names,
     d: u32,
-    item: &Item,
-) -> Result<(Source, Source), NoMemory>
+    item: &'e Item,
+) -> Result<(Operand<'e>, Operand<'e>), NoMemory>
     requires { locals_now table.old ≡ locals.now }
     ensures ok { let a = object_of item.now in let b = index_of item.now in
-        IfOk result (λ pair. (i : machine.Source → machine.Source → machine.Instr) (end : Contents) → Gains table.new end (i (source_of (words_now table.new) pair.0) (source_of (words_now table.new) pair.1) ∷ [])
+        IfOk result (λ pair. (i : machine.Source → machine.Source → machine.Instr) (end : Contents) → Gains table.new end (i (operand_of (words_now table.new) pair.0) (operand_of (words_now table.new) pair.1) ∷ [])
         → Gains table.old end (pair_code (in_place locals.now a) (in_place locals.now b) (expr_code locals.now d (machine.ToTemporary d) a) (expr_code locals.now (d + 1) (machine.ToTemporary (d + 1)) b) d i)) }
-    ensures object { IfOk result (λ pair. SourceResolves 0 pair.0) }
-    ensures index { IfOk result (λ pair. SourceResolves 0 pair.1) }
+    ensures object { IfOk result (λ pair. OperandResolves 0 pair.0) }
+    ensures index { IfOk result (λ pair. OperandResolves 0 pair.1) }
     ensures extends { Extends table.old table.new }
 {
     let above = next(d)?;

@@ -10,7 +10,7 @@ ghost use Rattle.si_slots.specs.Views.{Gains, locals_now};
 use crate::expression::emit_operand;
 use crate::naming::{emit_bind, emit_unbind};
 use si_plain::{Names, NoMemory};
-use si_slots::{Aim, CodeTable, FullInstr, Source, Target};
+use si_slots::{Aim, CodeTable, FullInstr, NamedInstr, Operand, Target};
 use si_syntax::Expr;
 
 /// The end of the suite of a `try` that was entered at this place, with the jump past the except clauses, which isn't aimed
@@ -53,7 +53,7 @@ pub(crate) fn test_clause(
     let operand = emit_operand(table, locals, 0, true, value)?;
     let at = table.len();
     let target = Target::Jump(false, Aim::Ahead(0));
-    table.put(FullInstr::TestClause(target, operand))?;
+    table.put_named(NamedInstr::TestClause(target, operand))?;
     Ok(at)
 }
 
@@ -80,7 +80,7 @@ pub(crate) fn enter_named(
     ensures extends { Extends table.old table.new }
 {
     table.put(FullInstr::CopyException(Target::Temporary(0)))?;
-    emit_bind(table, locals, name, Source::Temporary(0))?;
+    emit_bind(table, locals, name, Operand::Temporary(0))?;
     let enter = table.len();
     table.put(FullInstr::EnterFinally(0))?;
     Ok(enter)

@@ -13,7 +13,7 @@ use Rattle.si_semantics.specs.Subscription.{subscript}
 use Rattle.si_semantics.specs.Attributes.{Method, attribute, called, method_of, call_method}
 use Rattle.si_semantics.specs.Operations.{Iterator, Next, Item, Exhausted, Refuses, is_true}
 use Rattle.si_semantics.specs.Meaning.{Leave, choose, decides, slot_at}
-use Rattle.si_slots.specs.Machine.{Source, Local, Temporary, Kept, Literal, Aim, Target, ToTemporary, ToLocal, ToJump, ToNowhere, Instr, Block, Place, At, Calling, Taking, Ending, Closed, Line, Entry, Stamped, Course, next, on, stamped, act, aimed, below, bound, calls, calls_by, calls_method, ends_finally, enters, fetched, gives_item, goes, having, lands, on_callee, put, raises, reads, starts_for, stuck, unpacks, yields}
+use Rattle.si_slots.specs.Machine.{Source, Local, Global, Temporary, Kept, Literal, Aim, Target, ToTemporary, ToLocal, ToJump, ToNowhere, Instr, Block, Place, At, Calling, Taking, Ending, Closed, Line, Entry, Stamped, Course, next, on, stamped, act, aimed, below, bound, calls, calls_by, calls_method, defined, ends_finally, enters, fetched, gives_item, goes, having, lands, on_callee, put, raises, reads, starts_for, stuck, unpacks, yields}
 use Rattle.si_slots.specs.Machine as machine
 use Rattle.si_slots.specs.Code.{compiled}
 use Rattle.si_slots.specs.Shows.{standing_of, texts}
@@ -60,8 +60,13 @@ silent_bound : (x : Text) (v : Option Value) (slots : List (Option Value)) (bs :
 silent_bound x None slots bs w go h = silent_yields (operations.load_local x None w) ToNowhere 0 [] slots bs
 silent_bound x (Some v) slots bs w go h = h v
 
+silent_defined : (x : Text) (v : Option Value) (slots : List (Option Value)) (bs : List Block) (w : World) (go : Value → Line) → ((u : Value) → Silent (go u)) → Silent (defined x v slots bs w go)
+silent_defined x None slots bs w go h = silent_yields (operations.found x None w) ToNowhere 0 [] slots bs
+silent_defined x (Some v) slots bs w go h = h v
+
 silent_reads : (a : Source) (ts : List Value) (slots : List (Option Value)) (bs : List Block) (w : World) (go : Value → Line) → ((u : Value) → Silent (go u)) → Silent (reads a ts slots bs w go)
 silent_reads (Local x k) ts slots bs w go h = silent_bound x (slot_at k slots) slots bs w go h
+silent_reads (Global x) ts slots bs w go h = silent_defined x (operations.or_else (w.globals x) (operations.built_in x)) slots bs w go h
 silent_reads (Temporary t) ts slots bs w go h = silent_having (slice_get ts t) w go h
 silent_reads (Kept t) ts slots bs w go h = silent_having (slice_get ts t) w go h
 silent_reads (Literal v) ts slots bs w go h = h v

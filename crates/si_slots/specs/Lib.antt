@@ -7,6 +7,7 @@ pub mod Laws
 pub mod Interpreter
 pub mod CodeCases
 pub mod Literals
+pub mod Indices
 pub mod Contents
 pub mod Views
 pub mod inner

@@ -18,22 +18,22 @@ impl State {
     pub fn store_item(&mut self, value: Source, object: Source, index: Source) -> Step
         ghost p: { Moment }
         requires ready { IsReady (machine.StoreItem (source_of (words_at self.old) value) (source_of (words_at self.old) object) (source_of (words_at self.old) index)) self.old p }
-        requires value { SourceResolves (length self.old.table.literals) value }
-        requires object { SourceResolves (length self.old.table.literals) object }
-        requires index { SourceResolves (length self.old.table.literals) index }
+        requires value { SourceResolves (length self.old.table.literals) (length self.old.table.names) value }
+        requires object { SourceResolves (length self.old.table.literals) (length self.old.table.names) object }
+        requires index { SourceResolves (length self.old.table.literals) (length self.old.table.names) index }
         ensures { Does (machine.StoreItem (source_of (words_at self.old) value) (source_of (words_at self.old) object) (source_of (words_at self.old) index)) p self.old self.new result }
     {
         let value = match self.read(value) {
             Ok(value) => value,
-            Err(place) => return self.raise_not_bound(place),
+            Err(missing) => return self.raise_missing(missing),
         };
         let object = match self.read(object) {
             Ok(value) => value,
-            Err(place) => return self.raise_not_bound(place),
+            Err(missing) => return self.raise_missing(missing),
         };
         let index = match self.read(index) {
             Ok(value) => value,
-            Err(place) => return self.raise_not_bound(place),
+            Err(missing) => return self.raise_missing(missing),
         };
         match set_item(&mut self.arena, object, index, value) {
             Ok(()) => self.advance(),
@@ -48,17 +48,17 @@ impl State {
     pub fn delete_item(&mut self, container: Source, key: Source) -> Step
         ghost p: { Moment }
         requires ready { IsReady (machine.DeleteItem (source_of (words_at self.old) container) (source_of (words_at self.old) key)) self.old p }
-        requires container { SourceResolves (length self.old.table.literals) container }
-        requires key { SourceResolves (length self.old.table.literals) key }
+        requires container { SourceResolves (length self.old.table.literals) (length self.old.table.names) container }
+        requires key { SourceResolves (length self.old.table.literals) (length self.old.table.names) key }
         ensures { Does (machine.DeleteItem (source_of (words_at self.old) container) (source_of (words_at self.old) key)) p self.old self.new result }
     {
         let container = match self.read(container) {
             Ok(value) => value,
-            Err(place) => return self.raise_not_bound(place),
+            Err(missing) => return self.raise_missing(missing),
         };
         let key = match self.read(key) {
             Ok(value) => value,
-            Err(place) => return self.raise_not_bound(place),
+            Err(missing) => return self.raise_missing(missing),
         };
         match delete_item(&mut self.arena, container, key) {
             Ok(()) => self.advance(),

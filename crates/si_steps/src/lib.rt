@@ -29,6 +29,7 @@ mod landing;
 mod leaving;
 mod machine;
 mod methods;
+mod missing;
 mod names;
 mod origin;
 mod raising;

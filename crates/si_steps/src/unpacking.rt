@@ -26,7 +26,7 @@ impl State {
     pub fn unpack(&mut self, source: Source, at: u32, count: u32) -> Step
         ghost p: { Moment }
         requires ready { IsReady (machine.Unpack (source_of (words_at self.old) source) at count) self.old p }
-        requires there { SourceResolves (length self.old.table.literals) source }
+        requires there { SourceResolves (length self.old.table.literals) (length self.old.table.names) source }
         ensures { Does (machine.Unpack (source_of (words_at self.old) source) at count) p self.old self.new result }
     {
         match self.read(source) {
@@ -34,7 +34,7 @@ impl State {
                 Ok(()) => self.lay_out(value, at as usize, count as usize),
                 Err(cause) => self.raise(cause),
             },
-            Err(place) => self.raise_not_bound(place),
+            Err(missing) => self.raise_missing(missing),
         }
     }
 

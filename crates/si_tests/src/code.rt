@@ -59,17 +59,17 @@ fn texts_share_slots(rt: HostRuntime) -> Result<(), Fail> {
     let second = script(rt.alloc(), "b = a ** 'c'\n")?;
     let mut table = CodeTable::new(rt.alloc());
     compile(&first, &mut table)?;
-    assert_eq!(rt; compile(&second, &mut table)?, 3);
+    assert_eq!(rt; compile(&second, &mut table)?, 2);
     assert_eq!(rt;
         table.instruction(0),
+        Some(FullInstr::StoreGlobal(0, Source::Global(1)))
+    );
+    assert_eq!(rt;
+        table.instruction(2),
         Some(FullInstr::LoadGlobal(Target::Temporary(0), 0))
     );
     assert_eq!(rt;
-        table.instruction(3),
-        Some(FullInstr::LoadGlobal(Target::Temporary(0), 1))
-    );
-    assert_eq!(rt;
-        table.instruction(5),
+        table.instruction(4),
         Some(FullInstr::Binary(
             BinaryOperator::Power,
             Target::Temporary(0),
@@ -78,8 +78,8 @@ fn texts_share_slots(rt: HostRuntime) -> Result<(), Fail> {
         ))
     );
     assert_eq!(rt;
-        table.instruction(6),
-        Some(FullInstr::StoreGlobal(0, Source::Temporary(0)))
+        table.instruction(5),
+        Some(FullInstr::StoreGlobal(1, Source::Temporary(0)))
     );
     assert_eq!(rt; table.slots(), 2);
     Ok(())
@@ -114,15 +114,13 @@ fn refused_memory_leaves_no_half_of_a_try(rt: HostRuntime) -> Result<(), Fail> {
 }
 
 // The code of `f`, of `g`, and of the statements, of the text below.
-const TWO_FUNCTIONS: [FullInstr; 17] = [
+const TWO_FUNCTIONS: [FullInstr; 14] = [
     FullInstr::Copy(Target::Local(2), Source::Local(0)),
-    FullInstr::Copy(Target::Temporary(0), Source::Local(2)),
-    FullInstr::LoadGlobal(Target::Temporary(1), 0),
     FullInstr::Binary(
         BinaryOperator::Add,
         Target::Temporary(0),
-        Source::Temporary(0),
-        Source::Temporary(1),
+        Source::Local(2),
+        Source::Global(0),
     ),
     FullInstr::Return(Source::Temporary(0)),
     FullInstr::Return(Source::Literal(Constant::Nothing)),
@@ -133,8 +131,7 @@ const TWO_FUNCTIONS: [FullInstr; 17] = [
     FullInstr::LoadGlobal(Target::Temporary(1), 0),
     FullInstr::Copy(Target::Temporary(2), Source::Literal(Constant::Int(2))),
     FullInstr::CallByName(Target::Nowhere, 0, 2),
-    FullInstr::LoadGlobal(Target::Temporary(0), 0),
-    FullInstr::Copy(Target::Jump(false, Aim::Ahead(1)), Source::Temporary(0)),
+    FullInstr::Copy(Target::Jump(false, Aim::Ahead(1)), Source::Global(0)),
     FullInstr::StoreGlobal(2, Source::Literal(Constant::Function(1, 1))),
     FullInstr::Finish,
 ];
@@ -146,7 +143,7 @@ fn functions_come_first(rt: HostRuntime) -> Result<(), Fail> {
         "x = 1\ndef f(a, b):\n    c = a\n    return c + x\nf(x, b=2)\nif x:\n    def g():\n        pass\n";
     let tree = script(rt.alloc(), text)?;
     let mut table = CodeTable::new(rt.alloc());
-    assert_eq!(rt; compile(&tree, &mut table)?, 7);
+    assert_eq!(rt; compile(&tree, &mut table)?, 5);
     assert_eq!(rt; table.len(), TWO_FUNCTIONS.len());
     for (at, instr) in TWO_FUNCTIONS.iter().enumerate() {
         assert_eq!(rt; table.instruction(at), Some(*instr), "at {at}");
@@ -163,7 +160,7 @@ fn functions_come_first(rt: HostRuntime) -> Result<(), Fail> {
     assert_eq!(rt;
         table.routine(1),
         Some(Routine {
-            at: 6,
+            at: 4,
             parameters: 0,
             locals: 0
         })

@@ -38,7 +38,7 @@ except f:
 ";
 
 // The statements of that text, place by place, by the order in which their code is made.
-const STATEMENTS: [u32; 36] = [
+const STATEMENTS: [u32; 34] = [
     0, 1, 1, // `if x`, `y = 1` and the jump after it
     2, 3, 3, // `elif x == 2`, `y = 2` and the jump after it
     4, // `y = 3`
@@ -48,9 +48,9 @@ const STATEMENTS: [u32; 36] = [
     9, 9, 9, // `for`, and its item is bound
     10, 10, 10, // `f(i)`
     9, // the next item of `for`
-    11, 11, // `f = i`
+    11, // `f = i`
     12, 13, 13, 13, // the entry of `try`, `f`, and the end of its suite
-    14, 14, // `except f`
+    14, // `except f`
     15, 15, 15, 15, 15, // its suite of no code, the jumps after it, what raises again, and the end
 ];
 

@@ -15,7 +15,7 @@ returns-in-Some-clause-ok c =
     let ls = c.args.locals.now in let a = expr_of c.args.value.now in let b = object_of c.args.item.now in let i = index_of c.args.item.now in
     let code = expr_code ls 0 (machine.ToTemporary 0) a ++ target_code ls 0 (tree.Item b i) in
     let one = store_is (in_place ls a) (in_place ls b) (in_place ls i) code ∙ ap (λ o. one_or o code) (sym (c.in-Some.ensures.is (words_now c.args.table.now) c.requires)) in
-    on_ok_weaker c.put.result (λ h. subst (Gains c.args.table.now c.put.new.self) (sym one) h) c.put.ensures.ok
+    on_ok_weaker c.put_named.result (λ h. subst (Gains c.args.table.now c.put_named.new.self) (sym one) h) c.put_named.ensures.ok
 
 pub returns-in_ok-emit_expr-in-None-clause-ok : goal.returns-in_ok-emit_expr-in-None-clause-ok
 returns-in_ok-emit_expr-in-None-clause-ok c =

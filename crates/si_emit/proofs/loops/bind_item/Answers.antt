@@ -14,6 +14,6 @@ returns-in-Some-clause-ok c =
 pub returns-in-None-clause-ok : goal.returns-in-None-clause-ok
 returns-in-None-clause-ok c =
     let x = c.args.name.now in
-    on_ok_weaker c.put_store.result
-    (λ h. subst (λ o. Gains c.args.table.now c.put_store.new.self (name_bound_code x o)) (sym (sym (place_same x c.args.locals.now) ∙ (sym c.position.ensures ∙ c.in-None.is))) h)
-    c.put_store.ensures.ok
+    on_ok_weaker c.put_named.result
+    (λ h. subst (λ o. Gains c.args.table.now c.put_named.new.self (name_bound_code x o)) (sym (sym (place_same x c.args.locals.now) ∙ (sym c.position.ensures ∙ c.in-None.is))) h)
+    c.put_named.ensures.ok

@@ -13,7 +13,7 @@ pub returns-in_ok-operand-in-None-clause-ok : goal.returns-in_ok-operand-in-None
 returns-in_ok-operand-in-None-clause-ok c =
     let x = c.args.name.now in let ls = c.args.locals.now in let a = expr_of c.args.value.now in
     let global : place_of x ls ≡ None = sym (place_same x ls) ∙ (sym c.position.ensures ∙ c.in-None.is) in
-    on_ok_weaker c.put_store.result
-    (λ h. subst (λ o. Gains c.args.table.now c.put_store.new.self (assign_code ls x o a)) (sym global)
+    on_ok_weaker c.put_named.result
+    (λ h. subst (λ o. Gains c.args.table.now c.put_named.new.self (assign_code ls x o a)) (sym global)
     (with_gains ls a c.in_ok-operand-in-None.operand (λ s. machine.StoreGlobal x s) c.requires c.in_ok-operand-in-None.ensures.ok c.in_ok-operand-in-None.ensures.is h))
-    c.put_store.ensures.ok
+    c.put_named.ensures.ok

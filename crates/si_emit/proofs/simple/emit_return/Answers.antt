@@ -12,7 +12,7 @@ pub returns-in_ok-operand-in-Some-clause-ok : goal.returns-in_ok-operand-in-Some
 returns-in_ok-operand-in-Some-clause-ok c =
     let ls = c.args.locals.now in
     let same = ap (λ v. return_code ls (option_map expr_of v)) c.in-Some.is in
-    on_ok_weaker c.put.result
-    (λ h. subst (Gains c.args.table.now c.put.new.self) (sym same)
+    on_ok_weaker c.put_named.result
+    (λ h. subst (Gains c.args.table.now c.put_named.new.self) (sym same)
     (with_gains ls (expr_of c.in-Some.expr) c.in_ok-operand-in-Some.operand (λ s. machine.Return s) c.requires c.in_ok-operand-in-Some.ensures.ok c.in_ok-operand-in-Some.ensures.is h))
-    c.put.ensures.ok
+    c.put_named.ensures.ok

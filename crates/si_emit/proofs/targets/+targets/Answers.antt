@@ -1,5 +1,5 @@
 use Rattle.std.proofs.Common.{◌≡◌, ◌+◌, ◌-◌, length, sym, arith}
-use Rattle.si_slots.specs.Views.{source_of, words_now}
+use Rattle.si_slots.specs.Views.{operand_of, words_now}
 use Rattle.si_slots.proofs.Gained.{Extends-trans, locals_kept}
 use Rattle.si_emit.proofs.TargetCode.{unpack_gains, next_target, last_target}
 use Rattle.si_emit.proofs.targets.+targets.Goals as goal
@@ -8,10 +8,10 @@ pub emit_unpack-loop-target-init : goal.emit_unpack-loop-target-init
 emit_unpack-loop-target-init t c =
     let many : c.in_ok-count.count ≡ length c.args.targets.now = grind (arith, c.in_ok-count.ensures.cases, c.try_from.ensures) in
     record {
-      gains = unpack_gains c.args.locals.now c.args.d (source_of (words_now c.args.table.now) c.args.operand) c.args.targets.now c.in_ok-count.count many c.in_ok-put.ensures.ok;
+      gains = unpack_gains c.args.locals.now c.args.d (operand_of (words_now c.args.table.now) c.args.operand) c.args.targets.now c.in_ok-count.count many c.in_ok-put_named.ensures.ok;
       above = omega (arith, c.in_ok-at.ensures, many);
-      names = locals_kept c.in_ok-put.ensures.ok c.requires.names;
-      extends = c.in_ok-put.ensures.extends;
+      names = locals_kept c.in_ok-put_named.ensures.ok c.requires.names;
+      extends = c.in_ok-put_named.ensures.extends;
     }
 
 pub emit_unpack-loop-target-preserved : goal.emit_unpack-loop-target-preserved

@@ -4,7 +4,7 @@ use Rattle.si_syntax.specs.Trees.{targets_of}
 use Rattle.si_slots.specs.Code.{targets_code}
 use Rattle.si_slots.specs.Contents.{Extends}
 use Rattle.si_slots.specs.Machine as machine
-use Rattle.si_slots.specs.Views.{locals_now, source_of, words_now}
+use Rattle.si_slots.specs.Views.{locals_now, operand_of, words_now}
 use Rattle.si_emit.proofs.TargetCode.{SoFar}
 use Rattle.si_emit.proofs.targets.+targets.Given as goal
 
@@ -13,7 +13,7 @@ abbrev pub invariant-emit_unpack-loop-target : goal.invariant-emit_unpack-loop-t
 invariant-emit_unpack-loop-target l =
     let row = targets_of l.targets in
     record {
-      gains : SoFar l.locals l.d l.fn.table (machine.Unpack (source_of (words_now l.fn.table) l.fn.operand) l.d (count_of_targets row) ∷ targets_code l.locals l.d row) l.table (drop l.target-index l.targets);
+      gains : SoFar l.locals l.d l.fn.table (machine.Unpack (operand_of (words_now l.fn.table) l.fn.operand) l.d (count_of_targets row) ∷ targets_code l.locals l.d row) l.table (drop l.target-index l.targets);
       above : l.at + l.target-index ≡ l.d + length l.targets;
       names : locals_now l.table ≡ l.locals;
       extends : Extends l.fn.table l.table;

@@ -23,8 +23,8 @@ returns-in_ok-emit_update-in-None-clause-ok c =
     let a = expr_of c.args.statement.now.value in let o = c.args.statement.now.operator in
     let t = c.emit_update-in-None.new.table in
     let place : place_of x ls ≡ None = ap (λ y. place_of y ls) (sym c.as_str-name.ensures.value) ∙ sym (place_same c.as_str-name.result.now ls) ∙ sym c.position.ensures ∙ c.in-None.is in
-    on_ok_weaker c.put_store.result
-    (λ h. subst (λ p. Gains c.args.table.now c.put_store.new.self (augment_code ls x p o a)) (sym place)
+    on_ok_weaker c.put_named.result
+    (λ h. subst (λ p. Gains c.args.table.now c.put_named.new.self (augment_code ls x p o a)) (sym place)
     (Gains-append _ _ _ (augmented_code ls (machine.ToTemporary 0) x o a) (machine.StoreGlobal x (machine.Temporary 0) ∷ []) c.in_ok-emit_update-in-None.ensures.ok
-    (subst (λ y. Gains t c.put_store.new.self (machine.StoreGlobal y (machine.Temporary 0) ∷ [])) c.as_str-name.ensures.value h)))
-    c.put_store.ensures.ok
+    (subst (λ y. Gains t c.put_named.new.self (machine.StoreGlobal y (machine.Temporary 0) ∷ [])) c.as_str-name.ensures.value h)))
+    c.put_named.ensures.ok

@@ -3,8 +3,8 @@ use Rattle.si_steps.proofs.state.State.store_item.Given as goal
 abbrev pub ghost-read : goal.ghost-read
 ghost-read g a = g.p
 
-abbrev pub ghost-raise_not_bound : goal.ghost-raise_not_bound
-ghost-raise_not_bound g a = g.p
+abbrev pub ghost-raise_missing : goal.ghost-raise_missing
+ghost-raise_missing g a = g.p
 
 abbrev pub ghost-raise : goal.ghost-raise
 ghost-raise g a = g.p
