@@ -1,6 +1,6 @@
 // Operators before a value and between two.
 
-ghost use Rattle.std.specs.Prelude.{◌≡◌};
+ghost use Rattle.std.specs.Prelude.{◌≡◌, true};
 ghost use Rattle.si_semantics.specs.Value.{Int, Str, Truth};
 ghost use Rattle.si_semantics.specs.World.{World};
 ghost use Rattle.si_semantics.specs.Operations as operations;
@@ -102,7 +102,13 @@ pub fn binary(
 {
     match (left, right) {
         (Ref::Int(x), Ref::Int(y)) => integers(operator, x, y),
-        _ => operands(arena, operator, left, right),
+        _ => {
+            if is_text(&left) && is_text(&right) {
+                joined(arena, operator, left, right)
+            } else {
+                operands(arena, operator, left, right)
+            }
+        }
     }
 }
 
@@ -172,6 +178,19 @@ fn operands(
     }
 }
 
+// Whether a value is a text.
+#[inline(always)]
+fn is_text(value: &Ref) -> bool
+    ensures { result ≡ true → (m : Memory) → value_of m value.now ≡ Str (text_of m.texts value.now) }
+{
+    match value {
+        Ref::Short(_) => true,
+        Ref::Narrow { .. } => true,
+        Ref::Wide { .. } => true,
+        _ => false,
+    }
+}
+
 // The address of a list.
 #[inline(always)]
 fn list_in(arena: &Arena, value: Ref) -> Option<usize>
@@ -231,6 +250,7 @@ fn placed(arena: &mut Arena, operator: BinaryOperator, left: Ref, right: Ref) ->
 }
 
 // An operator between two texts, of which `+` alone gives a value.
+#[inline(never)]
 fn joined(arena: &mut Arena, operator: BinaryOperator, left: Ref, right: Ref) -> Result<Ref, Fault>
     requires left { Lies arena.old left }
     requires right { Lies arena.old right }

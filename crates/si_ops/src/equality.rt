@@ -26,7 +26,13 @@ pub fn are_equal(arena: &Arena, x: Ref, y: Ref) -> Result<bool, Refusal>
     requires y { Lies arena.now y }
     ensures { (w : World) → w.store ≡ arena.now.store → operations.are_equal (value_of arena.now x) (value_of arena.now y) w ≡ decided result }
 {
-    are_equal_within(arena, x, y, MAX_NESTED)
+    match (x, y) {
+        (Ref::Short(a), Ref::Short(b)) => Ok(are_same(
+            Characters::Narrow(a.as_slice()),
+            Characters::Narrow(b.as_slice()),
+        )),
+        _ => are_equal_within(arena, x, y, MAX_NESTED),
+    }
 }
 
 // The same, where tuples, lists and dicts are within each other at most so deep.

@@ -19,6 +19,7 @@ pub mod Displayed
 pub mod Fast
 pub mod Asked
 pub mod Made
+pub mod Anywhere
 pub mod Unpacked
 pub mod Listed
 pub mod Shown
