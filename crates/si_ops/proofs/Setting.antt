@@ -17,7 +17,7 @@ use Rattle.si_plain.specs.declared.operators.BinaryOperator.{BinaryOperator}
 use Rattle.si_plain.specs.declared.operators.BinaryOperator.TheVariants as binary
 use Rattle.si_ops.specs.Operands.{IsNoList, IsNoListObject}
 use Rattle.si_ops.specs.Calls.{GivesAnew}
-use Rattle.si_ops.specs.Changes.{Changes}
+use Rattle.si_ops.specs.Changes.{Changes, IsNoDict, IsNoDictObject}
 use Rattle.si_ops.specs.inner.Held.{IsPlain, IsPlainObject}
 use Rattle.si_ops.proofs.Changing.{changed_gives, extends_changed}
 
@@ -127,3 +127,7 @@ added_no_list x _ v w h = refl
 pub augmented_no_list : (m : Memory) (u v : Value) (w : World) → IsNoList m.store u → w.store ≡ m.store → augment tree.Add u v w ≡ operate tree.Add u v w
 augmented_no_list m (Address x) v w h e = ap (λ s. added_to x (slice_get s x) v w) e ∙ added_no_list x (slice_get m.store x) v w h
 augmented_no_list m _ v w h e = refl
+
+-- a value that is the address of a dict is one
+pub no_dict_here : (m : Memory) (v : Value) (x : ℕ) → v ≡ Address x → IsDictAt m x → IsNoDict m.store v → ⊥
+no_dict_here m v x is dict h = subst IsNoDictObject dict (subst (IsNoDict m.store) is h)

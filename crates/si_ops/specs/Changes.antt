@@ -1,6 +1,6 @@
 -- How what changes lists and dicts goes over an arena, by its definition, which says what it does in a world. The world's
 -- objects are those of the arena, before it and after it.
-use Rattle.std.specs.Prelude.{◌≡◌, Result, Ok, Err}
+use Rattle.std.specs.Prelude.{◌≡◌, List, Option, Some, Result, Ok, Err, slice_get}
 use Rattle.si_semantics.specs.Value as pure
 use Rattle.si_semantics.specs.World.{World, Ran}
 use Rattle.si_arena.specs.declared.value.Ref.{Ref}
@@ -18,6 +18,21 @@ abbrev pub Changes : (World → Ran) → Memory → Memory → Result (Unit {0})
 Changes f old new (Ok u) = GivesAnew f old new pure.Nothing × Extends old new
 Changes f old new (Err (Raises cause)) = Throws f old cause × (new ≡ old)
 Changes f old new (Err NoMemory) = new ≡ old
+
+-- memory was not refused to it
+abbrev pub IsGranted : Result (Unit {0}) Fault → Type 0
+IsGranted (Err NoMemory) = ⊥
+IsGranted _ = Unit {0}
+
+-- no dict
+abbrev pub IsNoDictObject : Option pure.Object → Type 0
+IsNoDictObject (Some (pure.Pairs ps)) = ⊥
+IsNoDictObject _ = Unit {0}
+
+-- a value that is no dict
+abbrev pub IsNoDict : List pure.Object → pure.Value → Type 0
+IsNoDict store (pure.Address x) = IsNoDictObject (slice_get store x)
+IsNoDict store _ = Unit {0}
 
 -- a change that takes no memory, and gives no value, with an index, which may be a key that is not there
 abbrev pub Deletes : (World → Ran) → (index : pure.Value) → Memory → Memory → Result (Unit {0}) Lack → Type 0

@@ -9,7 +9,7 @@ ghost use Rattle.si_semantics.specs.Dicts.{key_of};
 ghost use Rattle.si_semantics.specs.Operations.{integer_in};
 ghost use Rattle.si_arena.specs.Memory.{value_of, list_at, dict_at, Lies, IsListAt, IsDictAt};
 ghost use Rattle.si_ops.specs.Calls.{Makes};
-ghost use Rattle.si_ops.specs.Changes.{Changes, Deletes};
+ghost use Rattle.si_ops.specs.Changes.{Changes, Deletes, IsGranted, IsNoDict};
 ghost use Rattle.si_ops.specs.Operands.{made_of, NeedsNone, IsTold, AreNoLists};
 ghost use Rattle.si_ops.specs.inner.Held.{PlaceIn};
 
@@ -24,14 +24,15 @@ use si_arena::{Arena, Cause, Fault, Ref};
 use si_plain::BinaryOperator;
 
 /// `object[index] = value` (Python Language Reference 3.14, 7.2): of a list the item at an index, of a dict the value of a
-/// key; no other value can be changed so. Memory is asked for only for a key that is not there. Where it is refused, the
+/// key; no other value can be changed so. Memory may be refused only for a dict, which asks for it for a key that is not there. Where it is refused, the
 /// arena is as before.
 #[inline(always)]
 pub fn set_item(arena: &mut Arena, object: Ref, index: Ref, value: Ref) -> Result<(), Fault>
     requires object { Lies arena.old object }
     requires index { Lies arena.old index }
     requires value { Lies arena.old value }
-    ensures { Changes (λ w. containers.set_item (value_of arena.old object) (value_of arena.old index) (value_of arena.old value) w) arena.old arena.new result }
+    ensures changes { Changes (λ w. containers.set_item (value_of arena.old object) (value_of arena.old index) (value_of arena.old value) w) arena.old arena.new result }
+    ensures memory { IsNoDict arena.old.store (value_of arena.old object) → IsGranted result }
 {
     if let (Ref::Object(address), Ref::Int(n)) = (object, index) {
         if let Some(at) = place_in(arena, address, n) {
@@ -63,7 +64,8 @@ fn set_any(arena: &mut Arena, object: Ref, index: Ref, value: Ref) -> Result<(),
     requires object { Lies arena.old object }
     requires index { Lies arena.old index }
     requires value { Lies arena.old value }
-    ensures { Changes (λ w. containers.set_item (value_of arena.old object) (value_of arena.old index) (value_of arena.old value) w) arena.old arena.new result }
+    ensures changes { Changes (λ w. containers.set_item (value_of arena.old object) (value_of arena.old index) (value_of arena.old value) w) arena.old arena.new result }
+    ensures memory { IsNoDict arena.old.store (value_of arena.old object) → IsGranted result }
 {
     match held_by(arena, object) {
         Held::List(address) => set_in_list(arena, address, index, value),
@@ -78,7 +80,8 @@ fn set_in_list(arena: &mut Arena, address: usize, index: Ref, value: Ref) -> Res
     requires list { IsListAt arena.old address }
     requires index { Lies arena.old index }
     requires value { Lies arena.old value }
-    ensures { Changes (λ w. containers.set_in_list address (list_at arena.old address) (integer_in (value_of arena.old index)) (value_of arena.old value) w) arena.old arena.new result }
+    ensures changes { Changes (λ w. containers.set_in_list address (list_at arena.old address) (integer_in (value_of arena.old index)) (value_of arena.old value) w) arena.old arena.new result }
+    ensures memory { IsGranted result }
 {
     match integer_in(arena, index) {
         Ok(n) => match place_in(arena, address, n) {

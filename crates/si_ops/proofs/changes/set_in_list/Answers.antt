@@ -11,8 +11,8 @@ use Rattle.si_ops.specs.Changes.{Changes}
 use Rattle.si_arena.specs.declared.cause.Fault.TheVariants.{Raises}
 use Rattle.si_ops.proofs.changes.set_in_list.Goals as goal
 
-pub returns-in-Some : goal.returns-in-Some
-returns-in-Some c =
+pub returns-in-Some-clause-changes : goal.returns-in-Some-clause-changes
+returns-in-Some-clause-changes c =
     let m = c.args.arena.now in
     let x = c.args.address in
     let vs = list_at m x in
@@ -23,8 +23,8 @@ returns-in-Some c =
     let k = rw (to_z-of_z fits) at c.in-Some.ensures in
     changed_changes (λ w. containers.set_in_list x vs (integer_in v) z w) x (pure.Items (slice_set vs c.in-Some.at z)) m c.set_item.new.self (λ w e. item_is_set x vs (integer_in v) n w c.in-Ok.ensures.ok z c.in-Some.at k.1) c.set_item.ensures
 
-pub returns-in-None : goal.returns-in-None
-returns-in-None c =
+pub returns-in-None-clause-changes : goal.returns-in-None-clause-changes
+returns-in-None-clause-changes c =
     let m = c.args.arena.now in
     let x = c.args.address in
     let vs = list_at m x in
@@ -35,8 +35,8 @@ returns-in-None c =
     let k = rw (to_z-of_z fits) at c.in-None.ensures in
     (throws_outside (λ w. containers.set_in_list x vs (integer_in v) z w) m (λ w e. no_item_is_set x vs (integer_in v) n w c.in-Ok.ensures.ok z (k c.requires.list)), refl)
 
-pub returns-in-Err : goal.returns-in-Err
-returns-in-Err c =
+pub returns-in-Err-clause-changes : goal.returns-in-Err-clause-changes
+returns-in-Err-clause-changes c =
     let m = c.args.arena.now in
     let x = c.args.address in
     let vs = list_at m x in

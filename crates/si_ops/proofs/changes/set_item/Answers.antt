@@ -9,8 +9,8 @@ use Rattle.si_ops.proofs.changes.set_item.Goals as goal
 pub place_in-requires : goal.place_in-requires
 place_in-requires c = subst (Lies c.args.arena.now) c.in-Object-Int.is-0 c.requires.object
 
-pub returns-in-Some : goal.returns-in-Some
-returns-in-Some c =
+pub returns-in-Some-clause-changes : goal.returns-in-Some-clause-changes
+returns-in-Some-clause-changes c =
     let m = c.args.arena.now in
     let x = c.in-Object-Int.address in
     let n = c.in-Object-Int.n in

@@ -36,7 +36,7 @@ returns-in-Ok-set_item g c =
     let keeps = keeps_below s.arena s.frames.temporaries (below b (below i p.ts)) a (keeps_below s.arena s.frames.temporaries (below i p.ts) b (keeps_below s.arena s.frames.temporaries p.ts i at.0.temporaries)) in
     of_kind _ p s c.advance.new.self c.advance.result Local c.advance.ensures.step
     (alike _ _ p s c.advance.new.self Local read.3
-    (changed_did f p ts s c.advance.new.self c.set_item.new.arena at c.requires.0.running keeps c.in-Ok-set_item.ensures.0 c.in-Ok-set_item.ensures.1 c.advance.ensures.state))
+    (changed_did f p ts s c.advance.new.self c.set_item.new.arena at c.requires.0.running keeps c.in-Ok-set_item.ensures.changes.0 c.in-Ok-set_item.ensures.changes.1 c.advance.ensures.state))
 
 pub returns-in-Err-Raises : goal.returns-in-Err-Raises
 returns-in-Err-Raises g c =
@@ -55,7 +55,7 @@ returns-in-Err-Raises g c =
     let f : World → Ran = λ w. set_item (value_of s.arena object) (value_of s.arena index) (value_of s.arena value) w in
     let m = c.set_item.new.arena in
     let k = c.in-Err-Raises in
-    let throws = subst (λ (e : Fault). Changes f s.arena m (Err e)) k.field-0-is k.ensures in
+    let throws = subst (λ (e : Fault). Changes f s.arena m (Err e)) k.field-0-is k.ensures.changes in
     let did = subst (λ (e : Cause). Did (raised_line e (with_arena m s) p) p (with_arena m s) c.raise.new.self c.raise.result) k.cause-is c.raise.ensures in
     alike _ _ p s c.raise.new.self c.raise.result read.3
     (thrown_over ToNowhere f k.cause p ts s c.raise.new.self m c.raise.result at throws.0 throws.1 did)
