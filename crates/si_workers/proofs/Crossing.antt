@@ -60,8 +60,8 @@ use Rattle.std.specs.contracts.alloc.Global as global_row
 use Rattle.std.specs.contracts.impls.GlobalAllocator.TheImpl.{ghosts}
 use Rattle.std.proofs.sync.Mutex.TheSendSync as mutex
 use Rattle.std.proofs.sync.Condvar.TheSendSync as condvar
-use Rattle.si_workers.specs.contracts.slot.Doing as doing
-use Rattle.si_workers.specs.contracts.slot.Slot as slot
+use Rattle.si_workers.specs.contracts.page.Doing as doing
+use Rattle.si_workers.specs.contracts.page.Page as page
 use Rattle.si_workers.specs.contracts.book.Book as book
 use Rattle.si_workers.specs.contracts.sleepers.Sleepers as sleepers
 use Rattle.si_workers.specs.contracts.worked.Worked as worked
@@ -130,11 +130,11 @@ worked_send = view_send _ _ _ _ _ (declared_send worked.TheInside.the_type (sear
 doing_send : IsSend doing.the_row
 doing_send = variants_send doing.enum (search (sendable, as_row_send, action_send) depth 20)
 
-slot_send : IsSend slot.the_row
-slot_send = view_send _ _ _ _ _ (declared_send slot.TheInside.the_type (search (sendable, as_row_send, doing_send) depth 20))
+page_send : IsSend page.the_row
+page_send = view_send _ _ _ _ _ (declared_send page.TheInside.the_type (search (sendable, as_row_send, doing_send) depth 20))
 
 book_send : IsSend book.the_row
-book_send = view_send _ _ _ _ _ (declared_send book.TheInside.the_type (search (sendable, as_row_send, hub_send, slot_send, vec.the_send, global.the_send, allocator.the_frees) depth 20))
+book_send = view_send _ _ _ _ _ (declared_send book.TheInside.the_type (search (sendable, as_row_send, hub_send, page_send, vec.the_send, global.the_send, allocator.the_frees) depth 20))
 
 sleepers_send : IsSend sleepers.the_row
 sleepers_send = view_send _ _ _ _ _ (declared_send sleepers.TheInside.the_type (search (sendable, as_row_send, vec.the_send, global.the_send, allocator.the_frees) depth 20))

@@ -1,4 +1,4 @@
 -- What stands between the definitions and the code.
-pub mod Slots
+pub mod Pages
 pub mod Books
 pub mod Members

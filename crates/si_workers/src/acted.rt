@@ -7,7 +7,7 @@ use si_parcel::{Action, Answer};
 pub enum Acted {
     /// It was done, and has this answer.
     Answered(Answer),
-    /// It is not enabled. The book keeps it, and its slot waits.
+    /// It is not enabled. The book keeps it, and its page waits.
     Waits,
     /// Memory was refused. It comes back, and nothing has changed.
     Refused(Action),

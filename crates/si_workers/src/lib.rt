@@ -7,7 +7,7 @@
 // a world of the script, whose calls are a legal history, and in which each interpreter shows its meaning under the answers of the
 // journal and can't be moved; and turns on one thread leave the same. Definitions: specs/Books.antt, specs/Gathers.antt.
 //
-// In reading order: `acted` (what became of an action), `slot` (what one worker does), `book` (the hub with all slots),
+// In reading order: `acted` (what became of an action), `page` (what one worker does), `book` (the hub with all pages),
 // `sleepers` (which workers sleep), `worked` (what is left of an interpreter), `fault`, `agreeing` (a log beside the journal),
 // `gathering`, `running` (the threads).
 #![tactic(auto)]
@@ -17,9 +17,9 @@ mod agreeing;
 mod book;
 mod fault;
 mod gathering;
+mod page;
 mod running;
 mod sleepers;
-mod slot;
 mod worked;
 
 pub use acted::Acted;

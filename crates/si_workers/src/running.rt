@@ -107,7 +107,7 @@ fn enter<'b, R: Wait>(rt: &R, shared: &'b Mutex<Shared>) -> MutexGuard<'b, Share
     shared.lock(rt)
 }
 
-// Looks at the book some times, without the lock in between, until slot i is woken or all is over.
+// Looks at the book some times, without the lock in between, until page i is woken or all is over.
 fn look<'b, R: Wait>(rt: &R, guard: MutexGuard<'b, Shared>, i: u32) -> MutexGuard<'b, Shared> {
     let mut guard = guard;
     for _ in 0..LOOKS {
@@ -121,7 +121,7 @@ fn look<'b, R: Wait>(rt: &R, guard: MutexGuard<'b, Shared>, i: u32) -> MutexGuar
     guard
 }
 
-// Waits in slot i until it is woken, or all is over. Whether its worker goes on. It looks before it sleeps, but for the first text,
+// Waits in page i until it is woken, or all is over. Whether its worker goes on. It looks before it sleeps, but for the first text,
 // which may never come.
 fn wait_in<'b, R: Wait>(
     rt: &R,
@@ -155,7 +155,7 @@ fn wait_in<'b, R: Wait>(
     unreachable!()
 }
 
-// The worker of slot i is done. Those that wait are told, where none is left that could wake them.
+// The worker of page i is done. Those that wait are told, where none is left that could wake them.
 fn rest<R: Wait>(rt: &R, desk: &Desk, i: u32) {
     let mut guard = enter(rt, &desk.shared);
     if guard.book.is_busy(i) {
@@ -166,7 +166,7 @@ fn rest<R: Wait>(rt: &R, desk: &Desk, i: u32) {
     }
 }
 
-// Gives the lock up, and wakes those that sleep, where the slot of one of them was woken.
+// Gives the lock up, and wakes those that sleep, where the page of one of them was woken.
 fn leave(desk: &Desk, guard: MutexGuard<'_, Shared>) {
     let mut guard = guard;
     let shared = &mut *guard;
@@ -245,7 +245,7 @@ fn keep<T: Drop>(all: &mut Vec<T>, one: T) {
     let _ = all.push(one);
 }
 
-// Starts a thread for each interpreter, and returns when all have ended. Where one can't be started, its slot is put to rest, so
+// Starts a thread for each interpreter, and returns when all have ended. Where one can't be started, its page is put to rest, so
 // that the others don't wait for it.
 fn start_all<G: Gate + Sync, R: Threads + Wait + Sync>(
     rt: &R,

@@ -64,10 +64,10 @@ impl Sleepers {
         }
     }
 
-    /// Whether some worker sleeps whose slot was woken.
+    /// Whether some worker sleeps whose page was woken.
     pub(crate) fn has_woken(&self, book: &Book) -> bool
-        ensures yes { result ≡ true → (i : ℕ) × IsToWake self.now book.now.slots i }
-        ensures no { (i : ℕ) → IsToWake self.now book.now.slots i → result ≡ true }
+        ensures yes { result ≡ true → (i : ℕ) × IsToWake self.now book.now.pages i }
+        ensures no { (i : ℕ) → IsToWake self.now book.now.pages i → result ≡ true }
     {
         for k in 0..book.count() {
             if self.sleeps(k) && book.is_woken(k) {

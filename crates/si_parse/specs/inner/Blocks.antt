@@ -4,7 +4,7 @@ use Rattle.si_semantics.specs.Value.{Text}
 use Rattle.si_semantics.specs.Tree.{Expr, Stmt, Target}
 use Rattle.si_semantics.specs.Tree as tree
 use Rattle.si_semantics.specs.Tokens as token
-use Rattle.si_semantics.specs.Grammar.{Terminal, Sign, Word, NEWLINE, INDENT, DEDENT, max_depth, Branch, stmts_of, elifs_of}
+use Rattle.si_semantics.specs.Grammar.{Terminal, Sign, Word, NEWLINE, INDENT, DEDENT, max_depth, Branch, stmts_of, elifs_of, expression_level}
 use Rattle.si_parse.specs.inner.Lookahead.{after, rest_of}
 use Rattle.si_parse.specs.inner.Lists.{then_read, many_by, is_none}
 use Rattle.si_parse.specs.inner.Names.{name_at, parameters_by}
@@ -28,11 +28,11 @@ suite_by line ts = then_read (after (Sign token.Colon) ts) (λ rest. suite_from 
 
 -- a test and the suite after it
 abbrev pub branch_by : LineParser → List Terminal → Option (Branch × List Terminal)
-branch_by line ts = then_read (expression_at max_depth 1 ts) (λ t. then_read (suite_by line t.2) (λ b. Some ((t.0, stmts_of b.0), b.1)))
+branch_by line ts = then_read (expression_at max_depth expression_level ts) (λ t. then_read (suite_by line t.2) (λ b. Some ((t.0, stmts_of b.0), b.1)))
 
 -- what a `for` goes over, and the suite after it
 abbrev pub over_by : LineParser → List Terminal → Option (Branch × List Terminal)
-over_by line ts = then_read (expressions_by (expression_at max_depth) 1 ts) (λ t. then_read (suite_by line t.2) (λ b. Some ((t.0, stmts_of b.0), b.1)))
+over_by line ts = then_read (expressions_by (expression_at max_depth) expression_level ts) (λ t. then_read (suite_by line t.2) (λ b. Some ((t.0, stmts_of b.0), b.1)))
 
 abbrev pub with_branch : List Branch → Branch × List Terminal → Option (List Branch × List Terminal)
 with_branch bs r = Some (bs ++ r.0 ∷ [], r.1)

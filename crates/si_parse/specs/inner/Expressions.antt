@@ -7,7 +7,7 @@ use Rattle.si_semantics.specs.Scope.{is_in}
 use Rattle.si_semantics.specs.Tokens.{Symbol}
 use Rattle.si_semantics.specs.Tokens as token
 use Rattle.si_semantics.specs.Text.{max_length}
-use Rattle.si_semantics.specs.Grammar.{Terminal, NAME, NUMBER, STRING, BYTES, Sign, Word, Argument, Positional, ByName, value_of_int, value_of_str, value_of_bytes, right_level, prefix_level, item_level, is_identity, Link, chain_of, exprs_of}
+use Rattle.si_semantics.specs.Grammar.{Terminal, NAME, NUMBER, STRING, BYTES, Sign, Word, Argument, Positional, ByName, value_of_int, value_of_str, value_of_bytes, right_level, prefix_level, item_level, is_identity, Link, chain_of, exprs_of, bit_or_level, disjunction_level, expression_level}
 use Rattle.si_parse.specs.inner.Lookahead.{after, Continuation, operator, attribute, arguments, index, comparison, boolean, condition, nothing, continuation_at, strength_at, rest_of, after_boolean}
 use Rattle.si_parse.specs.inner.Lists.{then_read, Found, Parsed, Measured, alone, enclosed_by, chain_by}
 use Rattle.si_parse.specs.inner.Names.{name_at}
@@ -31,8 +31,8 @@ named_at (_ ∷ ts) = None
 
 -- an argument, once it is known whether a name stands in front
 abbrev pub argument_from : Parser → List Terminal → Option (Text × List Terminal) → Option Argued
-argument_from sub ts (Some n) = then_read (sub 1 n.1) (λ r. Some (ByName n.0 r.0, r.1, r.2))
-argument_from sub ts None = then_read (sub 1 ts) (λ r. Some (Positional r.0, r.1, r.2))
+argument_from sub ts (Some n) = then_read (sub expression_level n.1) (λ r. Some (ByName n.0 r.0, r.1, r.2))
+argument_from sub ts None = then_read (sub expression_level ts) (λ r. Some (Positional r.0, r.1, r.2))
 
 -- an argument is passed by name exactly where it begins with a name and an `=`
 abbrev pub argument_by : Parser → List Terminal → Option Argued
@@ -96,14 +96,14 @@ abbrev pub indexed : ℕ → Expr → ℕ → Found → List Terminal → Parsed
 indexed n e d i rest = within n (tree.Subscript e i.0) (max d i.1 + 1) rest
 
 abbrev pub subscript_by : Parser → ℕ → Expr → ℕ → List Terminal → Parsed
-subscript_by sub n e d ts = then_read (sub 1 ts) (λ i. then_read (after (Sign token.RightBracket) i.2) (indexed n e d i))
+subscript_by sub n e d ts = then_read (sub expression_level ts) (λ i. then_read (after (Sign token.RightBracket) i.2) (indexed n e d i))
 
 -- a conditional expression, from after its `if`
 abbrev pub other_by : Parser → ℕ → Expr → ℕ → Found → List Terminal → Parsed
-other_by sub n e d t ts = then_read (sub 1 ts) (λ o. within n (tree.Conditional t.0 e o.0) (max d (max t.1 o.1) + 1) o.2)
+other_by sub n e d t ts = then_read (sub expression_level ts) (λ o. within n (tree.Conditional t.0 e o.0) (max d (max t.1 o.1) + 1) o.2)
 
 abbrev pub conditional_by : Parser → ℕ → Expr → ℕ → List Terminal → Parsed
-conditional_by sub n e d ts = then_read (sub 3 ts) (λ t. then_read (after (Word token.ElseWord) t.2) (other_by sub n e d t))
+conditional_by sub n e d ts = then_read (sub disjunction_level ts) (λ t. then_read (after (Word token.ElseWord) t.2) (other_by sub n e d t))
 
 -- the operands of `and` or of `or` after the first one, from the first word on
 abbrev pub with_word : BooleanOperator → Option (List Terminal) → Option (BooleanOperator × List Terminal)
@@ -147,7 +147,7 @@ abbrev pub compared_to : ComparisonOperator → Found → Parsed
 compared_to op r = if is_identity op && not (is_singleton r.0 r.1) then None else Some r
 
 abbrev pub compared_by : Parser → ComparisonOperator → List Terminal → Parsed
-compared_by sub op ts = then_read (sub 10 ts) (compared_to op)
+compared_by sub op ts = then_read (sub bit_or_level ts) (compared_to op)
 
 -- the operators of comparisons with the operands after them, from the first operator on
 abbrev pub links_by : Parser → List Terminal → Option ((List Link × ℕ) × List Terminal)
@@ -177,7 +177,7 @@ continued_by sub n l (suc k) e d ts =
 -- the items of a tuple or a list after those that were read, up to the closed bracket, once it is known whether that stands first
 abbrev pub items_from : Parser → Symbol → Collected → List Terminal → Option (List Terminal) → Option (Collected × List Terminal)
 items_from sub bracket b ts (Some rest) = Some (b, rest)
-items_from sub bracket b ts None = enclosed_by alone (sub 1) bracket (length ts) b ts
+items_from sub bracket b ts None = enclosed_by alone (sub expression_level) bracket (length ts) b ts
 
 abbrev pub items_by : Parser → Symbol → Collected → List Terminal → Option (Collected × List Terminal)
 items_by sub bracket b ts = items_from sub bracket b ts (after (Sign bracket) ts)
@@ -234,7 +234,7 @@ grouped sub r = closed sub r.0 r.1 (after (Sign token.RightParenthesis) r.2) (af
 -- what stands in round brackets, once it is known whether they are closed at once
 abbrev pub bracketed_from : Parser → List Terminal → Option (List Terminal) → Parsed
 bracketed_from sub ts (Some rest) = Some (tree.Tuple tree.NoExprs, 1, rest)
-bracketed_from sub ts None = then_read (sub 1 ts) (grouped sub)
+bracketed_from sub ts None = then_read (sub expression_level ts) (grouped sub)
 
 -- from after the open bracket
 abbrev pub bracketed_by : Parser → List Terminal → Parsed
@@ -260,10 +260,10 @@ paired k v = Some ((k.0, v.0), max k.1 v.1, v.2)
 
 -- the value of a key, from after the colon
 abbrev pub value_of_key : Parser → Found → List Terminal → Option (Measured Pair)
-value_of_key sub k ts = then_read (sub 1 ts) (paired k)
+value_of_key sub k ts = then_read (sub expression_level ts) (paired k)
 
 abbrev pub pair_by : Parser → List Terminal → Option (Measured Pair)
-pair_by sub ts = then_read (sub 1 ts) (λ k. then_read (after (Sign token.Colon) k.2) (value_of_key sub k))
+pair_by sub ts = then_read (sub expression_level ts) (λ k. then_read (after (Sign token.Colon) k.2) (value_of_key sub k))
 
 -- keys and values by turns, up to the closed brace, once it is known whether that stands first
 abbrev pub pairs_from : Parser → List Terminal → Option (List Terminal) → Option (Collected × List Terminal)

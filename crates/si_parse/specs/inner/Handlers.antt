@@ -4,7 +4,7 @@ use Rattle.si_semantics.specs.Value.{Text}
 use Rattle.si_semantics.specs.Tree.{Expr, Stmt, Stmts}
 use Rattle.si_semantics.specs.Tree as tree
 use Rattle.si_semantics.specs.Tokens as token
-use Rattle.si_semantics.specs.Grammar.{Terminal, Sign, Word, max_depth, stmts_of, Clause, clauses_of}
+use Rattle.si_semantics.specs.Grammar.{Terminal, Sign, Word, max_depth, stmts_of, Clause, clauses_of, expression_level}
 use Rattle.si_parse.specs.inner.Lookahead.{Step, after}
 use Rattle.si_parse.specs.inner.Lists.{then_read, many_by, is_none}
 use Rattle.si_parse.specs.inner.Names.{name_at}
@@ -30,7 +30,7 @@ caught_from e ts (Some rest) = then_read (name_at rest) (λ n. Some ((e, Some n.
 
 -- from after the `except`
 abbrev pub caught_by : List Terminal → Option (Catch × List Terminal)
-caught_by ts = then_read (expression_at max_depth 1 ts) (λ t. caught_from t.0 t.2 (after (Word token.AsWord) t.2))
+caught_by ts = then_read (expression_at max_depth expression_level ts) (λ t. caught_from t.0 t.2 (after (Word token.AsWord) t.2))
 
 -- the same, with its suite
 abbrev pub clause_by : LineParser → List Terminal → Option (Clause × List Terminal)

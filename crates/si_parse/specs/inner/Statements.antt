@@ -8,7 +8,7 @@ use Rattle.si_semantics.specs.Tree as tree
 use Rattle.si_semantics.specs.Tokens.{Symbol}
 use Rattle.si_semantics.specs.Tokens as token
 use Rattle.si_semantics.specs.Text.{same_text}
-use Rattle.si_semantics.specs.Grammar.{Terminal, Sign, Word, NEWLINE, max_depth, target_of}
+use Rattle.si_semantics.specs.Grammar.{Terminal, Sign, Word, NEWLINE, max_depth, target_of, expression_level, factor_level}
 use Rattle.si_syntax.specs.Trees.{target_row}
 use Rattle.si_parse.specs.inner.Lookahead.{Step, after, rest_of}
 use Rattle.si_parse.specs.inner.Lists.{then_read, separated_by, Found, Parsed, many_by, is_none}
@@ -43,7 +43,7 @@ Chained = List Target × Expr
 
 -- the same with one more target, from after its `=`
 abbrev pub chained_from : Parser → Chained → List Terminal → Target → Option (Chained × List Terminal)
-chained_from sub b ts t = then_read (expressions_by sub 1 ts) (λ r. Some ((b.0 ++ t ∷ [], r.0), r.2))
+chained_from sub b ts t = then_read (expressions_by sub expression_level ts) (λ r. Some ((b.0 ++ t ∷ [], r.0), r.2))
 
 -- what stood behind the last `=` is one more target, where another `=` follows
 abbrev pub chained_by : Parser → Chained → List Terminal → Option (Chained × List Terminal)
@@ -71,7 +71,7 @@ augmented e op r = option_map (λ s. (s, r.2)) (augment e op r.0)
 
 -- from after its sign
 abbrev pub augmented_by : Parser → Expr → BinaryOperator → List Terminal → Option (Stmt × List Terminal)
-augmented_by sub e op ts = then_read (expressions_by sub 1 ts) (augmented e op)
+augmented_by sub e op ts = then_read (expressions_by sub expression_level ts) (augmented e op)
 
 -- what an expression begins: an assignment to it, or itself
 abbrev pub statement_from : Parser → List Terminal → Expr → Option (Option BinaryOperator × List Terminal) → Option (Stmt × List Terminal)
@@ -80,7 +80,7 @@ statement_from sub ts e (Some (None, rest)) = assigned_by sub e ts
 statement_from sub ts e (Some (Some op, rest)) = augmented_by sub e op rest
 
 abbrev pub spelled_by : Parser → List Terminal → Option (Stmt × List Terminal)
-spelled_by sub ts = then_read (expressions_by sub 1 ts) (λ r. statement_from sub r.2 r.0 (assignment_at r.2))
+spelled_by sub ts = then_read (expressions_by sub expression_level ts) (λ r. statement_from sub r.2 r.0 (assignment_at r.2))
 
 -- the statement that is one word
 abbrev pub word_statement : List Terminal → Option Stmt
@@ -103,11 +103,11 @@ value_by read ts = if ends_small ts then Some (None, ts) else then_read (read ts
 
 -- from after the `return`
 abbrev pub returned_by : Parser → List Terminal → Option (Stmt × List Terminal)
-returned_by sub ts = then_read (value_by (expressions_by sub 1) ts) (λ r. Some (tree.Return r.0, r.1))
+returned_by sub ts = then_read (value_by (expressions_by sub expression_level) ts) (λ r. Some (tree.Return r.0, r.1))
 
 -- from after the `raise`
 abbrev pub raised_by : Parser → List Terminal → Option (Stmt × List Terminal)
-raised_by sub ts = then_read (value_by (sub 1) ts) (λ r. Some (tree.Raise r.0, r.1))
+raised_by sub ts = then_read (value_by (sub expression_level) ts) (λ r. Some (tree.Raise r.0, r.1))
 
 -- the deletion of an expression, where that is a subscription
 abbrev pub deleted : Expr → List Terminal → Option (Stmt × List Terminal)
@@ -116,7 +116,7 @@ deleted _ ts = None
 
 -- From after the `del`. A subscription is of every level: one is asked at which no operator but `**` is read.
 abbrev pub deleted_by : Parser → List Terminal → Option (Stmt × List Terminal)
-deleted_by sub ts = then_read (sub 16 ts) (λ r. deleted r.0 r.2)
+deleted_by sub ts = then_read (sub factor_level ts) (λ r. deleted r.0 r.2)
 
 -- from after the `global`
 abbrev pub global_by : List Terminal → Option (Stmt × List Terminal)

@@ -2,7 +2,7 @@
 use Rattle.std.specs.Prelude.{List, [], ◌∷◌, Option, Some, None, option_map}
 use Rattle.si_semantics.specs.Tree.{Expr, Target, Targets}
 use Rattle.si_semantics.specs.Tokens as token
-use Rattle.si_semantics.specs.Grammar.{Terminal, Word, max_depth, target_of, more_targets}
+use Rattle.si_semantics.specs.Grammar.{Terminal, Word, max_depth, target_of, more_targets, factor_level}
 use Rattle.si_parse.specs.inner.Lookahead.{after}
 use Rattle.si_parse.specs.inner.Lists.{then_read}
 use Rattle.si_parse.specs.inner.Expressions.{expression_at}
@@ -19,4 +19,4 @@ target_from e behind = then_read (target_of e) (λ t. option_map (λ rest. (t, r
 
 -- The targets of a `for`, and the terminals after the `in`. A target is of every level: one is asked at which no operator but `**` is read.
 abbrev pub target_by : List Terminal → Option (Target × List Terminal)
-target_by ts = then_read (expressions_by (expression_at max_depth) 16 ts) (λ r. target_from r.0 (after (Word token.InWord) r.2))
+target_by ts = then_read (expressions_by (expression_at max_depth) factor_level ts) (λ r. target_from r.0 (after (Word token.InWord) r.2))

@@ -8,4 +8,4 @@ pub invariant_of-result : goal.invariant_of-result
 invariant_of-result c =
     let n = c.interpreters-k-end.ensures.value ∙ ap (λ (l : Numbers). l.interpreters) c.limits.ensures in
     let all : c.loop-k._k ≡ c.args.hub.past.limits.interpreters = (let t = c.loop-k-test.false in let e = c.loop-k.auto._k-end in omega arith) in
-    book_first c.args.hub.past c.loop-k.slots.items c.facts.ensures.told (c.loop-k.invariant ∙ ap (λ (k : ℕ). replicate k Busy) all)
+    book_first c.args.hub.past c.loop-k.pages.items c.facts.ensures.told (c.loop-k.invariant ∙ ap (λ (k : ℕ). replicate k Busy) all)

@@ -3,4 +3,4 @@ use Rattle.si_workers.specs.Books.{Busy}
 use Rattle.si_workers.proofs.book.Book.new.Given as goal
 
 abbrev pub invariant-loop-k : goal.invariant-loop-k
-invariant-loop-k l = l.slots.items ≡ replicate l._k Busy
+invariant-loop-k l = l.pages.items ≡ replicate l._k Busy

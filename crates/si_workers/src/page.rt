@@ -5,14 +5,14 @@ ghost use Rattle.si_semantics.specs.Actions as shared;
 ghost use Rattle.si_parcel.specs.Shared.{action_of};
 ghost use Rattle.si_workers.specs.Books as book;
 ghost use Rattle.si_workers.specs.Books.{is_still, is_woken, roused, roused_from};
-ghost use Rattle.si_workers.specs.inner.Slots.{is_busy, is_ready, kept, slot_in};
+ghost use Rattle.si_workers.specs.inner.Pages.{is_busy, is_ready, kept, page_in};
 
 use si_hub::Hub;
 use si_parcel::Action;
 use std::marker::Model;
 use std::mem;
 
-// What the worker of a slot does.
+// What the worker of a page does.
 #[derive(Drop)]
 pub(crate) enum Doing {
     // It is at work.
@@ -25,30 +25,30 @@ pub(crate) enum Doing {
     Rest,
 }
 
-// The slot of an interpreter.
+// The page of an interpreter.
 #[derive(Drop)]
-pub(crate) struct Slot {
+pub(crate) struct Page {
     doing: Doing,
 }
 
-impl Model for Slot {
-    ghost use Rattle.si_workers.specs.Books.{Slot};
-    ghost use Rattle.si_workers.specs.BookCode.{slot_code};
+impl Model for Page {
+    ghost use Rattle.si_workers.specs.Books.{Page};
+    ghost use Rattle.si_workers.specs.BookCode.{page_code};
 
-    ghost Value = { Slot };
+    ghost Value = { Page };
 
-    ghost coded = { slot_code };
+    ghost coded = { page_code };
 
-    ghost use Rattle.si_workers.specs.inner.Slots.{slot_in};
+    ghost use Rattle.si_workers.specs.inner.Pages.{page_in};
 
-    ghost view = { λ s. slot_in s.doing };
+    ghost view = { λ s. page_in s.doing };
 }
 
-impl Slot {
-    pub(crate) fn new(doing: Doing) -> Slot
-        ensures { result ≡ slot_in doing }
+impl Page {
+    pub(crate) fn new(doing: Doing) -> Page
+        ensures { result ≡ page_in doing }
     {
-        Slot { doing }
+        Page { doing }
     }
 
     pub(crate) fn is_busy(&self) -> bool
@@ -89,13 +89,13 @@ impl Slot {
         }
     }
 
-    // The slot, woken if it waits.
-    fn woken(self) -> Slot
+    // The page, woken if it waits.
+    fn woken(self) -> Page
         ensures { (a : _) → self ≡ book.Waiting a → result ≡ book.Woken a }
     {
         match self.doing {
-            Doing::Waiting(action) => Slot::new(Doing::Woken(action)),
-            doing => Slot::new(doing),
+            Doing::Waiting(action) => Page::new(Doing::Woken(action)),
+            doing => Page::new(doing),
         }
     }
 
@@ -104,8 +104,8 @@ impl Slot {
         ensures { self.new ≡ roused hub.now.past i self.old }
     {
         if self.is_ready(hub, i) {
-            let slot = mem::replace(self, Slot::new(Doing::Rest));
-            *self = slot.woken();
+            let page = mem::replace(self, Page::new(Doing::Rest));
+            *self = page.woken();
         }
     }
 
@@ -122,38 +122,38 @@ impl Slot {
     }
 }
 
-// Puts another slot in the place of one.
-pub(crate) fn set_slot(slots: &mut Vec<Slot>, i: u32, slot: Slot)
-    requires { i < length slots.old.items }
-    ensures { slots.new.items ≡ slice_set slots.old.items i slot }
+// Puts another page in the place of one.
+pub(crate) fn set_page(pages: &mut Vec<Page>, i: u32, page: Page)
+    requires { i < length pages.old.items }
+    ensures { pages.new.items ≡ slice_set pages.old.items i page }
 {
-    slots[i as usize] = slot;
+    pages[i as usize] = page;
 }
 
-// Puts another slot in the place of one, which it hands out.
-pub(crate) fn swap_slot(slots: &mut Vec<Slot>, i: u32, slot: Slot) -> Slot
-    requires { i < length slots.old.items }
-    ensures old { result ≡ slice_index_or slots.old.items i result }
-    ensures new { slots.new.items ≡ slice_set slots.old.items i slot }
+// Puts another page in the place of one, which it hands out.
+pub(crate) fn swap_page(pages: &mut Vec<Page>, i: u32, page: Page) -> Page
+    requires { i < length pages.old.items }
+    ensures old { result ≡ slice_index_or pages.old.items i result }
+    ensures new { pages.new.items ≡ slice_set pages.old.items i page }
 {
-    mem::replace(&mut slots[i as usize], slot)
+    mem::replace(&mut pages[i as usize], page)
 }
 
-// Wakes slot k, where it waits with an action that is enabled.
-fn rouse_one(hub: &Hub, slots: &mut Vec<Slot>, k: u32)
-    requires { k < length slots.old.items }
-    ensures count { length slots.new.items ≡ length slots.old.items }
-    ensures roused { (s : book.Slot) → slice_get slots.old.items k ≡ Some s → slots.new.items ≡ slice_set slots.old.items k (roused hub.now.past k s) }
+// Wakes page k, where it waits with an action that is enabled.
+fn rouse_one(hub: &Hub, pages: &mut Vec<Page>, k: u32)
+    requires { k < length pages.old.items }
+    ensures count { length pages.new.items ≡ length pages.old.items }
+    ensures roused { (s : book.Page) → slice_get pages.old.items k ≡ Some s → pages.new.items ≡ slice_set pages.old.items k (roused hub.now.past k s) }
 {
-    slots[k as usize].rouse(hub, k);
+    pages[k as usize].rouse(hub, k);
 }
 
-// Wakes each slot that waits with an action that is enabled. There are `count` slots.
-pub(crate) fn rouse_all(hub: &Hub, slots: &mut Vec<Slot>, count: u32)
-    requires { count ≡ length slots.old.items }
-    ensures { slots.new.items ≡ roused_from hub.now.past 0 slots.old.items }
+// Wakes each page that waits with an action that is enabled. There are `count` pages.
+pub(crate) fn rouse_all(hub: &Hub, pages: &mut Vec<Page>, count: u32)
+    requires { count ≡ length pages.old.items }
+    ensures { pages.new.items ≡ roused_from hub.now.past 0 pages.old.items }
 {
     for k in 0..count {
-        rouse_one(hub, slots, k);
+        rouse_one(hub, pages, k);
     }
 }

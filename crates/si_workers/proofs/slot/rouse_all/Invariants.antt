@@ -1,6 +1,0 @@
-use Rattle.std.proofs.Common.{◌≡◌}
-use Rattle.si_workers.specs.inner.Slots.{roused_first}
-use Rattle.si_workers.proofs.slot.rouse_all.Given as goal
-
-abbrev pub invariant-loop-k : goal.invariant-loop-k
-invariant-loop-k l = l.slots.items ≡ roused_first l.hub.past 0 l.k l.fn.slots.items
