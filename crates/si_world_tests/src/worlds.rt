@@ -1,7 +1,6 @@
 // A world whose turns are given by hand, in a list and in rounds.
 
-use crate::interpreters::is_shown;
-use si_interp::State;
+use si_interp::{NotShown, State};
 use si_parcel::{Action, Outcome};
 use si_plain::{Kind, Limits};
 use si_world::{End, Mark, Recording, Report, Standing, World};
@@ -81,7 +80,12 @@ fn before_any_turn(rt: HostRuntime) -> Result<(), Fail> {
 fn is_global(world: &World, i: u32, name: &str, wanted: &str) -> Result<bool, Fail> {
     match world.interp(i) {
         None => Ok(false),
-        Some(interp) => is_shown(interp, name, wanted),
+        Some(interp) => match interp.global(name) {
+            Ok(Some(text)) => Ok(text.as_str() == wanted),
+            Ok(None) => Ok(false),
+            Err(NotShown::Raises(_)) => Ok(false),
+            Err(NotShown::NoMemory) => Err(AllocError)?,
+        },
     }
 }
 

@@ -87,7 +87,7 @@ fn second_run_sees_the_names_of_the_first(rt: HostRuntime) -> Result<(), Fail> {
 }
 
 // Whether this is shown of a global.
-pub(crate) fn is_shown(interp: &Interp, name: &str, wanted: &str) -> Result<bool, Fail> {
+fn is_shown(interp: &Interp, name: &str, wanted: &str) -> Result<bool, Fail> {
     match interp.global(name) {
         Ok(Some(text)) => Ok(text.as_str() == wanted),
         Ok(None) => Ok(false),
