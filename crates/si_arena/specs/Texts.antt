@@ -81,6 +81,10 @@ Adds t old new (Ok r) = (length t ≤ max_length) × IsAdded t old new r
 Adds t old new (Err (Raises cause)) = (max_length < length t) × (cause ≡ TooLong) × (new ≡ old)
 Adds t old new (Err NoMemory) = new ≡ old
 
+-- what is asked for is refused as too long, and as nothing else
+abbrev pub IsTooLong : Result Ref Fault → Type 0
+IsTooLong result = result ≡ Err (Raises TooLong)
+
 -- a text stands at the end of a row, which has gone on, from a start on
 pub record StandsLast (w : Width) (t : List ℕ) (old new : Rows) (start : ℕ) : Type 0 where
   pub row : (more : List ℕ) × (new ≡ with_row w (row_of w old ++ more) old)

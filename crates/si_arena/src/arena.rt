@@ -1,12 +1,13 @@
 // The arena of one interpreter.
 
-ghost use Rattle.std.specs.Prelude.{IsOk, ◌+◌, ◌≤◌, ◌≡◌, ◌<◌, ◌∷◌, [], length, slice_get, slice_set, slice_index, Some, IfOk, OnErr, ◌++◌};
+ghost use Rattle.std.specs.Prelude.{IsOk, ◌+◌, ◌≤◌, ◌≡◌, ◌<◌, ◌∷◌, [], length, slice_get, slice_set, slice_index, Some, IfOk, OnErr, ◌++◌, true, not};
 ghost use Rattle.si_plain.specs.Characters.{characters_of};
+ghost use Rattle.si_semantics.specs.Text.{max_length};
 ghost use Rattle.si_semantics.specs.Value as pure;
 ghost use Rattle.si_arena.specs.Short.{FitsShort};
-ghost use Rattle.si_arena.specs.Texts.{IsNarrow, GoesOn, size_of, text_of, repeated_text};
+ghost use Rattle.si_arena.specs.Texts.{IsNarrow, GoesOn, IsTooLong, size_of, text_of, repeated_text};
 ghost use Rattle.si_arena.specs.Causes.{name_at};
-ghost use Rattle.si_semantics.specs.Tuples.{count_of, levels_of};
+ghost use Rattle.si_semantics.specs.Tuples.{count_of, levels_of, is_too_large};
 ghost use Rattle.si_arena.specs.Bytes.{bytes_of, text_of_bytes};
 ghost use Rattle.si_arena.specs.Tuples.{Measures};
 ghost use Rattle.si_arena.specs.Memory.{value_of, all_of, range_of, object_of, ObjectLies, Lies, AllLie, Placed, PlacesText, PlacesBytes, PlacesTuple, IsNamed, IsMade};
@@ -75,6 +76,7 @@ impl Arena {
     /// refused.
     pub fn place_text(&mut self, text: &str) -> Result<Ref, Fault>
         ensures text { PlacesText (characters_of text.now) self.old self.new result }
+        ensures long { max_length < length (characters_of text.now) → IsTooLong result }
         ensures short { FitsShort (characters_of text.now) → (self.new ≡ self.old) × IsOk result }
     {
         self.texts.place(text)
@@ -88,6 +90,7 @@ impl Arena {
         requires left { Lies self.old left }
         requires right { Lies self.old right }
         ensures text { PlacesText (text_of self.old.texts left ++ text_of self.old.texts right) self.old self.new result }
+        ensures long { max_length < length (text_of self.old.texts left ++ text_of self.old.texts right) → IsTooLong result }
         ensures short { IsNarrow left → IsNarrow right → length (text_of self.old.texts left) + length (text_of self.old.texts right) ≤ 14 → (self.new ≡ self.old) × IsOk result }
         ensures in_place { GoesOn self.old.texts left right → size_of self.new.texts ≤ size_of self.old.texts + length (text_of self.old.texts right) }
     {
@@ -100,6 +103,7 @@ impl Arena {
     pub fn repeat(&mut self, text: Ref, count: i64) -> Result<Ref, Fault>
         requires { Lies self.old text }
         ensures text { PlacesText (repeated_text (text_of self.old.texts text) count) self.old self.new result }
+        ensures long { max_length < length (repeated_text (text_of self.old.texts text) count) → IsTooLong result }
         ensures short { IsNarrow text → length (repeated_text (text_of self.old.texts text) count) ≤ 14 → (self.new ≡ self.old) × IsOk result }
     {
         self.texts.repeat(text, count)
@@ -118,6 +122,7 @@ impl Arena {
     /// refused.
     pub fn place_bytes(&mut self, bytes: &[u8]) -> Result<Ref, Fault>
         ensures bytes { PlacesBytes bytes.now self.old self.new result }
+        ensures long { max_length < length bytes.now → IsTooLong result }
         ensures short { length bytes.now ≤ 14 → (self.new ≡ self.old) × IsOk result }
     {
         let placed = self.texts.place_narrow(bytes)?;
@@ -132,6 +137,7 @@ impl Arena {
         requires left { Lies self.old left }
         requires right { Lies self.old right }
         ensures bytes { PlacesBytes (bytes_of self.old.texts left ++ bytes_of self.old.texts right) self.old self.new result }
+        ensures long { max_length < length (bytes_of self.old.texts left ++ bytes_of self.old.texts right) → IsTooLong result }
         ensures short { length (bytes_of self.old.texts left) + length (bytes_of self.old.texts right) ≤ 14 → (self.new ≡ self.old) × IsOk result }
         ensures in_place { GoesOn self.old.texts (text_of_bytes left) (text_of_bytes right) → size_of self.new.texts ≤ size_of self.old.texts + length (bytes_of self.old.texts right) }
     {
@@ -145,6 +151,7 @@ impl Arena {
     pub fn repeat_bytes(&mut self, bytes: Ref, count: i64) -> Result<Ref, Fault>
         requires { Lies self.old bytes }
         ensures bytes { PlacesBytes (repeated_text (bytes_of self.old.texts bytes) count) self.old self.new result }
+        ensures long { max_length < length (repeated_text (bytes_of self.old.texts bytes) count) → IsTooLong result }
         ensures short { length (repeated_text (bytes_of self.old.texts bytes) count) ≤ 14 → (self.new ≡ self.old) × IsOk result }
     {
         let repeated = self.texts.repeat(text_of_bytes(bytes), count)?;
@@ -165,13 +172,22 @@ impl Arena {
     /// more than 200 levels deep; unchanged where it is refused.
     pub fn place_tuple(&mut self, items: &[Ref]) -> Result<Ref, Fault>
         requires { AllLie self.old items.now }
-        ensures { PlacesTuple (all_of self.old items.now) self.old self.new result }
+        ensures tuple { PlacesTuple (all_of self.old items.now) self.old self.new result }
+        ensures large { is_too_large (pure.tuple_of (all_of self.old items.now)) ≡ true → IsTooLong result }
     {
         let Some(size) = self.size_of_all(items) else {
             return Err(Fault::Raises(Cause::TooLong));
         };
         let place = self.tuples.push(items, size)?;
         Ok(Ref::Tuple(place))
+    }
+
+    /// Whether a tuple of these items is not too large: no more than 65,536 values, and no more than 200 levels deep.
+    pub fn admits_tuple(&self, items: &[Ref]) -> bool
+        requires { AllLie self.now items.now }
+        ensures { result ≡ not (is_too_large (pure.tuple_of (all_of self.now items.now))) }
+    {
+        self.size_of_all(items).is_some()
     }
 
     // How large a tuple of these items is, where it is not too large.

@@ -1,11 +1,12 @@
 // The rows in which the characters of texts lie.
 
 ghost use Rattle.std.specs.Prelude.{IsOk, IsSome, if◌then◌else◌, ◌*◌, IfSome, ◌<◌, ◌^◌, ◌∷◌, slice_index, ◌≡◌, ◌+◌, ◌≤◌, ◌++◌, List, [], take, drop, length, OnOk, OnErr, IfOk};
+ghost use Rattle.si_semantics.specs.Text.{max_length};
 ghost use Rattle.si_semantics.specs.Operations.{times};
 ghost use Rattle.si_plain.specs.Characters.{characters_of};
 ghost use Rattle.si_arena.specs.Short.{short_text, FitsShort};
 ghost use Rattle.si_arena.specs.declared.value.Width.TheVariants as width;
-ghost use Rattle.si_arena.specs.Texts.{EndsRow, GoesOn, size_of, copies_of, text_of, TextLies, IsNarrow, FitsIn, IsAdded, StandsLast, row_of, with_row, slice_in, Adds, characters_in, repeated_text};
+ghost use Rattle.si_arena.specs.Texts.{EndsRow, GoesOn, size_of, copies_of, text_of, TextLies, IsNarrow, FitsIn, IsAdded, StandsLast, row_of, with_row, slice_in, Adds, IsTooLong, characters_in, repeated_text};
 
 use crate::cause::{Cause, Fault};
 use crate::characters::Characters;
@@ -243,6 +244,7 @@ impl Texts {
         requires left { TextLies self.old left }
         requires right { TextLies self.old right }
         ensures text { Adds (text_of self.old left ++ text_of self.old right) self.old self.new result }
+        ensures long { max_length < length (text_of self.old left ++ text_of self.old right) → IsTooLong result }
         ensures short { IsNarrow left → IsNarrow right → length (text_of self.old left) + length (text_of self.old right) ≤ 14 → (self.new ≡ self.old) × IsOk result }
         ensures in_place { GoesOn self.old left right → size_of self.new ≤ size_of self.old + length (text_of self.old right) }
         ensures narrow { IsNarrow left → IsNarrow right → IfOk result (λ r. IsNarrow r) }
@@ -276,6 +278,7 @@ impl Texts {
     pub fn repeat(&mut self, text: Ref, count: i64) -> Result<Ref, Fault>
         requires { TextLies self.old text }
         ensures text { Adds (repeated_text (text_of self.old text) count) self.old self.new result }
+        ensures long { max_length < length (repeated_text (text_of self.old text) count) → IsTooLong result }
         ensures short { IsNarrow text → length (repeated_text (text_of self.old text) count) ≤ 14 → (self.new ≡ self.old) × IsOk result }
         ensures narrow { IsNarrow text → IfOk result (λ r. IsNarrow r) }
     {
@@ -334,6 +337,7 @@ impl Texts {
     /// it is refused.
     pub fn place(&mut self, text: &str) -> Result<Ref, Fault>
         ensures text { Adds (characters_of text.now) self.old self.new result }
+        ensures long { max_length < length (characters_of text.now) → IsTooLong result }
         ensures short { FitsShort (characters_of text.now) → (self.new ≡ self.old) × IsOk result }
     {
         if let Some(short) = Short::from_str(text) {
@@ -356,6 +360,7 @@ impl Texts {
     /// refused.
     pub fn place_narrow(&mut self, characters: &[u8]) -> Result<Ref, Fault>
         ensures text { Adds characters.now self.old self.new result }
+        ensures long { max_length < length characters.now → IsTooLong result }
         ensures short { length characters.now ≤ 14 → (self.new ≡ self.old) × IsOk result }
         ensures narrow { IfOk result (λ r. IsNarrow r) }
     {

@@ -26,8 +26,8 @@ invariant_of-self-2 c =
     let p = c.in_ok-place.ensures.ok in
     rw (p.items, p.tuples) (tuple_kept _ _ _ _ _ _ _ c.self.invariant xs c.in-Some.size lie values levels)
 
-pub returns : goal.returns
-returns c =
+pub returns-clause-tuple : goal.returns-clause-tuple
+returns-clause-tuple c =
     let m = c.args.self.now in
     let xs = c.args.items.now in
     let own = c.self.view_is in
