@@ -40,4 +40,4 @@ returns-clause-tuple c =
     let m = c.args.arena.now in
     let is = ap (all_of m) c.as_slice.ensures.value ∙ c.in_ok-items.ensures.all m in
     let P : List Value → Type 0 = λ vs. PlacesTuple vs m c.place_tuple.new.self c.place_tuple.result in
-    subst P is c.place_tuple.ensures
+    subst P is c.place_tuple.ensures.tuple

@@ -13,7 +13,7 @@ returns-then-is_empty-clause-tuple c =
     let none = sym c.members-items.ensures.items ∙ ap (all_of m) (no_items c.members-items.result.now c.is_empty.result c.is_empty.ensures c.if-is_empty.true) in
     let e = ap (copies c.args.count) none ∙ copies_empty c.args.count in
     let P : List Value → Type 0 = λ vs. PlacesTuple vs m c.place_tuple.new.self c.place_tuple.result in
-    subst P (sym e) c.place_tuple.ensures
+    subst P (sym e) c.place_tuple.ensures.tuple
 
 pub returns-then-is_empty-clause-told : goal.returns-then-is_empty-clause-told
 returns-then-is_empty-clause-told c = λ h.
@@ -43,7 +43,7 @@ returns-clause-tuple c =
     let m = c.args.arena.now in
     let is = ap (all_of m) c.as_slice.ensures.value ∙ c.in_ok-all.ensures.all m ∙ ap (copies c.args.count) c.members-items.ensures.items in
     let P : List Value → Type 0 = λ vs. PlacesTuple vs m c.place_tuple-2.new.self c.place_tuple-2.result in
-    subst P is c.place_tuple-2.ensures
+    subst P is c.place_tuple-2.ensures.tuple
 
 pub returns-clause-told : goal.returns-clause-told
 returns-clause-told c = λ h.

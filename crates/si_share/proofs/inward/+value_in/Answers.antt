@@ -87,7 +87,7 @@ tuple_in-returns-in-Ok-place_tuple t c =
     let empty : Some NoValues ≡ Some (values_of inv.values.0) = ap (λ us. values_of_parcels (trees_of us)) (sym none) ∙ inv.values.1 in
     let whole = complete_values (all_of c.items.arena c.items.values.items) inv.values.0 cc in
     let all = inv.values.2 ∙ ap (λ us. Some (values_of us)) whole in
-    let p = (rw c.as_slice.ensures.value at c.in-Ok-place_tuple.ensures).1 in (
+    let p = (rw c.as_slice.ensures.value at c.in-Ok-place_tuple.ensures.tuple).1 in (
       pure.tuple_of (all_of c.items.arena c.items.values.items),
       ap (option_map pure.Tuple) all,
       record { denotes = p.denotes; lies = p.lies; extends = extends_more inv.extends p.extends; store = p.store ∙ inv.store },
@@ -102,6 +102,6 @@ tuple_in-unreachable-requires t c =
     let whole = complete_values (all_of c.items.arena c.items.values.items) inv.values.0 cc in
     let all = inv.values.2 ∙ ap (λ us. Some (values_of us)) whole in
     let small = not_too_large ts (all_of c.items.arena c.items.values.items) c.requires.fits all in
-    let large = raised_large (all_of c.items.arena c.as_slice.result.now) c.items.arena c.place_tuple.new.self c.in-Err-Raises.field-0 c.in-Err-Raises.field-0-0 c.in-Err-Raises.field-0-is c.in-Err-Raises.ensures in
+    let large = raised_large (all_of c.items.arena c.as_slice.result.now) c.items.arena c.place_tuple.new.self c.in-Err-Raises.field-0 c.in-Err-Raises.field-0-0 c.in-Err-Raises.field-0-is c.in-Err-Raises.ensures.tuple in
     let both : false ≡ true = sym small ∙ ap (λ rs. is_too_large (pure.tuple_of (all_of c.items.arena rs))) (sym c.as_slice.ensures.value) ∙ large in
     absurd (false≢true both)

@@ -24,7 +24,7 @@ pub returns-in-Ok : goal.returns-in-Ok
 returns-in-Ok g c =
     let s = c.args.self.now in
     let rs = c.arguments-items.result.now in
-    let runs = placed_runs (all_of s.arena rs) s.arena c.place_tuple.new.self (Ok c.in-Ok.tuple) c.in-Ok.ensures in
+    let runs = placed_runs (all_of s.arena rs) s.arena c.place_tuple.new.self (Ok c.in-Ok.tuple) c.in-Ok.ensures.tuple in
     alike _ _ g.p s c.put.new.self c.put.result (display_is tuple_within (target_of c.args.target) c.args.at c.args.count (s.pc + 1) s g.p rs c.requires.at c.requires.open_line c.arguments-items.ensures)
     (given_anew c.args.target (gathered s rs) c.in-Ok.tuple g.p (take c.args.at g.p.ts) s c.put.new.self c.place_tuple.new.self c.put.result c.requires.at c.requires.running
     (keeps_fewer s.arena s.frames.temporaries g.p.ts c.args.at c.requires.at.0.temporaries) runs c.put.ensures)
@@ -35,7 +35,7 @@ returns-in-Err-Raises g c =
     let rs = c.arguments-items.result.now in
     let m = c.place_tuple.new.self in
     let k = c.in-Err-Raises in
-    let placed = subst (λ (f : Fault). PlacesTuple (all_of s.arena rs) s.arena m (Err f)) k.field-0-is k.ensures in
+    let placed = subst (λ (f : Fault). PlacesTuple (all_of s.arena rs) s.arena m (Err f)) k.field-0-is k.ensures.tuple in
     let runs = placed_runs (all_of s.arena rs) s.arena m (Err (Raises k.cause)) placed in
     let mid : State = record s { arena = m } in
     let did = subst (λ (a : Cause). Did (raised_line a mid g.p) g.p mid c.raise.new.self c.raise.result) k.cause-is c.raise.ensures in
