@@ -1,23 +1,27 @@
 -- What the code of assignments gives, of its parts.
-use Rattle.std.proofs.Common.{◌≡◌, ℕ, ◌+◌, ◌<◌, ◌≤◌, List, [], ◌∷◌, ◌++◌, length, drop, get_or, Option, Some, None, refl, sym, ap, subst, ◌∙◌, append_assoc, arith}
+use Rattle.std.proofs.Common.{◌≡◌, ℕ, ◌+◌, ◌<◌, ◌≤◌, List, [], ◌∷◌, ◌++◌, length, drop, get_or, map, nat_eq, false, Vec, Global, Option, Some, None, refl, sym, ap, subst, ◌∙◌, append_assoc, arith, eq-eqb, ne_eqb}
 use Rattle.std.proofs.lemmas.List.{drop_all}
 use Rattle.si_semantics.specs.Value.{Text}
 use Rattle.si_semantics.specs.Tree as tree
 use Rattle.si_semantics.specs.Tree.{count_of_targets}
+use Rattle.si_semantics.specs.Grammar.{exprs_of}
+use Rattle.si_semantics.specs.Meaning.{choose}
+use Rattle.si_syntax.specs.declared.expr.Expr.{Expr}
+use Rattle.si_syntax.specs.declared.expr.Expr.TheViews as views
 use Rattle.si_syntax.specs.declared.target.Target.{Target}
-use Rattle.si_syntax.specs.Trees.{target_of, targets_of}
+use Rattle.si_syntax.specs.Trees.{expr_of, target_of, targets_of}
 use Rattle.si_syntax.proofs.Rows.{rest_is}
 use Rattle.si_slots.specs.declared.operand.Operand as operand
 use Rattle.si_slots.specs.Machine as machine
 use Rattle.si_slots.specs.Machine.{Source, Kept, ToTemporary, ToNowhere}
-use Rattle.si_slots.specs.Code.{in_place, expr_code, target_code, targets_code, each_code, store_code, assign_target_code, assign_all_code}
+use Rattle.si_slots.specs.Code.{count, in_place, expr_code, target_code, exprs_code, targets_code, each_code, displayed, unpack_code, store_code, assign_target_code, assign_all_code}
 use Rattle.si_slots.specs.Contents.{Contents}
 use Rattle.si_slots.specs.Views.{Gains, locals_now, words_now, operand_of}
 use Rattle.si_slots.proofs.Gained.{Gains-append, locals_kept}
 use Rattle.si_emit.specs.inner.Fronts.{front, held}
 use Rattle.si_emit.specs.inner.Stores.{stored, one_or}
 use Rattle.si_emit.proofs.Fronts.{single_is}
-use Rattle.si_emit.proofs.Emitted.{Lies}
+use Rattle.si_emit.proofs.Emitted.{Lies, count_exprs, tuple_is}
 
 -- ---- one target
 
@@ -34,15 +38,31 @@ not_stored a b c s t is_a is_b is_c = ap (λ o. stored o b c) (sym is_a) ∙ ap 
 
 -- an operand that is unpacked, and the targets
 pub unpacks : {t0 t1 t2 : Contents} (ls : List Text) (a : tree.Expr) (ts : tree.Targets) (s : operand.Operand) → locals_now t0 ≡ ls → Gains t0 t1 (front (in_place ls a) (expr_code ls 0 (ToTemporary 0) a)) → Lies ls s (held (in_place ls a) 0)
-    → Gains t1 t2 (machine.Unpack (operand_of (words_now t1) s) 0 (count_of_targets ts) ∷ targets_code ls 0 ts) → Gains t0 t2 (assign_target_code ls (tree.Unpack ts) a)
-unpacks {t0} {t1} {t2} ls a ts s names h lies k =
+    → Gains t1 t2 (machine.Unpack (operand_of (words_now t1) s) 0 (count_of_targets ts) ∷ targets_code ls 0 ts) → displayed (count_of_targets ts) a ≡ None → Gains t0 t2 (assign_target_code ls (tree.Unpack ts) a)
+unpacks {t0} {t1} {t2} ls a ts s names h lies k none =
     let code = expr_code ls 0 (ToTemporary 0) a in
     let before = front (in_place ls a) code in
     let i : Source → machine.Instr = λ v. machine.Unpack v 0 (count_of_targets ts) in
     let row = targets_code ls 0 ts in
     let last = subst (λ v. Gains t1 t2 (i v ∷ row)) (lies (words_now t1) (locals_kept h names)) k in
     let split = ap (λ l. l ++ row) (single_is (in_place ls a) code 0 i) ∙ append_assoc before (i (held (in_place ls a) 0) ∷ []) row in
-    subst (Gains t0 t2) (sym split) (Gains-append t0 t1 t2 before (i (held (in_place ls a) 0) ∷ row) h last)
+    subst (Gains t0 t2) (sym (ap (unpack_code ls ts a) none ∙ split)) (Gains-append t0 t1 t2 before (i (held (in_place ls a) 0) ∷ row) h last)
+
+-- a display, whose items are in as many temporaries
+pub displays : {t0 t1 : Contents} (ls : List Text) (a : tree.Expr) (ts : tree.Targets) (items : tree.Exprs) → displayed (count_of_targets ts) a ≡ Some items → Gains t0 t1 (exprs_code ls 0 items ++ (machine.Reverse 0 (count_of_targets ts) ∷ targets_code ls 0 ts)) → Gains t0 t1 (assign_target_code ls (tree.Unpack ts) a)
+displays {t0} {t1} ls a ts items is h = subst (Gains t0 t1) (sym (ap (unpack_code ls ts a) is)) h
+
+-- the items of a display, where there are as many
+pub display_there : (v : Expr) (items : Vec Expr Global) (n : ℕ) → v ≡ views.Tuple items → length items.items ≡ n → displayed n (expr_of v) ≡ Some (exprs_of (map expr_of items.items))
+display_there v items n is many =
+    let es = exprs_of (map expr_of items.items) in
+    ap (λ e. displayed n (expr_of e)) is ∙ ap (displayed n) (tuple_is items) ∙ ap (λ b. choose b (Some es) None) (eq-eqb (count es) n (count_exprs items.items ∙ many))
+
+pub display_other : (v : Expr) (items : Vec Expr Global) (n : ℕ) → v ≡ views.Tuple items → (length items.items ≡ n → ⊥) → displayed n (expr_of v) ≡ None
+display_other v items n is other =
+    let es = exprs_of (map expr_of items.items) in
+    let none : nat_eq (count es) n ≡ false = ne_eqb (count es) n (λ e. other (sym (count_exprs items.items) ∙ e)) in
+    ap (λ e. displayed n (expr_of e)) is ∙ ap (displayed n) (tuple_is items) ∙ ap (λ b. choose b (Some es) None) none
 
 -- ---- several targets
 

@@ -13,7 +13,7 @@ use Rattle.si_semantics.specs.Tree.{count_of_targets, functions_in, functions_in
 use Rattle.si_semantics.specs.Scope.{place_of}
 use Rattle.si_slots.specs.Machine as machine
 use Rattle.si_slots.specs.Machine.{Source, Temporary, Target, ToTemporary, ToLocal, ToNowhere, Instr}
-use Rattle.si_slots.specs.Code.{in_place, jumps, expr_code, with_code, simple_code, row_code, boolean_code, early_of, condition_code, target_code, targets_code, assign_code, store_code, assign_target_code, assign_all_code, augment_instr, augmented_code, augment_code, delete_code, item_target, item_code, for_code, return_code, raise_code, stmt_code, stmts_code}
+use Rattle.si_slots.specs.Code.{in_place, jumps, expr_code, with_code, simple_code, row_code, boolean_code, early_of, condition_code, target_code, targets_code, assign_code, store_code, assign_target_code, assign_all_code, augment_instr, augmented_code, augment_code, delete_code, displayed, exprs_code, unpack_code, item_target, item_code, for_code, return_code, raise_code, stmt_code, stmts_code}
 use Rattle.si_emit.specs.inner.Silence.{silent, silent_suite}
 use Rattle.si_emit.proofs.Fronts.{Starts, starts, starts_here, starts_append, starts_after, starts_last, starts_single, starts_pair, starts_test, starts_branch}
 
@@ -133,10 +133,18 @@ starts_store (Some a) (Some b) None code h = h
 starts_store (Some a) None c code h = h
 starts_store None b c code h = h
 
+starts_display : (ls : List Text) (items : tree.Exprs) (i : Instr) (rest : List Instr) → Starts (i ∷ rest) → Starts (exprs_code ls 0 items ++ (i ∷ rest))
+starts_display ls tree.NoExprs i rest h = h
+starts_display ls (tree.MoreExprs a items) i rest h = starts_append _ (i ∷ rest) (starts_append _ (exprs_code ls 1 items) (starts ls 0 (ToTemporary 0) a))
+
+starts_unpack : (ls : List Text) (ts : tree.Targets) (a : tree.Expr) (o : Option tree.Exprs) → Starts (unpack_code ls ts a o)
+starts_unpack ls ts a None = starts_append _ (targets_code ls 0 ts) (starts_with ls a (λ s. machine.Unpack s 0 (count_of_targets ts)))
+starts_unpack ls ts a (Some items) = starts_display ls items (machine.Reverse 0 (count_of_targets ts)) (targets_code ls 0 ts) (starts_here _ (targets_code ls 0 ts))
+
 starts_assign_target : (ls : List Text) (t : tree.Target) (a : tree.Expr) → Starts (assign_target_code ls t a)
 starts_assign_target ls (tree.Named x) a = starts_assign ls x (place_of x ls) a
 starts_assign_target ls (tree.Item b c) a = starts_store (in_place ls a) (in_place ls b) (in_place ls c) _ (starts_append _ _ (starts ls 0 (ToTemporary 0) a))
-starts_assign_target ls (tree.Unpack ts) a = starts_append _ (targets_code ls 0 ts) (starts_with ls a (λ s. machine.Unpack s 0 (count_of_targets ts)))
+starts_assign_target ls (tree.Unpack ts) a = starts_unpack ls ts a (displayed (count_of_targets ts) a)
 
 starts_assign_all : (ls : List Text) (ts : tree.Targets) (a : tree.Expr) → Starts (assign_all_code ls ts a)
 starts_assign_all ls tree.NoTargets a = starts ls 0 ToNowhere a

@@ -56,11 +56,11 @@ module _ (ls : List Text) (d : ℕ) where
   abbrev pub SoFar : Contents → List machine.Instr → Contents → List Target → Type 0
   SoFar t0 code t1 left = (end : Contents) → Gains t1 end (targets_code ls d (targets_of left)) → Gains t0 end code
 
-  -- what is unpacked, and then all of them
-  pub unpack_gains : {t0 t1 : Contents} (a : Source) (ts : List Target) (n : ℕ) → n ≡ length ts → Gains t0 t1 (machine.Unpack a d n ∷ [])
-      → SoFar t0 (machine.Unpack a d (count_of_targets (targets_of ts)) ∷ targets_code ls d (targets_of ts)) t1 ts
-  unpack_gains {t0} {t1} a ts n many h end rest =
-      Gains-append t0 t1 end (machine.Unpack a d (count_of_targets (targets_of ts)) ∷ []) (targets_code ls d (targets_of ts)) (subst (λ m. Gains t0 t1 (machine.Unpack a d m ∷ [])) (many ∙ sym (count_row ts)) h) rest
+  -- an instruction with their number, and then all of them
+  pub row_after : {t0 t1 t2 : Contents} (i : ℕ → machine.Instr) (ts : List Target) (n : ℕ) → n ≡ length ts → Gains t0 t1 (i n ∷ []) → Gains t1 t2 (targets_code ls d (targets_of ts))
+      → Gains t0 t2 (i (count_of_targets (targets_of ts)) ∷ targets_code ls d (targets_of ts))
+  row_after {t0} {t1} {t2} i ts n many h rest =
+      Gains-append t0 t1 t2 (i (count_of_targets (targets_of ts)) ∷ []) (targets_code ls d (targets_of ts)) (subst (λ m. Gains t0 t1 (i m ∷ [])) (many ∙ sym (count_row ts)) h) rest
 
   -- one of several, whose item lies so far above those of the rest, and then the rest
   pub next_target : {t0 t1 t2 : Contents} (code : List machine.Instr) (at : ℕ) (ts : List Target) (i : ℕ) (t : Target) → i < length ts → get_or ts i t ≡ t → at + (i + 1) ≡ d + length ts

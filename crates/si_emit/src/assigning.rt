@@ -1,17 +1,20 @@
 // The code of assignments, and of `del`.
-ghost use Rattle.std.specs.Prelude.{◌≡◌, ◌+◌, ◌<◌, [], ◌∷◌, ◌++◌, length, IfSome, MatchOption, OnOk};
+ghost use Rattle.std.specs.Prelude.{◌≡◌, ◌+◌, ◌<◌, [], ◌∷◌, ◌++◌, length, map, IfSome, MatchOption, None, OnOk, Some};
 ghost use Rattle.std.specs.Option.{option_map};
+ghost use Rattle.si_semantics.specs.Grammar.{exprs_of};
 ghost use Rattle.si_semantics.specs.Tree as tree;
+ghost use Rattle.si_semantics.specs.Tree.{count_of_targets};
 ghost use Rattle.si_syntax.specs.Trees.{expr_of, index_of, object_of, target_of, targets_of};
-ghost use Rattle.si_slots.specs.Code.{assign_all_code, assign_target_code, delete_code, in_place};
+ghost use Rattle.si_slots.specs.Code.{assign_all_code, assign_target_code, delete_code, displayed, exprs_code, in_place, targets_code};
+ghost use Rattle.si_slots.specs.Machine as machine;
 ghost use Rattle.si_slots.specs.Contents.{Extends, NamedResolves};
 ghost use Rattle.si_slots.specs.Views.{Gains, Words, locals_now, named_of};
 ghost use Rattle.si_emit.specs.inner.Stores.{stored};
 
-use crate::expression::{emit_expr, emit_operand};
+use crate::expression::{emit_expr, emit_exprs, emit_operand};
 use crate::naming::bind_value;
 use crate::operand::operand_in_place;
-use crate::targets::{emit_item, emit_store, emit_target, emit_unpack};
+use crate::targets::{emit_item, emit_store, emit_target, emit_targets, emit_unpack};
 use si_plain::{Names, NoMemory};
 use si_slots::{CodeTable, FullInstr, NamedInstr, Source};
 use si_syntax::{Assign, Expr, Item, Target};
@@ -88,11 +91,64 @@ fn assign_one(
     match target {
         Target::Named(name) => bind_value(table, locals, name.as_str(), value),
         Target::Item(item) => assign_item(table, locals, item, value),
-        Target::Unpack(targets) => {
+        Target::Unpack(targets) => assign_row(table, locals, targets, value),
+    }
+}
+
+// Targets in a row are bound to the items of an expression's value. Where that is a tuple's display with an item for each of
+// them, no tuple is made.
+fn assign_row(
+    table: &mut CodeTable,
+    locals: &Names,
+    targets: &[Target],
+    value: &Expr,
+) -> Result<(), NoMemory>
+    requires { locals_now table.old ≡ locals.now }
+    ensures ok { OnOk result (Gains table.old table.new (assign_target_code locals.now (tree.Unpack (targets_of targets.now)) (expr_of value.now))) }
+    ensures extends { Extends table.old table.new }
+{
+    match display_of(value, targets.len()) {
+        Some(items) => assign_display(table, locals, targets, items),
+        None => {
             let operand = emit_operand(table, locals, 0, true, value)?;
             emit_unpack(table, locals, operand, 0, targets)
         }
     }
+}
+
+// The items of a tuple's display, where there are so many.
+fn display_of(value: &Expr, count: usize) -> Option<&[Expr]>
+    ensures { MatchOption result (displayed count (expr_of value.now) ≡ None) (λ items. (displayed count (expr_of value.now) ≡ Some (exprs_of (map expr_of items.now))) × (length items.now ≡ count)) }
+{
+    match value {
+        Expr::Tuple(items) => {
+            if items.len() == count {
+                Some(items)
+            } else {
+                None
+            }
+        }
+        _ => None,
+    }
+}
+
+// Targets in a row are bound to the values of as many expressions, which lie in temporaries by then, the first above the
+// others.
+fn assign_display(
+    table: &mut CodeTable,
+    locals: &Names,
+    targets: &[Target],
+    items: &[Expr],
+) -> Result<(), NoMemory>
+    requires names { locals_now table.old ≡ locals.now }
+    requires count { length items.now ≡ length targets.now }
+    ensures ok { let row = targets_of targets.now in
+        OnOk result (Gains table.old table.new (exprs_code locals.now 0 (exprs_of (map expr_of items.now)) ++ (machine.Reverse 0 (count_of_targets row) ∷ targets_code locals.now 0 row))) }
+    ensures extends { Extends table.old table.new }
+{
+    let count = emit_exprs(table, locals, 0, items)?;
+    table.put(FullInstr::Reverse(0, count))?;
+    emit_targets(table, locals, 0, count, targets)
 }
 
 // An item is set to the value of an expression: by one instruction, where the value, the object and the index need none.

@@ -1,5 +1,5 @@
 // The code that binds targets to what lies in temporaries.
-ghost use Rattle.std.specs.Prelude.{◌≡◌, ◌+◌, [], ◌∷◌, IfOk, OnOk};
+ghost use Rattle.std.specs.Prelude.{◌≡◌, ◌+◌, [], ◌∷◌, length, IfOk, OnOk};
 ghost use Rattle.si_semantics.specs.Tree as tree;
 ghost use Rattle.si_semantics.specs.Tree.{count_of_targets};
 ghost use Rattle.si_syntax.specs.Trees.{index_of, object_of, target_of, targets_of};
@@ -53,8 +53,26 @@ pub(crate) fn emit_unpack(
     ensures extends { Extends table.old table.new }
 {
     let count = u32::try_from(targets.len()).map_err(|_| AllocError)?;
-    let mut at = above(d, count)?;
     table.put_named(NamedInstr::Unpack(operand, d, count))?;
+    emit_targets(table, locals, d, count, targets)
+}
+
+/// Targets in a row, so many, are bound to what lies in as many temporaries from `d` on, the last ones in use, from which it
+/// is taken: the first target to the topmost. Past 2^32 temporaries memory counts as refused.
+#[cycle(targets)]
+pub(crate) fn emit_targets(
+    table: &mut CodeTable,
+    locals: &Names,
+    d: u32,
+    count: u32,
+    targets: &[Target],
+) -> Result<(), NoMemory>
+    requires names { locals_now table.old ≡ locals.now }
+    requires count { count ≡ length targets.now }
+    ensures ok { OnOk result (Gains table.old table.new (targets_code locals.now d (targets_of targets.now))) }
+    ensures extends { Extends table.old table.new }
+{
+    let mut at = above(d, count)?;
     for target in targets {
         at -= 1;
         emit_target(table, locals, at, target)?;

@@ -172,7 +172,7 @@ fn functions_come_first(rt: HostRuntime) -> Result<(), Fail> {
 }
 
 // The code of `f` of the text below, where `a` and `b` are local.
-const TARGETS: [FullInstr; 23] = [
+const TARGETS: [FullInstr; 28] = [
     // a[b] = 1
     FullInstr::StoreItem(
         Source::Literal(Constant::Int(1)),
@@ -186,6 +186,12 @@ const TARGETS: [FullInstr; 23] = [
         Source::Local(0),
         Source::Literal(Constant::Int(0)),
     ),
+    FullInstr::Copy(Target::Local(1), Source::Temporary(0)),
+    // a, b = b, a
+    FullInstr::Copy(Target::Temporary(0), Source::Local(1)),
+    FullInstr::Copy(Target::Temporary(1), Source::Local(0)),
+    FullInstr::Reverse(0, 2),
+    FullInstr::Copy(Target::Local(0), Source::Temporary(1)),
     FullInstr::Copy(Target::Local(1), Source::Temporary(0)),
     // a = b[1] = 2
     FullInstr::Copy(Target::Temporary(0), Source::Literal(Constant::Int(2))),
@@ -232,7 +238,7 @@ const TARGETS: [FullInstr; 23] = [
 #[test]
 fn targets_are_bound_from_the_left_after_the_value(rt: HostRuntime) -> Result<(), Fail> {
     let text =
-        "def f(a, b):\n a[b] = 1\n a[0], b = b\n a = b[1] = 2\n a[b] += 3\n del a[b]\n for a[0] in b: pass\n [a, {b: 1}]\n";
+        "def f(a, b):\n a[b] = 1\n a[0], b = b\n a, b = b, a\n a = b[1] = 2\n a[b] += 3\n del a[b]\n for a[0] in b: pass\n [a, {b: 1}]\n";
     let tree = script(rt.alloc(), text)?;
     let mut table = CodeTable::new(rt.alloc());
     compile(&tree, &mut table)?;
