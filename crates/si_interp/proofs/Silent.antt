@@ -5,6 +5,7 @@ use Rattle.std.specs.Prelude.{nat_eq, length, drop, slice_set, Result, Ok, Err}
 use Rattle.si_plain.specs.declared.kind.Kind.{Kind}
 use Rattle.si_semantics.specs.Tree.{Add}
 use Rattle.si_semantics.specs.Containers.{augment, delete_item, dict_of, set_item, unpacked}
+use Rattle.si_semantics.specs.Tuples.{is_too_large}
 use Rattle.si_semantics.specs.Value as value
 use Rattle.si_semantics.specs.Value.{Text, Value}
 use Rattle.si_semantics.specs.World.{World, Ran, Gave, Threw, Asked}
@@ -213,6 +214,10 @@ silent_act es (machine.Gather g t n) next ts slots bs w = silent_choose (nat_eq 
 silent_act es (machine.GatherList g t n) next ts slots bs w = silent_choose (nat_eq (length ts) (t + n)) _ _ (silent_yields (operations.list_within (drop t ts) w) g next (take t ts) slots bs) (λ n. refl)
 silent_act es (machine.GatherDict g t n) next ts slots bs w = silent_choose (nat_eq (length ts) (t + n)) _ _ (silent_yields (dict_of (drop t ts) w) g next (take t ts) slots bs) (λ n. refl)
 silent_act es (machine.Unpack a t n) next ts slots bs w = silent_reads a ts slots bs w _ (λ v. silent_unpacks (unpacked n v w) t next (below a ts) slots bs w)
+silent_act es (machine.Reverse t n) next ts slots bs w =
+    silent_choose (nat_eq (length ts) (t + n)) _ _
+    (silent_choose (is_too_large (value.tuple_of (drop t ts))) _ _ (silent_yields (operations.too_long w) ToNowhere next (take t ts) slots bs) (λ n. refl))
+    (λ n. refl)
 silent_act es (machine.Return a) next ts slots bs w = silent_reads a ts slots bs w _ (λ v. λ n. refl)
 silent_act es machine.Finish next ts slots bs w = λ n. refl
 

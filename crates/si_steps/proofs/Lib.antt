@@ -21,6 +21,7 @@ pub mod Asked
 pub mod Made
 pub mod Anywhere
 pub mod Unpacked
+pub mod Reversed
 pub mod Listed
 pub mod Shown
 pub mod Fetching

@@ -14,7 +14,7 @@ ghost use Rattle.si_steps.specs.inner.Operands.{words_at};
 
 use crate::state::State;
 use crate::step::Step;
-use si_arena::{Arena, Ref};
+use si_arena::{Arena, Cause, Ref};
 use si_ops::{nth_item, unpacks};
 use si_slots::Source;
 use si_stacks::Frames;
@@ -36,6 +36,22 @@ impl State {
             },
             Err(missing) => self.raise_missing(missing),
         }
+    }
+
+    /// What lies in so many temporaries from one on, which are the last, lies in them the other way round; or OverflowError,
+    /// where a tuple of it would be too large.
+    #[inline(never)]
+    pub fn reverse(&mut self, at: u32, count: u32) -> Step
+        ghost p: { Moment }
+        requires { IsReady (machine.Reverse at count) self.old p }
+        ensures { Does (machine.Reverse at count) p self.old self.new result }
+    {
+        let items = self.frames.arguments(at as usize, count as usize);
+        if !self.arena.admits_tuple(items) {
+            return self.raise(Cause::TooLong);
+        }
+        self.frames.reverse(at as usize, count as usize);
+        self.advance()
     }
 
     // The items of a value, which has so many, go to the temporaries from one on. Room for them is made first.
