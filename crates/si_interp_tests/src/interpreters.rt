@@ -1,4 +1,7 @@
 // One interpreter, with a test as its host.
+//
+// Each assertion stands beside all that is alive there, which is what a test's proof costs: so what is looked at after one
+// step is one small function that answers a truth.
 
 use si_interp::{Interp, NotShown, RunOrigin, State, Step};
 use si_parcel::{Action, Answer, Atom, BoxedText, Job, Outcome, Parcel, Top};
@@ -47,14 +50,10 @@ fn has_returned(interp: &Interp) -> bool {
     matches!(interp.pending(), Some(Action::End(Outcome::Returned)))
 }
 
-// Whether it stands at the end of a run whose text was not read.
-fn is_at_a_syntax_error(interp: &Interp) -> bool {
-    match interp.pending() {
-        Some(Action::End(Outcome::Raised(kind, message))) => {
-            *kind == Kind::SyntaxError && message.as_text().as_str() == "invalid syntax"
-        }
-        _ => false,
-    }
+// Whether it comes to the end of a run that returns, having printed this, with so many entries in its log.
+fn returns(interp: &mut Interp, printed: &str, entries: usize) -> bool {
+    let asks = go_on(interp) == Step::Asks;
+    asks && has_returned(interp) && interp.printed() == printed && interp.log().len() == entries
 }
 
 // An interpreter that was given a text to run.
@@ -80,29 +79,28 @@ fn given_two(alloc: Global, first: &str, second: &str) -> Result<Interp, AllocEr
 #[test]
 fn second_run_sees_the_names_of_the_first(rt: HostRuntime) -> Result<(), Fail> {
     let mut interp = given_two(rt.alloc(), "x = 6\nprint(x * 7)\n", "print(x + 1)\n")?;
-    assert_eq!(rt; go_on(&mut interp), Step::Asks);
-    assert!(rt; interp.printed() == "42\n7\n");
-    assert_eq!(rt; interp.log().len(), 3);
+    assert!(rt; returns(&mut interp, "42\n7\n", 3));
     Ok(())
 }
 
-// Whether this is shown of a global.
-fn is_shown(interp: &Interp, name: &str, wanted: &str) -> Result<bool, Fail> {
+// Whether a global is shown so, or, where nothing is wanted, is bound to nothing.
+fn is_shown(interp: &Interp, name: &str, wanted: &str) -> Result<bool, AllocError> {
     match interp.global(name) {
         Ok(Some(text)) => Ok(text.as_str() == wanted),
-        Ok(None) => Ok(false),
+        Ok(None) => Ok(wanted.is_empty()),
         Err(NotShown::Raises(_)) => Ok(false),
-        Err(NotShown::NoMemory) => Err(AllocError)?,
+        Err(NotShown::NoMemory) => Err(AllocError),
     }
 }
 
-// Whether nothing is bound to a name.
-fn is_unbound(interp: &Interp, name: &str) -> Result<bool, Fail> {
-    match interp.global(name) {
-        Ok(shown) => Ok(shown.is_none()),
-        Err(NotShown::Raises(_)) => Ok(false),
-        Err(NotShown::NoMemory) => Err(AllocError)?,
+// Whether each of these is.
+fn are_shown(interp: &Interp, globals: &[(&str, &str)]) -> Result<bool, AllocError> {
+    for (name, wanted) in globals {
+        if !is_shown(interp, name, wanted)? {
+            return Ok(false);
+        }
     }
+    Ok(true)
 }
 
 #[test]
@@ -111,19 +109,21 @@ fn globals_are_shown(rt: HostRuntime) -> Result<(), Fail> {
     let second =
         "x.append(x)\nw = (f(), b'b')\ntry:\n    raise ValueError('e')\nexcept ValueError as z:\n    pass\n";
     let mut interp = given_two(rt.alloc(), first, second)?;
-    assert!(rt; is_shown(&interp, "x", "[1, 'a']")?);
-    assert!(rt; is_shown(&interp, "z", "1")?);
-    assert!(rt; is_unbound(&interp, "w")?);
+    let before = [("x", "[1, 'a']"), ("z", "1"), ("w", "")];
+    assert!(rt; are_shown(&interp, &before)?);
     go_on(&mut interp);
-    assert!(rt; is_shown(&interp, "x", "[1, 'a', [...]]")?);
-    assert!(rt; is_shown(&interp, "w", "(2, b'b')")?);
-    assert!(rt; is_shown(&interp, "f", "<function f>")?);
-    assert!(rt; is_shown(&interp, "__name__", "'__main__'")?);
-    assert!(rt; is_unbound(&interp, "y")?);
-    assert!(rt; is_unbound(&interp, "z")?);
-    assert!(rt; is_unbound(&interp, "print")?);
+    let after = [
+        ("x", "[1, 'a', [...]]"),
+        ("w", "(2, b'b')"),
+        ("f", "<function f>"),
+        ("__name__", "'__main__'"),
+        ("y", ""),
+        ("z", ""),
+        ("print", ""),
+    ];
+    assert!(rt; are_shown(&interp, &after)?);
     interp.starve();
-    assert!(rt; is_unbound(&interp, "x")?);
+    assert!(rt; is_shown(&interp, "x", "")?);
     Ok(())
 }
 
@@ -151,16 +151,12 @@ fn host_answer(
 }
 
 // Runs lines up to an action, and answers it as the host does, so many times.
-fn go_on_answered(
-    alloc: Global,
-    interp: &mut Interp,
-    held: &mut Option<Parcel>,
-    times: u32,
-) -> Result<(), AllocError> {
+fn go_on_answered(alloc: Global, interp: &mut Interp, times: u32) -> Result<(), AllocError> {
+    let mut held = None;
     for _ in 0..times {
         go_on(interp);
         let answer = match interp.pending() {
-            Some(action) => host_answer(alloc, action, held)?,
+            Some(action) => host_answer(alloc, action, &mut held)?,
             None => return Ok(()),
         };
         give(interp, answer);
@@ -168,31 +164,30 @@ fn go_on_answered(
     Ok(())
 }
 
-// Whether it stands at the end of a run that an exception of this kind has left.
-fn has_raised(interp: &Interp, wanted: Kind) -> bool {
-    matches!(interp.pending(), Some(Action::End(Outcome::Raised(kind, _))) if *kind == wanted)
-}
-
-// Whether it asks for a queue without a bound.
-fn asks_for_a_queue(interp: &Interp) -> bool {
-    matches!(interp.pending(), Some(Action::CreateQueue(0)))
+// Whether it comes to ask for a queue without a bound, and takes the answer that it is queue 3.
+fn is_given_a_queue(interp: &mut Interp) -> bool {
+    go_on(interp);
+    matches!(interp.pending(), Some(Action::CreateQueue(0))) && give(interp, Answer::QueueMade(3))
 }
 
 fn is_five(parcel: &Parcel) -> bool {
     matches!(parcel.top(), Top::Atom(Atom::Int(5)))
 }
 
-// Whether it puts 5 into queue 3.
-fn puts_five(interp: &Interp) -> bool {
-    match interp.pending() {
-        Some(Action::Put(queue, parcel)) => *queue == 3 && is_five(parcel),
+// Whether it comes to put 5 into queue 3, and takes the answer that it is done.
+fn puts_five(interp: &mut Interp) -> bool {
+    go_on(interp);
+    let puts = match interp.pending() {
+        Some(Action::Put(3, parcel)) => is_five(parcel),
         _ => false,
-    }
+    };
+    puts && give(interp, Answer::Done)
 }
 
-// Whether it asks for an item of queue 3.
-fn gets_an_item(interp: &Interp) -> bool {
-    matches!(interp.pending(), Some(Action::Get(3)))
+// Whether it comes to ask for an item of queue 3, and takes this one.
+fn gets_an_item(interp: &mut Interp, item: Answer) -> bool {
+    go_on(interp);
+    matches!(interp.pending(), Some(Action::Get(3))) && give(interp, item)
 }
 
 // The item `a`.
@@ -207,19 +202,8 @@ fn answered_by_its_host(rt: HostRuntime) -> Result<(), Fail> {
         "from concurrent import interpreters\nq = interpreters.create_queue()\nq.put(5)\nprint(q.get())\n";
     let item = item_of_a(rt.alloc())?;
     let mut interp = given(rt.alloc(), text)?;
-    go_on(&mut interp);
-    assert!(rt; asks_for_a_queue(&interp));
-    give(&mut interp, Answer::QueueMade(3));
-    go_on(&mut interp);
-    assert!(rt; puts_five(&interp));
-    give(&mut interp, Answer::Done);
-    go_on(&mut interp);
-    assert!(rt; gets_an_item(&interp));
-    give(&mut interp, item);
-    go_on(&mut interp);
-    assert!(rt; has_returned(&interp));
-    assert!(rt; interp.printed() == "a\n");
-    assert_eq!(rt; interp.log().len(), 4);
+    assert!(rt; is_given_a_queue(&mut interp) && puts_five(&mut interp));
+    assert!(rt; gets_an_item(&mut interp, item) && returns(&mut interp, "a\n", 4));
     Ok(())
 }
 
@@ -228,61 +212,89 @@ fn all_that_it_asks_is_answered(rt: HostRuntime) -> Result<(), Fail> {
     let text =
         "from concurrent import interpreters\nq = interpreters.create_queue()\nq.put(35)\nx = q.get()\ni = interpreters.create()\ni.exec('pass')\nprint(x + 7)\n";
     let mut interp = given(rt.alloc(), text)?;
-    let mut held = None;
-    go_on_answered(rt.alloc(), &mut interp, &mut held, 6)?;
-    assert_eq!(rt; interp.state(), State::Ready);
-    assert_eq!(rt; go_on(&mut interp), Step::Asks);
-    assert!(rt; has_returned(&interp));
-    assert!(rt; interp.printed() == "42\n");
-    assert_eq!(rt; interp.log().len(), 7);
+    go_on_answered(rt.alloc(), &mut interp, 6)?;
+    assert!(rt; interp.state() == State::Ready && returns(&mut interp, "42\n", 7));
     Ok(())
+}
+
+// Whether it stands at the end of a run that an exception of this kind has left, which printed nothing.
+fn has_raised(interp: &Interp, wanted: Kind) -> bool {
+    match interp.pending() {
+        Some(Action::End(Outcome::Raised(kind, _))) => *kind == wanted
+            && interp.printed().is_empty(),
+        _ => false,
+    }
+}
+
+// Whether it comes to an action that it can't be granted, and no line is run until the run is left.
+fn is_refused(interp: &mut Interp) -> bool {
+    let asks = go_on(interp) == Step::Asks;
+    let before = interp.locals();
+    asks && give(interp, Answer::Limit) && interp.locals() == before
 }
 
 #[test]
 fn run_left_by_the_exception_of_an_answer(rt: HostRuntime) -> Result<(), Fail> {
     let text = "from concurrent import interpreters\ninterpreters.create()\nprint(1)\n";
     let mut interp = given(rt.alloc(), text)?;
-    assert_eq!(rt; go_on(&mut interp), Step::Asks);
-    let before = interp.locals();
-    assert!(rt; give(&mut interp, Answer::Limit));
-    assert_eq!(rt; interp.locals(), before);
-    assert!(rt; has_raised(&interp, Kind::InterpreterError));
-    assert!(rt; interp.printed().is_empty());
+    assert!(rt; is_refused(&mut interp) && has_raised(&interp, Kind::InterpreterError));
     Ok(())
+}
+
+// Whether it stands at the end of a run whose text was not read, and no line was run.
+fn is_at_a_syntax_error(interp: &Interp) -> bool {
+    match interp.pending() {
+        Some(Action::End(Outcome::Raised(kind, message))) => {
+            *kind == Kind::SyntaxError
+                && message.as_text().as_str() == "invalid syntax"
+                && interp.locals() == 0
+        }
+        _ => false,
+    }
+}
+
+// Whether it is gone once its run is over and it is told to close.
+fn closes(interp: &mut Interp) -> bool {
+    give(interp, Answer::Done)
+        && give(interp, Answer::Given(Job::Closing))
+        && go_on(interp) == Step::Gone
 }
 
 #[test]
 fn text_that_is_not_read_is_left_at_once(rt: HostRuntime) -> Result<(), Fail> {
     let mut interp = given(rt.alloc(), "x = = 6\n")?;
-    assert_eq!(rt; interp.locals(), 0);
-    assert!(rt; is_at_a_syntax_error(&interp));
-    give(&mut interp, Answer::Done);
-    give(&mut interp, Answer::Given(Job::Closing));
-    assert_eq!(rt; go_on(&mut interp), Step::Gone);
+    assert!(rt; is_at_a_syntax_error(&interp) && closes(&mut interp));
     Ok(())
+}
+
+// Whether it was given a text, and has a line to run.
+fn is_ready(interp: &Interp) -> bool {
+    interp.log().len() == 1 && interp.state() == State::Ready
 }
 
 #[test]
 fn refused_text(rt: HostRuntime) -> Result<(), Fail> {
     let mut interp = given(rt.alloc(), "x = 'seven' * 7\n")?;
-    assert_eq!(rt; interp.log().len(), 1);
     if interp.state() == State::Starved {
         interp = given(rt.alloc(), "x = 'seven' * 7\n")?;
     }
-    assert_eq!(rt; interp.state(), State::Ready);
+    assert!(rt; is_ready(&interp));
     Ok(())
+}
+
+// Whether it comes to put a value into a queue, or is refused memory, and has printed nothing.
+fn puts_or_starves(interp: &mut Interp) -> bool {
+    go_on(interp);
+    let is_at_put = matches!(interp.pending(), Some(Action::Put(_, _)));
+    (is_at_put || interp.state() == State::Starved) && interp.printed().is_empty()
 }
 
 #[test]
 fn refused_request(rt: HostRuntime) -> Result<(), Fail> {
     let text = "from concurrent import interpreters\ninterpreters.create_queue().put('seven')\n";
     let mut interp = given(rt.alloc(), text)?;
-    let mut held = None;
-    go_on_answered(rt.alloc(), &mut interp, &mut held, 1)?;
-    go_on(&mut interp);
-    let is_at_put = matches!(interp.pending(), Some(Action::Put(_, _)));
-    assert!(rt; is_at_put || interp.state() == State::Starved);
-    assert!(rt; interp.printed().is_empty());
+    go_on_answered(rt.alloc(), &mut interp, 1)?;
+    assert!(rt; puts_or_starves(&mut interp));
     Ok(())
 }
 
@@ -292,8 +304,7 @@ fn refused_interpreter(rt: HostRuntime) -> Result<(), Fail> {
         Ok(interp) => interp,
         Err(_) => Interp::new(rt.alloc(), 3)?,
     };
-    assert_eq!(rt; interp.id(), 3);
-    assert!(rt; !interp.is_taken());
+    assert!(rt; interp.id() == 3 && !interp.is_taken());
     Ok(())
 }
 
@@ -306,6 +317,14 @@ fn is_from(origin: &RunOrigin, run: u32, wanted: &[(u32, u32)]) -> bool {
         }
     }
     origin.run == run && spots.len() == wanted.len() && origin.origin.left_out() == 0
+}
+
+// Whether an exception left one run of it alone, and came from there.
+fn is_left_from(interp: &Interp, run: u32, wanted: &[(u32, u32)]) -> bool {
+    match interp.origins() {
+        [origin] => is_from(origin, run, wanted),
+        _ => false,
+    }
 }
 
 // An interpreter in which these texts were run.
@@ -326,11 +345,7 @@ fn exception_of_a_function_of_an_earlier_run(rt: HostRuntime) -> Result<(), Fail
     let with_function = "def f(x):\n    if x:\n        pass\n    raise ValueError(x)\n";
     let raises = "y = 1\nf(y)\n";
     let interp = given_all(rt.alloc(), &[unread, with_function, raises, "z = 2\n"])?;
-    assert_eq!(rt; interp.origins().len(), 1);
-    match interp.origins().first() {
-        Some(origin) => assert!(rt; is_from(origin, 2, &[(1, 2), (2, 1)])),
-        None => assert!(rt; false),
-    }
+    assert!(rt; is_left_from(&interp, 2, &[(1, 2), (2, 1)]));
     Ok(())
 }
 
@@ -338,12 +353,6 @@ fn exception_of_a_function_of_an_earlier_run(rt: HostRuntime) -> Result<(), Fail
 fn exception_of_an_answer(rt: HostRuntime) -> Result<(), Fail> {
     let text = "from concurrent import interpreters\ninterpreters.create()\n";
     let mut interp = given(rt.alloc(), text)?;
-    go_on(&mut interp);
-    assert!(rt; interp.origins().is_empty());
-    assert!(rt; give(&mut interp, Answer::Limit));
-    match interp.origins().first() {
-        Some(origin) => assert!(rt; is_from(origin, 0, &[(0, 1)])),
-        None => assert!(rt; false),
-    }
+    assert!(rt; is_refused(&mut interp) && is_left_from(&interp, 0, &[(0, 1)]));
     Ok(())
 }

@@ -13,103 +13,144 @@ fn script(alloc: Global, text: &str) -> Result<Scoped, Fail> {
     Ok(resolve(alloc, parse(alloc, text)?)?)
 }
 
+// Adds the code of a text to a table, and tells where it begins.
+fn add(alloc: Global, table: &mut CodeTable, text: &str) -> Result<usize, Fail> {
+    let tree = script(alloc, text)?;
+    Ok(compile(&tree, table)?)
+}
+
+// The first place at which the code is not this; none where it is.
+fn first_other(table: &CodeTable, wanted: &[FullInstr]) -> Option<usize> {
+    for (at, instr) in wanted.iter().enumerate() {
+        if table.instruction(at) != Some(*instr) {
+            return Some(at);
+        }
+    }
+    None
+}
+
+// The name that has a slot.
+fn name_of(table: &CodeTable, slot: usize) -> Option<&str> {
+    table.name(u32::try_from(slot).ok()?)
+}
+
+// Whether these names have the first slots, and no others have one.
+fn has_names(table: &CodeTable, wanted: &[&str]) -> bool {
+    for (slot, name) in wanted.iter().enumerate() {
+        if name_of(table, slot) != Some(*name) {
+            return false;
+        }
+    }
+    table.slots() == wanted.len() && name_of(table, wanted.len()).is_none()
+}
+
+// Whether the literals are these texts.
+fn has_literals(table: &CodeTable, wanted: &[&str]) -> bool {
+    for (literal, text) in table.literals().iter().zip(wanted.iter()) {
+        if literal.name() != *text {
+            return false;
+        }
+    }
+    table.literals().len() == wanted.len()
+}
+
+// The function of a number.
+fn routine_of(table: &CodeTable, number: usize) -> Option<Routine> {
+    table.routine(u32::try_from(number).ok()?)
+}
+
+// Whether the functions are these.
+fn has_routines(table: &CodeTable, wanted: &[Routine]) -> bool {
+    for (number, routine) in wanted.iter().enumerate() {
+        if routine_of(table, number) != Some(*routine) {
+            return false;
+        }
+    }
+    table.routines() == wanted.len() && routine_of(table, wanted.len()).is_none()
+}
+
+// The code of the text below.
+const OF_TWO_LINES: [FullInstr; 8] = [
+    FullInstr::Unary(
+        UnaryOperator::Minus,
+        Target::Temporary(0),
+        Source::Literal(Constant::Int(1)),
+    ),
+    FullInstr::Binary(
+        BinaryOperator::Add,
+        Target::Temporary(0),
+        Source::Temporary(0),
+        Source::Literal(Constant::Int(2)),
+    ),
+    FullInstr::StoreGlobal(0, Source::Temporary(0)),
+    FullInstr::LoadGlobal(Target::Temporary(0), 1),
+    FullInstr::LoadGlobal(Target::Temporary(1), 0),
+    FullInstr::Copy(Target::Temporary(2), Source::Literal(Constant::Placed(0))),
+    FullInstr::Call(Target::Nowhere, 0, 2),
+    FullInstr::Finish,
+];
+
 #[test]
 fn instruction_by_instruction(rt: HostRuntime) -> Result<(), Fail> {
-    let tree = script(rt.alloc(), "x = -1 + 2\nprint(x, 'a' 'b')\n")?;
     let mut table = CodeTable::new(rt.alloc());
     assert!(rt; table.is_empty());
-    assert_eq!(rt; compile(&tree, &mut table)?, 0);
-    let code = [
-        FullInstr::Unary(
-            UnaryOperator::Minus,
-            Target::Temporary(0),
-            Source::Literal(Constant::Int(1)),
-        ),
-        FullInstr::Binary(
-            BinaryOperator::Add,
-            Target::Temporary(0),
-            Source::Temporary(0),
-            Source::Literal(Constant::Int(2)),
-        ),
-        FullInstr::StoreGlobal(0, Source::Temporary(0)),
-        FullInstr::LoadGlobal(Target::Temporary(0), 1),
-        FullInstr::LoadGlobal(Target::Temporary(1), 0),
-        FullInstr::Copy(Target::Temporary(2), Source::Literal(Constant::Placed(0))),
-        FullInstr::Call(Target::Nowhere, 0, 2),
-        FullInstr::Finish,
-    ];
-    assert_eq!(rt; table.len(), code.len());
-    for (at, instr) in code.iter().enumerate() {
-        assert_eq!(rt; table.instruction(at), Some(*instr), "at {at}");
-    }
-    assert_eq!(rt; table.instruction(code.len()), None);
-    assert_eq!(rt; table.slots(), 2);
-    assert_eq!(rt; table.name(0), Some("x"));
-    assert_eq!(rt; table.name(1), Some("print"));
-    assert_eq!(rt; table.name(2), None);
-    assert_eq!(rt; table.literals().len(), 1);
-    assert_eq!(rt; table.literals()[0].name(), "ab");
+    let at = add(rt.alloc(), &mut table, "x = -1 + 2\nprint(x, 'a' 'b')\n")?;
+    assert!(rt; at == 0 && table.len() == OF_TWO_LINES.len());
+    assert_eq!(rt; first_other(&table, &OF_TWO_LINES), None);
+    assert!(rt; table.instruction(OF_TWO_LINES.len()).is_none());
+    assert!(rt; has_names(&table, &["x", "print"]) && has_literals(&table, &["ab"]));
     table.facts();
     Ok(())
 }
 
+// The code of two texts, of which the second uses the names of the first.
+const SHARED: [FullInstr; 6] = [
+    FullInstr::StoreGlobal(0, Source::Global(1)),
+    FullInstr::Finish,
+    FullInstr::LoadGlobal(Target::Temporary(0), 0),
+    FullInstr::Copy(Target::Temporary(1), Source::Literal(Constant::Placed(0))),
+    FullInstr::Binary(
+        BinaryOperator::Power,
+        Target::Temporary(0),
+        Source::Temporary(0),
+        Source::Temporary(1),
+    ),
+    FullInstr::StoreGlobal(1, Source::Temporary(0)),
+];
+
 #[test]
 fn texts_share_slots(rt: HostRuntime) -> Result<(), Fail> {
-    let first = script(rt.alloc(), "a = b\n")?;
-    let second = script(rt.alloc(), "b = a ** 'c'\n")?;
     let mut table = CodeTable::new(rt.alloc());
-    compile(&first, &mut table)?;
-    assert_eq!(rt; compile(&second, &mut table)?, 2);
-    assert_eq!(rt;
-        table.instruction(0),
-        Some(FullInstr::StoreGlobal(0, Source::Global(1)))
-    );
-    assert_eq!(rt;
-        table.instruction(2),
-        Some(FullInstr::LoadGlobal(Target::Temporary(0), 0))
-    );
-    assert_eq!(rt;
-        table.instruction(4),
-        Some(FullInstr::Binary(
-            BinaryOperator::Power,
-            Target::Temporary(0),
-            Source::Temporary(0),
-            Source::Temporary(1)
-        ))
-    );
-    assert_eq!(rt;
-        table.instruction(5),
-        Some(FullInstr::StoreGlobal(1, Source::Temporary(0)))
-    );
-    assert_eq!(rt; table.slots(), 2);
+    let first = add(rt.alloc(), &mut table, "a = b\n")?;
+    let second = add(rt.alloc(), &mut table, "b = a ** 'c'\n")?;
+    assert!(rt; (first, second) == (0, 2) && has_names(&table, &["a", "b"]));
+    assert_eq!(rt; first_other(&table, &SHARED), None);
     Ok(())
+}
+
+// Whether a table has the code of `a = 'x'` and no other.
+fn has_one_text(table: &CodeTable) -> bool {
+    table.len() == 3 && has_names(table, &["a"]) && has_literals(table, &["x"])
 }
 
 // For runs in which an allocation is refused: a table then is as it was, and serves again.
 #[test]
 fn refused_memory_leaves_no_half_of_a_try(rt: HostRuntime) -> Result<(), Fail> {
-    let first = script(rt.alloc(), "a = 'x'\n")?;
     let text =
         "try:\n    for b in range(2):\n        c = b\nexcept TypeError as d:\n    print('y')\nfinally:\n    a = 'z'\n";
     let second = script(rt.alloc(), text)?;
     let mut table = CodeTable::new(rt.alloc());
-    compile(&first, &mut table)?;
+    add(rt.alloc(), &mut table, "a = 'x'\n")?;
     let at = match compile(&second, &mut table) {
         Ok(at) => at,
         Err(_) => {
-            assert_eq!(rt; table.len(), 3);
-            assert_eq!(rt; table.slots(), 1);
-            assert_eq!(rt; table.literals().len(), 1);
+            assert!(rt; has_one_text(&table));
             compile(&second, &mut table)?
         }
     };
-    assert_eq!(rt; at, 3);
-    assert_eq!(rt; table.literals().len(), 3);
-    let spot = Spot {
-        text: 1,
-        statement: 0,
-    };
-    assert_eq!(rt; table.spot(at), Some(spot));
+    let (text, statement) = (1, 0);
+    assert!(rt; at == 3 && table.spot(at) == Some(Spot { text, statement }));
+    assert!(rt; has_literals(&table, &["x", "y", "z"]));
     Ok(())
 }
 
@@ -141,33 +182,21 @@ const TWO_FUNCTIONS: [FullInstr; 14] = [
 fn functions_come_first(rt: HostRuntime) -> Result<(), Fail> {
     let text =
         "x = 1\ndef f(a, b):\n    c = a\n    return c + x\nf(x, b=2)\nif x:\n    def g():\n        pass\n";
-    let tree = script(rt.alloc(), text)?;
     let mut table = CodeTable::new(rt.alloc());
-    assert_eq!(rt; compile(&tree, &mut table)?, 5);
-    assert_eq!(rt; table.len(), TWO_FUNCTIONS.len());
-    for (at, instr) in TWO_FUNCTIONS.iter().enumerate() {
-        assert_eq!(rt; table.instruction(at), Some(*instr), "at {at}");
-    }
-    assert_eq!(rt; table.routines(), 2);
-    assert_eq!(rt;
-        table.routine(0),
-        Some(Routine {
-            at: 0,
-            parameters: 2,
-            locals: 3
-        })
-    );
-    assert_eq!(rt;
-        table.routine(1),
-        Some(Routine {
-            at: 4,
-            parameters: 0,
-            locals: 0
-        })
-    );
-    assert_eq!(rt; table.routine(2), None);
-    assert_eq!(rt; table.literals().len(), 2);
-    assert_eq!(rt; table.literals()[1].name(), "g");
+    let at = add(rt.alloc(), &mut table, text)?;
+    assert!(rt; at == 5 && table.len() == TWO_FUNCTIONS.len());
+    assert_eq!(rt; first_other(&table, &TWO_FUNCTIONS), None);
+    let f = Routine {
+        at: 0,
+        parameters: 2,
+        locals: 3,
+    };
+    let g = Routine {
+        at: 4,
+        parameters: 0,
+        locals: 0,
+    };
+    assert!(rt; has_routines(&table, &[f, g]) && has_literals(&table, &["f", "g"]));
     Ok(())
 }
 
@@ -239,38 +268,35 @@ const TARGETS: [FullInstr; 28] = [
 fn targets_are_bound_from_the_left_after_the_value(rt: HostRuntime) -> Result<(), Fail> {
     let text =
         "def f(a, b):\n a[b] = 1\n a[0], b = b\n a, b = b, a\n a = b[1] = 2\n a[b] += 3\n del a[b]\n for a[0] in b: pass\n [a, {b: 1}]\n";
-    let tree = script(rt.alloc(), text)?;
     let mut table = CodeTable::new(rt.alloc());
-    compile(&tree, &mut table)?;
-    for (at, instr) in TARGETS.iter().enumerate() {
-        assert_eq!(rt; table.instruction(at), Some(*instr), "at {at}");
-    }
+    add(rt.alloc(), &mut table, text)?;
+    assert_eq!(rt; first_other(&table, &TARGETS), None);
     Ok(())
 }
+
+// The code of two texts of one function each.
+const OF_TWO_TEXTS: [FullInstr; 6] = [
+    FullInstr::Return(Source::Literal(Constant::Nothing)),
+    FullInstr::StoreGlobal(0, Source::Literal(Constant::Function(0, 0))),
+    FullInstr::Finish,
+    FullInstr::Return(Source::Literal(Constant::Nothing)),
+    FullInstr::StoreGlobal(1, Source::Literal(Constant::Function(1, 1))),
+    FullInstr::Finish,
+];
 
 // A second text's functions are numbered after those of the first.
 #[test]
 fn numbers_go_on(rt: HostRuntime) -> Result<(), Fail> {
-    let first = script(rt.alloc(), "def f():\n    pass\n")?;
-    let second = script(rt.alloc(), "def g():\n    pass\n")?;
     let mut table = CodeTable::new(rt.alloc());
-    assert_eq!(rt; compile(&first, &mut table)?, 1);
-    assert_eq!(rt; compile(&second, &mut table)?, 4);
-    assert_eq!(rt;
-        table.instruction(1),
-        Some(FullInstr::StoreGlobal(0, Source::Literal(Constant::Function(0, 0))))
-    );
-    assert_eq!(rt;
-        table.instruction(4),
-        Some(FullInstr::StoreGlobal(1, Source::Literal(Constant::Function(1, 1))))
-    );
-    assert_eq!(rt;
-        table.routine(1),
-        Some(Routine {
-            at: 3,
-            parameters: 0,
-            locals: 0
-        })
-    );
+    let first = add(rt.alloc(), &mut table, "def f():\n    pass\n")?;
+    let second = add(rt.alloc(), &mut table, "def g():\n    pass\n")?;
+    assert!(rt; (first, second) == (1, 4));
+    assert_eq!(rt; first_other(&table, &OF_TWO_TEXTS), None);
+    let [f, g] = [0, 3].map(|at| Routine {
+        at,
+        parameters: 0,
+        locals: 0,
+    });
+    assert!(rt; has_routines(&table, &[f, g]));
     Ok(())
 }

@@ -3,6 +3,7 @@
 use si_parse::parse;
 use si_syntax::{Expr, Stmt};
 use std::alloc::Global;
+use std::process::Abort;
 use std::test::Fail;
 
 // The statements of a text, printed.
@@ -12,41 +13,60 @@ fn shown(alloc: Global, text: &str) -> Result<String, Fail> {
     Ok(format!(in alloc; "{body:?}")?)
 }
 
+// Asserts that a text is read as these statements.
+fn expect(rt: &(impl Abort + AllocGlobal), text: &str, wanted: &str) -> Result<(), Fail> {
+    assert_eq!(rt; shown(rt.alloc(), text)?.as_str(), wanted, "{text:?}");
+    Ok(())
+}
+
+// Asserts of each text that it is read as the statements beside it.
+fn expect_statements(rt: &(impl Abort + AllocGlobal), cases: &[(&str, &str)]) -> Result<(), Fail> {
+    for (text, trees) in cases {
+        let wanted = format!(in rt.alloc(); "[{trees}]")?;
+        expect(rt, text, wanted.as_str())?;
+    }
+    Ok(())
+}
+
+// Asserts of each text that it is read as the one expression beside it.
+fn expect_expressions(rt: &(impl Abort + AllocGlobal), cases: &[(&str, &str)]) -> Result<(), Fail> {
+    for (text, tree) in cases {
+        let wanted = format!(in rt.alloc(); "[Evaluate({tree})]")?;
+        expect(rt, text, wanted.as_str())?;
+    }
+    Ok(())
+}
+
 #[test]
 fn powers_bind_tighter_than_signs(rt: HostRuntime) -> Result<(), Fail> {
-    let alloc = rt.alloc();
-    assert_eq!(rt;
-        shown(alloc, "-2 ** 2")?.as_str(),
-        "[Evaluate(Unary(Minus, Binary(Power, Int(2), Int(2))))]"
-    );
-    assert_eq!(rt;
-        shown(alloc, "2 ** -1")?.as_str(),
-        "[Evaluate(Binary(Power, Int(2), Unary(Minus, Int(1))))]"
-    );
-    assert_eq!(rt;
-        shown(alloc, "2 ** 3 ** 2")?.as_str(),
-        "[Evaluate(Binary(Power, Int(2), Binary(Power, Int(3), Int(2))))]"
-    );
-    Ok(())
+    let cases = [
+        ("-2 ** 2", "Unary(Minus, Binary(Power, Int(2), Int(2)))"),
+        ("2 ** -1", "Binary(Power, Int(2), Unary(Minus, Int(1)))"),
+        (
+            "2 ** 3 ** 2",
+            "Binary(Power, Int(2), Binary(Power, Int(3), Int(2)))",
+        ),
+    ];
+    expect_expressions(&rt, &cases)
 }
 
 #[test]
 fn sums_and_products_go_to_the_left(rt: HostRuntime) -> Result<(), Fail> {
-    let alloc = rt.alloc();
-    assert_eq!(rt;
-        shown(alloc, "1 - 2 + 3")?.as_str(),
-        "[Evaluate(Binary(Add, Binary(Subtract, Int(1), Int(2)), Int(3)))]"
-    );
-    assert_eq!(rt;
-        shown(alloc, "1 + 7 // 2 % 3")?.as_str(),
-        "[Evaluate(Binary(Add, Int(1), Binary(Modulo, Binary(FloorDivide, Int(7), Int(2)), Int(3))))]"
-    );
-    Ok(())
+    let cases = [
+        (
+            "1 - 2 + 3",
+            "Binary(Add, Binary(Subtract, Int(1), Int(2)), Int(3))",
+        ),
+        (
+            "1 + 7 // 2 % 3",
+            "Binary(Add, Int(1), Binary(Modulo, Binary(FloorDivide, Int(7), Int(2)), Int(3)))",
+        ),
+    ];
+    expect_expressions(&rt, &cases)
 }
 
 #[test]
 fn a_line_ends_in_lf_cr_or_cr_lf_and_the_last_one_may_lack_it(rt: HostRuntime) -> Result<(), Fail> {
-    let alloc = rt.alloc();
     for text in [
         "x = 1\nf(x)\n",
         "x = 1\rf(x)\r",
@@ -58,21 +78,29 @@ fn a_line_ends_in_lf_cr_or_cr_lf_and_the_last_one_may_lack_it(rt: HostRuntime) -
         "x = 1 # one; two\nf(x) # (",
         "\n  # first\nx = 1\n\n \t\nf( # here\n  x)\n",
     ] {
-        assert_eq!(rt;
-            shown(alloc, text)?.as_str(),
+        expect(
+            &rt,
+            text,
             "[Assign(Assign { targets: [Named(\"x\")], value: Int(1) }), Evaluate(Call(Name(\"f\"), None, [Name(\"x\")], []))]",
-            "{text:?}"
-        );
+        )?;
     }
     for text in ["", "\n", "# x", " \t"] {
-        assert_eq!(rt; shown(alloc, text)?.as_str(), "[]", "{text:?}");
+        expect(&rt, text, "[]")?;
     }
     Ok(())
 }
 
+// Whether a text is one literal, of a str with this value.
+fn is_literal(alloc: Global, text: &str, value: &str) -> Result<bool, Fail> {
+    let module = parse(alloc, text)?;
+    Ok(match module.body() {
+        [Stmt::Evaluate(Expr::Str(text))] => text.as_str() == value,
+        _ => false,
+    })
+}
+
 #[test]
 fn literals_have_the_values_of_python(rt: HostRuntime) -> Result<(), Fail> {
-    let alloc = rt.alloc();
     let known = [
         ("'it\\'s'", "it's"),
         ("u\"\"", ""),
@@ -89,21 +117,14 @@ fn literals_have_the_values_of_python(rt: HostRuntime) -> Result<(), Fail> {
         (r"'\q\8\('", r"\q\8\("),
     ];
     for (literal, value) in known {
-        let module = parse(alloc, literal)?;
-        match module.body() {
-            [Stmt::Evaluate(Expr::Str(text))] => {
-                assert_eq!(rt; text.as_str(), value, "{literal:?}")
-            }
-            _ => panic!(rt; "one literal"),
-        }
+        assert!(rt; is_literal(rt.alloc(), literal, value)?, "{literal:?}");
     }
     Ok(())
 }
 
 #[test]
 fn operators_bind_as_in_python(rt: HostRuntime) -> Result<(), Fail> {
-    let alloc = rt.alloc();
-    for (text, tree) in [
+    let cases = [
         (
             "1 | 2 ^ 3 & 4 << 5 + ~6",
             "Binary(BitOr, Int(1), Binary(BitXor, Int(2), Binary(BitAnd, Int(3), Binary(ShiftLeft, Int(4), Binary(Add, Int(5), Unary(Invert, Int(6)))))))",
@@ -140,17 +161,13 @@ fn operators_bind_as_in_python(rt: HostRuntime) -> Result<(), Fail> {
             "a if b or c else d if False else e",
             "Conditional(Boolean(Or, Name(\"b\"), [Name(\"c\")]), Name(\"a\"), Conditional(Truth(false), Name(\"d\"), Name(\"e\")))",
         ),
-    ] {
-        let wanted = format!(in alloc; "[Evaluate({tree})]")?;
-        assert_eq!(rt; shown(alloc, text)?.as_str(), wanted.as_str(), "{text:?}");
-    }
-    Ok(())
+    ];
+    expect_expressions(&rt, &cases)
 }
 
 #[test]
 fn tuples_are_displayed_in_brackets(rt: HostRuntime) -> Result<(), Fail> {
-    let alloc = rt.alloc();
-    for (text, tree) in [
+    let cases = [
         ("()", "Tuple([])"),
         ("(1,)", "Tuple([Int(1)])"),
         ("(1, 2)", "Tuple([Int(1), Int(2)])"),
@@ -165,17 +182,13 @@ fn tuples_are_displayed_in_brackets(rt: HostRuntime) -> Result<(), Fail> {
             "(a, b)[0] + f((c,), d)",
             "Binary(Add, Subscript(Tuple([Name(\"a\"), Name(\"b\")]), Int(0)), Call(Name(\"f\"), None, [Tuple([Name(\"c\")]), Name(\"d\")], []))",
         ),
-    ] {
-        let wanted = format!(in alloc; "[Evaluate({tree})]")?;
-        assert_eq!(rt; shown(alloc, text)?.as_str(), wanted.as_str(), "{text:?}");
-    }
-    Ok(())
+    ];
+    expect_expressions(&rt, &cases)
 }
 
 #[test]
 fn tuples_may_stand_without_brackets(rt: HostRuntime) -> Result<(), Fail> {
-    let alloc = rt.alloc();
-    for (text, trees) in [
+    let cases = [
         ("1,", "Evaluate(Tuple([Int(1)]))"),
         (
             "1, 2,; 3",
@@ -197,17 +210,13 @@ fn tuples_may_stand_without_brackets(rt: HostRuntime) -> Result<(), Fail> {
             "for x in a, b,: c, d",
             "For(For { target: Named(\"x\"), items: Tuple([Name(\"a\"), Name(\"b\")]), body: [Evaluate(Tuple([Name(\"c\"), Name(\"d\")]))], last: [] })",
         ),
-    ] {
-        let wanted = format!(in alloc; "[{trees}]")?;
-        assert_eq!(rt; shown(alloc, text)?.as_str(), wanted.as_str(), "{text:?}");
-    }
-    Ok(())
+    ];
+    expect_statements(&rt, &cases)
 }
 
 #[test]
 fn lists_and_dicts_are_displayed_with_their_items_in_order(rt: HostRuntime) -> Result<(), Fail> {
-    let alloc = rt.alloc();
-    for (text, tree) in [
+    let cases = [
         ("[]", "ListDisplay([])"),
         ("[1]", "ListDisplay([Int(1)])"),
         (
@@ -223,17 +232,13 @@ fn lists_and_dicts_are_displayed_with_their_items_in_order(rt: HostRuntime) -> R
             "[a][0][b]",
             "Subscript(Subscript(ListDisplay([Name(\"a\")]), Int(0)), Name(\"b\"))",
         ),
-    ] {
-        let wanted = format!(in alloc; "[Evaluate({tree})]")?;
-        assert_eq!(rt; shown(alloc, text)?.as_str(), wanted.as_str(), "{text:?}");
-    }
-    Ok(())
+    ];
+    expect_expressions(&rt, &cases)
 }
 
 #[test]
 fn targets_are_items_and_rows(rt: HostRuntime) -> Result<(), Fail> {
-    let alloc = rt.alloc();
-    for (text, trees) in [
+    let cases = [
         (
             "a, b[0] = [c] = {1: 2, 3: [4]}",
             "Assign(Assign { targets: [Unpack([Named(\"a\"), Item(Item { object: Name(\"b\"), index: Int(0) })]), Unpack([Named(\"c\")])], value: DictDisplay([Int(1), Int(2), Int(3), ListDisplay([Int(4)])]) })",
@@ -250,17 +255,13 @@ fn targets_are_items_and_rows(rt: HostRuntime) -> Result<(), Fail> {
             "for a, (b,) in c: pass",
             "For(For { target: Unpack([Named(\"a\"), Unpack([Named(\"b\")])]), items: Name(\"c\"), body: [Pass], last: [] })",
         ),
-    ] {
-        let wanted = format!(in alloc; "[{trees}]")?;
-        assert_eq!(rt; shown(alloc, text)?.as_str(), wanted.as_str(), "{text:?}");
-    }
-    Ok(())
+    ];
+    expect_statements(&rt, &cases)
 }
 
 #[test]
 fn statements_of_branches_and_loops(rt: HostRuntime) -> Result<(), Fail> {
-    let alloc = rt.alloc();
-    for (text, trees) in [
+    let cases = [
         (
             "x += 1; (y) **= 2; pass",
             "Augment(Augment { name: \"x\", operator: Add, value: Int(1) }), Augment(Augment { name: \"y\", operator: Power, value: Int(2) }), Pass",
@@ -281,17 +282,13 @@ fn statements_of_branches_and_loops(rt: HostRuntime) -> Result<(), Fail> {
             "if a:\n if b: c\nelse:\n d",
             "If(If { first: Branch { test: Name(\"a\"), body: [If(If { first: Branch { test: Name(\"b\"), body: [Evaluate(Name(\"c\"))] }, elifs: [], last: [] })] }, elifs: [], last: [Evaluate(Name(\"d\"))] })",
         ),
-    ] {
-        let wanted = format!(in alloc; "[{trees}]")?;
-        assert_eq!(rt; shown(alloc, text)?.as_str(), wanted.as_str(), "{text:?}");
-    }
-    Ok(())
+    ];
+    expect_statements(&rt, &cases)
 }
 
 #[test]
 fn loops_may_have_an_else(rt: HostRuntime) -> Result<(), Fail> {
-    let alloc = rt.alloc();
-    for (text, trees) in [
+    let cases = [
         (
             "while a: b\nelse: c",
             "While(While { test: Name(\"a\"), body: [Evaluate(Name(\"b\"))], last: [Evaluate(Name(\"c\"))] })",
@@ -312,17 +309,13 @@ fn loops_may_have_an_else(rt: HostRuntime) -> Result<(), Fail> {
             "if a:\n while b:\n  for c in d: e\n else: f\nelse: g",
             "If(If { first: Branch { test: Name(\"a\"), body: [While(While { test: Name(\"b\"), body: [For(For { target: Named(\"c\"), items: Name(\"d\"), body: [Evaluate(Name(\"e\"))], last: [] })], last: [Evaluate(Name(\"f\"))] })] }, elifs: [], last: [Evaluate(Name(\"g\"))] })",
         ),
-    ] {
-        let wanted = format!(in alloc; "[{trees}]")?;
-        assert_eq!(rt; shown(alloc, text)?.as_str(), wanted.as_str(), "{text:?}");
-    }
-    Ok(())
+    ];
+    expect_statements(&rt, &cases)
 }
 
 #[test]
 fn clauses_are_read_in_their_order(rt: HostRuntime) -> Result<(), Fail> {
-    let alloc = rt.alloc();
-    for (text, trees) in [
+    let cases = [
         (
             "try: a\nexcept: b",
             "Try(Try { body: [Evaluate(Name(\"a\"))], clauses: [Clause { value: None, name: None, body: [Evaluate(Name(\"b\"))] }], last: [] })",
@@ -343,11 +336,8 @@ fn clauses_are_read_in_their_order(rt: HostRuntime) -> Result<(), Fail> {
             "try:\n try: a\n except: b\nexcept: c",
             "Try(Try { body: [Try(Try { body: [Evaluate(Name(\"a\"))], clauses: [Clause { value: None, name: None, body: [Evaluate(Name(\"b\"))] }], last: [] })], clauses: [Clause { value: None, name: None, body: [Evaluate(Name(\"c\"))] }], last: [] })",
         ),
-    ] {
-        let wanted = format!(in alloc; "[{trees}]")?;
-        assert_eq!(rt; shown(alloc, text)?.as_str(), wanted.as_str(), "{text:?}");
-    }
-    Ok(())
+    ];
+    expect_statements(&rt, &cases)
 }
 
 #[test]
@@ -364,19 +354,14 @@ fn arguments_are_passed_by_place_or_by_name(rt: HostRuntime) -> Result<(), Fail>
     ] {
         let text = format!(in alloc; "f({arguments})")?;
         let wanted = format!(in alloc; "[Evaluate(Call(Name(\"f\"), None, {trees}))]")?;
-        assert_eq!(rt;
-            shown(alloc, text.as_str())?.as_str(),
-            wanted.as_str(),
-            "{arguments:?}"
-        );
+        expect(&rt, text.as_str(), wanted.as_str())?;
     }
     Ok(())
 }
 
 #[test]
 fn functions_are_read_with_their_lines(rt: HostRuntime) -> Result<(), Fail> {
-    let alloc = rt.alloc();
-    for (text, trees) in [
+    let cases = [
         (
             "def f(): pass",
             "Define(Define { line: 1, name: \"f\", parameters: [], body: [Pass] })",
@@ -398,9 +383,6 @@ fn functions_are_read_with_their_lines(rt: HostRuntime) -> Result<(), Fail> {
             "def f():\n def g(a): break\n return g(\n  a=1)",
             "Define(Define { line: 1, name: \"f\", parameters: [], body: [Define(Define { line: 2, name: \"g\", parameters: [\"a\"], body: [Break(2)] }), Return(3, Some(Call(Name(\"g\"), None, [Int(1)], [\"a\"])))] })",
         ),
-    ] {
-        let wanted = format!(in alloc; "[{trees}]")?;
-        assert_eq!(rt; shown(alloc, text)?.as_str(), wanted.as_str(), "{text:?}");
-    }
-    Ok(())
+    ];
+    expect_statements(&rt, &cases)
 }

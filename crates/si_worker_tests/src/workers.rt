@@ -43,6 +43,16 @@ fn waits(book: &mut Book, i: u32, action: Action) -> Result<(), Fail> {
     }
 }
 
+// Whether interpreter 1 is not to be woken.
+fn sleeps_on(book: &mut Book) -> bool {
+    !book.has_woken() && book.resume(1).is_none()
+}
+
+// Whether interpreter 1 is to be woken, goes on from where it waited for a job, and is then woken no more.
+fn is_woken(book: &mut Book) -> bool {
+    book.has_woken() && book.resume(1) == Some(Action::Take) && book.is_busy(1) && !book.has_woken()
+}
+
 #[test]
 fn woken_by_a_start(rt: HostRuntime) -> Result<(), Fail> {
     let alloc = rt.alloc();
@@ -50,16 +60,29 @@ fn woken_by_a_start(rt: HostRuntime) -> Result<(), Fail> {
     waits(&mut book, 1, Action::Take)?;
     answered(&mut book, 0, Action::Take)?;
     answered(&mut book, 0, Action::Create)?;
-    assert!(rt; !book.has_woken());
-    assert!(rt; book.resume(1).is_none());
+    assert!(rt; sleeps_on(&mut book));
     let text = BoxedText::new(alloc, Text::from_str(alloc, "print(1)")?)?;
     answered(&mut book, 0, Action::Start(1, text))?;
-    assert!(rt; book.has_woken());
-    assert!(rt; book.resume(1) == Some(Action::Take));
-    assert!(rt; book.is_busy(1));
-    assert!(rt; !book.has_woken());
+    assert!(rt; is_woken(&mut book));
     assert!(rt; book.into_hub().journal().len() == 3);
     Ok(())
+}
+
+// Whether all is over once interpreter 1 rests, and was not before.
+fn is_over_where_one_rests(book: &mut Book) -> bool {
+    let was_over = book.over() || book.reclaim(0).is_some();
+    if book.is_busy(1) {
+        book.rest(1);
+    }
+    !was_over && book.over()
+}
+
+// Whether each of the others takes back the action at which it waited, once.
+fn is_reclaimed(book: &mut Book) -> bool {
+    book.reclaim(1).is_none()
+        && book.reclaim(0) == Some(Action::Get(0))
+        && book.reclaim(2) == Some(Action::Take)
+        && book.reclaim(2).is_none()
 }
 
 #[test]
@@ -71,16 +94,7 @@ fn over_where_all_wait(rt: HostRuntime) -> Result<(), Fail> {
     let made = answered(&mut book, 0, Action::CreateQueue(1))?;
     assert!(rt; made == Answer::QueueMade(0));
     waits(&mut book, 0, Action::Get(0))?;
-    assert!(rt; !book.over());
-    assert!(rt; book.reclaim(0).is_none());
-    if book.is_busy(1) {
-        book.rest(1);
-    }
-    assert!(rt; book.over());
-    assert!(rt; book.reclaim(1).is_none());
-    assert!(rt; book.reclaim(0) == Some(Action::Get(0)));
-    assert!(rt; book.reclaim(2) == Some(Action::Take));
-    assert!(rt; book.reclaim(2).is_none());
+    assert!(rt; is_over_where_one_rests(&mut book) && is_reclaimed(&mut book));
     Ok(())
 }
 
@@ -116,21 +130,21 @@ fn left<G: Gate + Sync, R: Threads + Wait + Sync>(
     }
 }
 
-// Whether interpreter i has printed this.
-fn has_printed(recording: &Recording, i: usize, text: &str) -> bool {
-    match recording.reports().get(i) {
-        Some(report) => report.printed().as_str() == text,
-        None => false,
+// Whether the interpreters are so many as these texts, and each has printed its own.
+fn have_printed(recording: &Recording, texts: &[&str]) -> bool {
+    for (report, text) in recording.reports().iter().zip(texts.iter()) {
+        if report.printed().as_str() != *text {
+            return false;
+        }
     }
+    recording.reports().len() == texts.len()
 }
 
 #[test]
 fn waits_for_ever(rt: HostRuntime) -> Result<(), Fail> {
     let script = "from concurrent import interpreters\ninterpreters.create_queue().get()\n";
     let recording = left(&rt, rt.alloc(), script, &Open)?;
-    assert!(rt; recording.end() == End::Stuck);
-    assert!(rt; recording.reports().len() == 1);
-    assert!(rt; has_printed(&recording, 0, ""));
+    assert!(rt; recording.end() == End::Stuck && have_printed(&recording, &[""]));
     Ok(())
 }
 
@@ -186,14 +200,22 @@ fn is_in_order(text: &str) -> bool {
     false
 }
 
+// Whether interpreter 0 has printed the items in one of these orders, and two others nothing.
+fn are_sent(recording: &Recording) -> bool {
+    match recording.reports() {
+        [first, second, third] => {
+            is_in_order(first.printed().as_str())
+                && second.printed().is_empty()
+                && third.printed().is_empty()
+        }
+        _ => false,
+    }
+}
+
 #[test]
 fn two_senders(rt: HostRuntime) -> Result<(), Fail> {
     let recording = left(&rt, rt.alloc(), TWO_SENDERS, &Open)?;
-    assert!(rt; recording.end() == End::Finished);
-    assert!(rt; recording.reports().len() == 3);
-    assert!(rt; is_in_order(recording.reports()[0].printed().as_str()));
-    assert!(rt; has_printed(&recording, 1, ""));
-    assert!(rt; has_printed(&recording, 2, ""));
+    assert!(rt; recording.end() == End::Finished && are_sent(&recording));
     Ok(())
 }
 
@@ -216,10 +238,8 @@ except RuntimeError as e:
 #[test]
 fn thread_sends_squares(rt: HostRuntime) -> Result<(), Fail> {
     let recording = left(&rt, rt.alloc(), SQUARES, &Open)?;
-    assert!(rt; recording.end() == End::Finished);
-    assert!(rt; recording.reports().len() == 2);
-    assert!(rt; has_printed(&recording, 0, "0 1 4\nFalse\nthread already started\n"));
-    assert!(rt; has_printed(&recording, 1, ""));
+    let texts = ["0 1 4\nFalse\nthread already started\n", ""];
+    assert!(rt; recording.end() == End::Finished && have_printed(&recording, &texts));
     Ok(())
 }
 
@@ -284,6 +304,11 @@ t.join()
 u.join()
 ";
 
+// Whether each of the two has seen the other.
+fn have_met(gate: &Meeting) -> bool {
+    gate.one.saw.load(Ordering::SeqCst) && gate.two.saw.load(Ordering::SeqCst)
+}
+
 #[test]
 fn two_at_once(rt: HostRuntime) -> Result<(), Fail> {
     let gate = Meeting {
@@ -291,8 +316,6 @@ fn two_at_once(rt: HostRuntime) -> Result<(), Fail> {
         two: Guest::new(),
     };
     let recording = left(&rt, rt.alloc(), TWO_AT_ONCE, &gate)?;
-    assert!(rt; recording.end() == End::Finished);
-    assert!(rt; gate.one.saw.load(Ordering::SeqCst));
-    assert!(rt; gate.two.saw.load(Ordering::SeqCst));
+    assert!(rt; recording.end() == End::Finished && have_met(&gate));
     Ok(())
 }
