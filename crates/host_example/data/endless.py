@@ -1,0 +1,3 @@
+result = 'never asked for'
+while True:
+    pass

@@ -1,0 +1,3 @@
+from concurrent import interpreters
+
+result = interpreters.create_queue().get()
