@@ -1,7 +1,7 @@
 // One interpreter, with a test as its host.
 //
-// Each assertion stands beside all that is alive there, which is what a test's proof costs: so what is looked at after one
-// step is one small function that answers a truth.
+// A proof costs what is alive at each way out, at a `?` and at an assertion, and an interpreter is much. So no test has one: it
+// asserts what a function answers that has one, and all that may fail there is done by others, to which that lends it.
 
 use si_interp::{Interp, NotShown, RunOrigin, State, Step};
 use si_parcel::{Action, Answer, Atom, BoxedText, Job, Outcome, Parcel, Top};
@@ -76,10 +76,14 @@ fn given_two(alloc: Global, first: &str, second: &str) -> Result<Interp, AllocEr
     Ok(interp)
 }
 
+fn sees_names(alloc: Global) -> Result<bool, AllocError> {
+    let mut interp = given_two(alloc, "x = 6\nprint(x * 7)\n", "print(x + 1)\n")?;
+    Ok(returns(&mut interp, "42\n7\n", 3))
+}
+
 #[test]
 fn second_run_sees_the_names_of_the_first(rt: HostRuntime) -> Result<(), Fail> {
-    let mut interp = given_two(rt.alloc(), "x = 6\nprint(x * 7)\n", "print(x + 1)\n")?;
-    assert!(rt; returns(&mut interp, "42\n7\n", 3));
+    assert!(rt; sees_names(rt.alloc())?);
     Ok(())
 }
 
@@ -93,37 +97,49 @@ fn is_shown(interp: &Interp, name: &str, wanted: &str) -> Result<bool, AllocErro
     }
 }
 
-// Whether each of these is.
-fn are_shown(interp: &Interp, globals: &[(&str, &str)]) -> Result<bool, AllocError> {
-    for (name, wanted) in globals {
-        if !is_shown(interp, name, wanted)? {
-            return Ok(false);
-        }
-    }
-    Ok(true)
+// What is shown once this has run, and once the text after it has.
+const FIRST: &str = "z = 1\nx = [z, 'a']\ndef f():\n    y = 2\n    return y\n";
+
+const SECOND: &str =
+    "x.append(x)\nw = (f(), b'b')\ntry:\n    raise ValueError('e')\nexcept ValueError as z:\n    pass\n";
+
+fn shows_the_first(interp: &Interp) -> Result<bool, AllocError> {
+    let x = is_shown(interp, "x", "[1, 'a']")?;
+    let z = is_shown(interp, "z", "1")?;
+    Ok(x && z && is_shown(interp, "w", "")?)
+}
+
+fn shows_the_second(interp: &Interp) -> Result<bool, AllocError> {
+    let x = is_shown(interp, "x", "[1, 'a', [...]]")?;
+    let w = is_shown(interp, "w", "(2, b'b')")?;
+    Ok(x && w && is_shown(interp, "f", "<function f>")?)
+}
+
+// Locals, what `except` has unbound and built-ins are no globals; the name of the module is one.
+fn shows_no_others(interp: &Interp) -> Result<bool, AllocError> {
+    let y = is_shown(interp, "y", "")?;
+    let z = is_shown(interp, "z", "")?;
+    let print = is_shown(interp, "print", "")?;
+    Ok(y && z && print && is_shown(interp, "__name__", "'__main__'")?)
+}
+
+// Whether the globals are shown after each text, and none is of one that stands still for good.
+fn shows_all(interp: &mut Interp) -> Result<bool, AllocError> {
+    let first = shows_the_first(interp)?;
+    go_on(interp);
+    let second = shows_the_second(interp)? && shows_no_others(interp)?;
+    interp.starve();
+    Ok(first && second && is_shown(interp, "x", "")?)
+}
+
+fn globals_show(alloc: Global) -> Result<bool, AllocError> {
+    let mut interp = given_two(alloc, FIRST, SECOND)?;
+    shows_all(&mut interp)
 }
 
 #[test]
 fn globals_are_shown(rt: HostRuntime) -> Result<(), Fail> {
-    let first = "z = 1\nx = [z, 'a']\ndef f():\n    y = 2\n    return y\n";
-    let second =
-        "x.append(x)\nw = (f(), b'b')\ntry:\n    raise ValueError('e')\nexcept ValueError as z:\n    pass\n";
-    let mut interp = given_two(rt.alloc(), first, second)?;
-    let before = [("x", "[1, 'a']"), ("z", "1"), ("w", "")];
-    assert!(rt; are_shown(&interp, &before)?);
-    go_on(&mut interp);
-    let after = [
-        ("x", "[1, 'a', [...]]"),
-        ("w", "(2, b'b')"),
-        ("f", "<function f>"),
-        ("__name__", "'__main__'"),
-        ("y", ""),
-        ("z", ""),
-        ("print", ""),
-    ];
-    assert!(rt; are_shown(&interp, &after)?);
-    interp.starve();
-    assert!(rt; is_shown(&interp, "x", "")?);
+    assert!(rt; globals_show(rt.alloc())?);
     Ok(())
 }
 
@@ -196,24 +212,38 @@ fn item_of_a(alloc: Global) -> Result<Answer, AllocError> {
     Ok(Answer::Item(parcel))
 }
 
-#[test]
-fn answered_by_its_host(rt: HostRuntime) -> Result<(), Fail> {
+// Whether it goes as its host answers it, and ends with what it was given.
+fn goes_as_answered(alloc: Global) -> Result<bool, AllocError> {
     let text =
         "from concurrent import interpreters\nq = interpreters.create_queue()\nq.put(5)\nprint(q.get())\n";
-    let item = item_of_a(rt.alloc())?;
-    let mut interp = given(rt.alloc(), text)?;
-    assert!(rt; is_given_a_queue(&mut interp) && puts_five(&mut interp));
-    assert!(rt; gets_an_item(&mut interp, item) && returns(&mut interp, "a\n", 4));
+    let item = item_of_a(alloc)?;
+    let mut interp = given(alloc, text)?;
+    let asked = is_given_a_queue(&mut interp) && puts_five(&mut interp);
+    Ok(asked && gets_an_item(&mut interp, item) && returns(&mut interp, "a\n", 4))
+}
+
+#[test]
+fn answered_by_its_host(rt: HostRuntime) -> Result<(), Fail> {
+    assert!(rt; goes_as_answered(rt.alloc())?);
     Ok(())
+}
+
+// Whether it is ready after six answers, and then returns.
+fn goes_on(alloc: Global, interp: &mut Interp) -> Result<bool, AllocError> {
+    go_on_answered(alloc, interp, 6)?;
+    Ok(interp.state() == State::Ready && returns(interp, "42\n", 7))
+}
+
+fn is_answered(alloc: Global) -> Result<bool, AllocError> {
+    let text =
+        "from concurrent import interpreters\nq = interpreters.create_queue()\nq.put(35)\nx = q.get()\ni = interpreters.create()\ni.exec('pass')\nprint(x + 7)\n";
+    let mut interp = given(alloc, text)?;
+    goes_on(alloc, &mut interp)
 }
 
 #[test]
 fn all_that_it_asks_is_answered(rt: HostRuntime) -> Result<(), Fail> {
-    let text =
-        "from concurrent import interpreters\nq = interpreters.create_queue()\nq.put(35)\nx = q.get()\ni = interpreters.create()\ni.exec('pass')\nprint(x + 7)\n";
-    let mut interp = given(rt.alloc(), text)?;
-    go_on_answered(rt.alloc(), &mut interp, 6)?;
-    assert!(rt; interp.state() == State::Ready && returns(&mut interp, "42\n", 7));
+    assert!(rt; is_answered(rt.alloc())?);
     Ok(())
 }
 
@@ -233,11 +263,15 @@ fn is_refused(interp: &mut Interp) -> bool {
     asks && give(interp, Answer::Limit) && interp.locals() == before
 }
 
+fn raises_what_is_answered(alloc: Global) -> Result<bool, AllocError> {
+    let text = "from concurrent import interpreters\ninterpreters.create()\nprint(1)\n";
+    let mut interp = given(alloc, text)?;
+    Ok(is_refused(&mut interp) && has_raised(&interp, Kind::InterpreterError))
+}
+
 #[test]
 fn run_left_by_the_exception_of_an_answer(rt: HostRuntime) -> Result<(), Fail> {
-    let text = "from concurrent import interpreters\ninterpreters.create()\nprint(1)\n";
-    let mut interp = given(rt.alloc(), text)?;
-    assert!(rt; is_refused(&mut interp) && has_raised(&interp, Kind::InterpreterError));
+    assert!(rt; raises_what_is_answered(rt.alloc())?);
     Ok(())
 }
 
@@ -260,10 +294,14 @@ fn closes(interp: &mut Interp) -> bool {
         && go_on(interp) == Step::Gone
 }
 
+fn is_left_at_once(alloc: Global) -> Result<bool, AllocError> {
+    let mut interp = given(alloc, "x = = 6\n")?;
+    Ok(is_at_a_syntax_error(&interp) && closes(&mut interp))
+}
+
 #[test]
 fn text_that_is_not_read_is_left_at_once(rt: HostRuntime) -> Result<(), Fail> {
-    let mut interp = given(rt.alloc(), "x = = 6\n")?;
-    assert!(rt; is_at_a_syntax_error(&interp) && closes(&mut interp));
+    assert!(rt; is_left_at_once(rt.alloc())?);
     Ok(())
 }
 
@@ -272,39 +310,53 @@ fn is_ready(interp: &Interp) -> bool {
     interp.log().len() == 1 && interp.state() == State::Ready
 }
 
+// Whether it is once it is given its text, or given it again where it was refused memory.
+fn is_ready_at_last(alloc: Global) -> Result<bool, AllocError> {
+    let mut interp = given(alloc, "x = 'seven' * 7\n")?;
+    if interp.state() == State::Starved {
+        interp = given(alloc, "x = 'seven' * 7\n")?;
+    }
+    Ok(is_ready(&interp))
+}
+
 #[test]
 fn refused_text(rt: HostRuntime) -> Result<(), Fail> {
-    let mut interp = given(rt.alloc(), "x = 'seven' * 7\n")?;
-    if interp.state() == State::Starved {
-        interp = given(rt.alloc(), "x = 'seven' * 7\n")?;
-    }
-    assert!(rt; is_ready(&interp));
+    assert!(rt; is_ready_at_last(rt.alloc())?);
     Ok(())
 }
 
 // Whether it comes to put a value into a queue, or is refused memory, and has printed nothing.
-fn puts_or_starves(interp: &mut Interp) -> bool {
+fn puts_or_starves(alloc: Global, interp: &mut Interp) -> Result<bool, AllocError> {
+    go_on_answered(alloc, interp, 1)?;
     go_on(interp);
     let is_at_put = matches!(interp.pending(), Some(Action::Put(_, _)));
-    (is_at_put || interp.state() == State::Starved) && interp.printed().is_empty()
+    Ok((is_at_put || interp.state() == State::Starved) && interp.printed().is_empty())
+}
+
+fn asks_or_starves(alloc: Global) -> Result<bool, AllocError> {
+    let text = "from concurrent import interpreters\ninterpreters.create_queue().put('seven')\n";
+    let mut interp = given(alloc, text)?;
+    puts_or_starves(alloc, &mut interp)
 }
 
 #[test]
 fn refused_request(rt: HostRuntime) -> Result<(), Fail> {
-    let text = "from concurrent import interpreters\ninterpreters.create_queue().put('seven')\n";
-    let mut interp = given(rt.alloc(), text)?;
-    go_on_answered(rt.alloc(), &mut interp, 1)?;
-    assert!(rt; puts_or_starves(&mut interp));
+    assert!(rt; asks_or_starves(rt.alloc())?);
     Ok(())
+}
+
+// Whether one is made as it should, or is where it was refused memory.
+fn is_made_at_last(alloc: Global) -> Result<bool, AllocError> {
+    let interp = match Interp::new(alloc, 3) {
+        Ok(interp) => interp,
+        Err(_) => Interp::new(alloc, 3)?,
+    };
+    Ok(interp.id() == 3 && !interp.is_taken())
 }
 
 #[test]
 fn refused_interpreter(rt: HostRuntime) -> Result<(), Fail> {
-    let interp = match Interp::new(rt.alloc(), 3) {
-        Ok(interp) => interp,
-        Err(_) => Interp::new(rt.alloc(), 3)?,
-    };
-    assert!(rt; interp.id() == 3 && !interp.is_taken());
+    assert!(rt; is_made_at_last(rt.alloc())?);
     Ok(())
 }
 
@@ -339,20 +391,28 @@ fn given_all(alloc: Global, texts: &[&str]) -> Result<Interp, AllocError> {
     Ok(interp)
 }
 
-#[test]
-fn exception_of_a_function_of_an_earlier_run(rt: HostRuntime) -> Result<(), Fail> {
+fn comes_from_an_earlier_run(alloc: Global) -> Result<bool, AllocError> {
     let unread = "x = = 6\n";
     let with_function = "def f(x):\n    if x:\n        pass\n    raise ValueError(x)\n";
     let raises = "y = 1\nf(y)\n";
-    let interp = given_all(rt.alloc(), &[unread, with_function, raises, "z = 2\n"])?;
-    assert!(rt; is_left_from(&interp, 2, &[(1, 2), (2, 1)]));
+    let interp = given_all(alloc, &[unread, with_function, raises, "z = 2\n"])?;
+    Ok(is_left_from(&interp, 2, &[(1, 2), (2, 1)]))
+}
+
+#[test]
+fn exception_of_a_function_of_an_earlier_run(rt: HostRuntime) -> Result<(), Fail> {
+    assert!(rt; comes_from_an_earlier_run(rt.alloc())?);
     Ok(())
+}
+
+fn comes_from_an_answer(alloc: Global) -> Result<bool, AllocError> {
+    let text = "from concurrent import interpreters\ninterpreters.create()\n";
+    let mut interp = given(alloc, text)?;
+    Ok(is_refused(&mut interp) && is_left_from(&interp, 0, &[(0, 1)]))
 }
 
 #[test]
 fn exception_of_an_answer(rt: HostRuntime) -> Result<(), Fail> {
-    let text = "from concurrent import interpreters\ninterpreters.create()\n";
-    let mut interp = given(rt.alloc(), text)?;
-    assert!(rt; is_refused(&mut interp) && is_left_from(&interp, 0, &[(0, 1)]));
+    assert!(rt; comes_from_an_answer(rt.alloc())?);
     Ok(())
 }
