@@ -1,5 +1,5 @@
 -- What a host finds of a plug-in (this example's own).
-use Rattle.std.specs.Prelude.{◌≡◌, ◌≢◌, ℕ, List, [], ◌∷◌, Bool, true, false, Option, Some, None, Result, Ok, Err, slice_get}
+use Rattle.std.specs.Prelude.{◌≡◌, ◌≢◌, ◌<◌, ℕ, List, [], ◌∷◌, Bool, true, false, Option, Some, None, Result, Ok, Err, slice_get}
 use Rattle.si_plain.specs.Ranges.{Numbers}
 use Rattle.si_plain.specs.declared.kind.Kind.{Kind}
 use Rattle.si_semantics.specs.Value.{Text}
@@ -9,6 +9,7 @@ use Rattle.si_interp.specs.Meaning.{InterpView, Logged}
 use Rattle.si_interp.specs.Globals.{globals_of, shown_of}
 use Rattle.si_world.specs.Worlds.{WorldView, IsWorld, first_of}
 use Rattle.si_world.specs.Legal.{Legal}
+use Rattle.si_world.specs.Marks.{AtRest}
 use Rattle.si_world.specs.Rounds.{Serves}
 use Rattle.si_world.specs.Reports.{end_of, members}
 use Rattle.si_world.specs.declared.ending.End.{End}
@@ -53,12 +54,14 @@ abbrev pub Says : WorldView → (global : Text) → Finding → Type 0
 Says w global (finding.Unfinished e) = (end_at w ≡ e) × (e ≢ end.Finished)
 Says w global f = (end_at w ≡ end.Finished) × (v : InterpView) × (slice_get w.interps 0 ≡ Some v) × Tells v global f
 
--- a finding speaks of a world of the script, to which some turns lead. Its journal is a legal history of the script's meaning,
--- and each of its interpreters shows its meaning under the answers that this history gave it.
+-- a finding speaks of a world of the script, to which some turns lead, and in which nothing can be moved any more (unless so many
+-- turns were given as 64 bits can count). Its journal is a legal history of the script's meaning, and each of its interpreters
+-- shows its meaning under the answers that this history gave it.
 pub record Finds (script : Text) (limits : Numbers) (global : Text) (f : Finding) : Type 0 where
   pub turns : ℕ
   pub left : WorldView
   pub served : Serves (first_of script limits) turns left
+  pub rest : turns < 18446744073709551615 → AtRest left
   pub legal : Legal left.past
   pub shows : IsWorld left
   pub says : Says left global f

@@ -36,7 +36,8 @@ impl fmt::Display for Finding {
             Finding::Raised(kind, message) => write!(f, "raised {kind}: {}", message.as_str()),
             Finding::Unfinished(End::Spent) => f.write_str("used up its turns"),
             Finding::Unfinished(End::Stuck) => f.write_str("waits for what never comes"),
-            Finding::Unfinished(_) => f.write_str("was refused memory"),
+            Finding::Unfinished(End::Starved) => f.write_str("was refused memory"),
+            Finding::Unfinished(_) => f.write_str("was given all turns that there are"),
         }
     }
 }
@@ -69,7 +70,8 @@ fn found(alloc: Global, interp: &Interp, global: &str) -> Result<Finding, AllocE
     }
 }
 
-/// Runs a plug-in until nothing of it can move, and tells what is found then: of a world of this script, to which turns led.
+/// Runs a plug-in until nothing of it can move, and tells what is found then: of a world of this script, to which turns led, as
+/// many as it takes, but no more than 64 bits can count.
 ///
 /// # Errors
 ///

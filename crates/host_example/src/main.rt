@@ -1,4 +1,4 @@
-// An example of a host: runs plug-ins within bounds, and asks each what is found of it.
+// An example of a host: runs plug-ins within bounds, and tells what is found of each.
 //
 // Each word names the file of a plug-in, a script that leaves its result in the global `result`. The host gives it turns until
 // nothing of it can move, and then asks for that global. A plug-in has a world of its own: it can neither see another
