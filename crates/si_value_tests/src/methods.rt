@@ -123,64 +123,74 @@ fn given_by(told: Result<Answered, Fault>) -> Given {
     }
 }
 
-#[test]
-fn a_list_grows_and_shrinks_at_its_end(rt: HostRuntime) -> Result<(), Fail> {
-    let mut arena = Arena::new(rt.alloc());
+// Whether a list of 1 gives None where 2 is put at its end, and 2 where its last item is taken.
+fn grows_and_shrinks(alloc: Global) -> Result<bool, NoMemory> {
+    let mut arena = Arena::new(alloc);
     let list = arena.make_list_of(&[Ref::Int(1)])?;
     let value = [Ref::Int(2)];
-    let grown = call_method(rt.alloc(), &mut arena, 0, Method::Append, list, &value, &[]);
-    assert!(rt; matches!(given_by(grown), Given::Value(Ref::None)));
-    let last = called(rt.alloc(), &mut arena, Method::PopItem, list, &[], &[]);
-    assert!(rt; matches!(given_by(last), Given::Value(Ref::Int(2))));
+    let grown = call_method(alloc, &mut arena, 0, Method::Append, list, &value, &[]);
+    let has_grown = matches!(given_by(grown), Given::Value(Ref::None));
+    let last = called(alloc, &mut arena, Method::PopItem, list, &[], &[]);
+    Ok(has_grown && matches!(given_by(last), Given::Value(Ref::Int(2))))
+}
+
+#[test]
+fn a_list_grows_and_shrinks_at_its_end(rt: HostRuntime) -> Result<(), Fail> {
+    assert!(rt; grows_and_shrinks(rt.alloc())?);
     Ok(())
+}
+
+// Whether a dict of 7 gives its value where that is taken, lacks 7 from then on, and gives None where it is asked for it.
+fn tells_of_its_key(alloc: Global) -> bool {
+    let mut arena = Arena::new(alloc);
+    let Ok(Some(dict)) = arena.make_dict(&[Ref::Int(7), Ref::Truth(true)]) else {
+        return false;
+    };
+    let key = [Ref::Int(7)];
+    let taken = call_method(alloc, &mut arena, 0, Method::PopValue, dict, &key, &[]);
+    let is_taken = matches!(given_by(taken), Given::Value(Ref::Truth(true)));
+    let again = call_method(alloc, &mut arena, 0, Method::PopValue, dict, &key, &[]);
+    let is_gone = matches!(given_by(again), Given::NoKey(Ref::Int(7)));
+    let other = called(alloc, &mut arena, Method::GetValue, dict, &key, &[]);
+    is_taken && is_gone && matches!(given_by(other), Given::Value(Ref::None))
 }
 
 #[test]
 fn a_dict_tells_of_its_keys(rt: HostRuntime) {
-    let mut arena = Arena::new(rt.alloc());
-    let Ok(Some(dict)) = arena.make_dict(&[Ref::Int(7), Ref::Truth(true)]) else {
-        panic!(rt; "no dict")
-    };
-    let key = [Ref::Int(7)];
-    let taken = call_method(rt.alloc(), &mut arena, 0, Method::PopValue, dict, &key, &[]);
-    assert!(rt; matches!(given_by(taken), Given::Value(Ref::Truth(true))));
-    let again = call_method(rt.alloc(), &mut arena, 0, Method::PopValue, dict, &key, &[]);
-    assert!(rt; matches!(given_by(again), Given::NoKey(Ref::Int(7))));
-    let other = called(rt.alloc(), &mut arena, Method::GetValue, dict, &key, &[]);
-    assert!(rt; matches!(given_by(other), Given::Value(Ref::None)));
+    assert!(rt; tells_of_its_key(rt.alloc()));
+}
+
+// Whether three texts are joined by another, each of one character.
+fn joins_three(alloc: Global) -> Result<bool, NoMemory> {
+    let mut arena = Arena::new(alloc);
+    let comma = Ref::Short(Short::of(b','));
+    let letter = Ref::Short(Short::of(0xef));
+    let list = [made::list(&mut arena, &[letter, comma, letter])?];
+    match call_method(alloc, &mut arena, 0, Method::JoinTexts, comma, &list, &[]) {
+        Ok(Answered::Value(text)) => Ok(made::is_narrow(&arena, text, b"\xef,,,\xef")),
+        _ => Ok(false),
+    }
 }
 
 #[test]
 fn texts_are_joined(rt: HostRuntime) -> Result<(), Fail> {
-    let mut arena = Arena::new(rt.alloc());
-    let comma = Ref::Short(Short::of(b','));
-    let letter = Ref::Short(Short::of(0xef));
-    let list = [made::list(&mut arena, &[letter, comma, letter])?];
-    let joined = call_method(
-        rt.alloc(),
-        &mut arena,
-        0,
-        Method::JoinTexts,
-        comma,
-        &list,
-        &[],
-    );
-    let Ok(Answered::Value(text)) = joined else {
-        return Ok(());
-    };
-    assert!(rt; made::is_narrow(&arena, text, b"\xef,,,\xef"));
+    assert!(rt; joins_three(rt.alloc())?);
     Ok(())
+}
+
+// Whether a text of one character is encoded as two bytes.
+fn encodes_one(alloc: Global) -> bool {
+    let mut arena = Arena::new(alloc);
+    let letter = Ref::Short(Short::of(0xef));
+    match call_method(alloc, &mut arena, 0, Method::Encode, letter, &[], &[]) {
+        Ok(Answered::Value(bytes)) => arena.bytes(&bytes) == b"\xc3\xaf".as_slice(),
+        _ => false,
+    }
 }
 
 #[test]
 fn a_text_is_encoded(rt: HostRuntime) {
-    let mut arena = Arena::new(rt.alloc());
-    let letter = Ref::Short(Short::of(0xef));
-    let encoded = call_method(rt.alloc(), &mut arena, 0, Method::Encode, letter, &[], &[]);
-    let Ok(Answered::Value(bytes)) = encoded else {
-        return;
-    };
-    assert!(rt; arena.bytes(&bytes) == b"\xc3\xaf".as_slice());
+    assert!(rt; encodes_one(rt.alloc()));
 }
 
 // Whether a call asks to give interpreter 2 values of two names.
@@ -194,26 +204,32 @@ fn prepares(told: Result<Answered, Fault>, first: &str, second: &str) -> bool {
     }
 }
 
-#[test]
-fn names_come_from_a_dict(rt: HostRuntime) -> Result<(), Fail> {
-    let names = [Text::from_str(rt.alloc(), "m")?];
-    let mut arena = Arena::new(rt.alloc());
+// Whether the name of a dict goes before one that is passed by its name.
+fn prepares_in_order(alloc: Global) -> Result<bool, NoMemory> {
+    let names = [Text::from_str(alloc, "m")?];
+    let mut arena = Arena::new(alloc);
     let Some(key) = made::text(&mut arena, "n") else {
-        panic!(rt; "no text")
+        return Ok(false);
     };
     let Some(address) = made::dict(&mut arena, &[key, Ref::Int(3)]) else {
-        panic!(rt; "no dict")
+        return Ok(false);
     };
     let arguments = [Ref::Object(address), Ref::Int(4)];
+    let object = Ref::Interpreter(2);
     let asked = called(
-        rt.alloc(),
+        alloc,
         &mut arena,
         Method::PrepareMain,
-        Ref::Interpreter(2),
+        object,
         &arguments,
         &names,
     );
-    assert!(rt; prepares(asked, "n", "m"));
+    Ok(prepares(asked, "n", "m"))
+}
+
+#[test]
+fn names_come_from_a_dict(rt: HostRuntime) -> Result<(), Fail> {
+    assert!(rt; prepares_in_order(rt.alloc())?);
     Ok(())
 }
 
@@ -230,14 +246,18 @@ fn are_two(items: Option<&[Ref]>) -> bool {
     matches!(items, Some([_, Ref::Interpreter(2)]))
 }
 
+// Whether what an arena makes of that answer is its first object, a list of both.
+fn lists_both(alloc: Global) -> Result<bool, NoMemory> {
+    let answer = zero_and_two(alloc)?;
+    let mut arena = Arena::new(alloc);
+    match reply(alloc, &mut arena, Awaited::ListAll, &answer)? {
+        Replied::Got(Ref::Object(address)) => Ok(address == 0 && are_two(arena.list(address))),
+        _ => Ok(false),
+    }
+}
+
 #[test]
 fn interpreters_are_listed(rt: HostRuntime) -> Result<(), Fail> {
-    let answer = zero_and_two(rt.alloc())?;
-    let mut arena = Arena::new(rt.alloc());
-    let Ok(replied) = reply(rt.alloc(), &mut arena, Awaited::ListAll, &answer) else {
-        return Ok(());
-    };
-    assert!(rt; matches!(replied, Replied::Got(Ref::Object(0))));
-    assert!(rt; are_two(arena.list(0)));
+    assert!(rt; lists_both(rt.alloc())?);
     Ok(())
 }

@@ -66,18 +66,23 @@ fn wide_texts_are_repeated(rt: HostRuntime) {
     assert!(rt; is_repeated(&mut arena, price, 2, &wanted));
 }
 
-#[test]
-fn a_text_has_an_end(rt: HostRuntime) -> Result<(), Fail> {
-    let mut arena = Arena::new(rt.alloc());
-    let Ok(text) = arena.place_text("ab") else {
-        return Ok(());
-    };
-    let refused = match arena.repeat(text, 524_289) {
+// Whether a text is refused as too long where it is repeated so often.
+fn is_too_long(arena: &mut Arena, text: Ref, count: i64) -> bool
+    requires { Lies arena.old text }
+{
+    match arena.repeat(text, count) {
         Err(Fault::Raises(cause)) => cause == Cause::TooLong,
         _ => false,
+    }
+}
+
+#[test]
+fn a_text_has_an_end(rt: HostRuntime) {
+    let mut arena = Arena::new(rt.alloc());
+    let Some(text) = made::text(&mut arena, "ab") else {
+        panic!(rt; "no text")
     };
-    assert!(rt; refused);
-    Ok(())
+    assert!(rt; is_too_long(&mut arena, text, 524_289));
 }
 
 // Whether a value is a tuple of so many items, and has so many values in so many levels.
