@@ -33,8 +33,8 @@ differ_long (c ∷ cs) [] h = refl
 differ_long (c ∷ cs) (d ∷ ds) h = elim (nat_eq c d) as (λ b. (b && same_text cs ds) ≡ false) [ true ↦ differ_long cs ds (λ e. h (ap suc e)) | false ↦ refl ]
 
 -- from one index on
-pub behind : (s : List ℕ) (i : ℕ) → i < length s → drop i s ≡ get_or s i 0 ∷ drop (i + 1) s
-behind s i h = drop-cons s i 0 h ∙ ap (λ k. get_or s i 0 ∷ drop k s) (sym (add-one i))
+pub after : (s : List ℕ) (i : ℕ) → i < length s → drop i s ≡ get_or s i 0 ∷ drop (i + 1) s
+after s i h = drop-cons s i 0 h ∙ ap (λ k. get_or s i 0 ∷ drop k s) (sym (add-one i))
 
 pub both : {B : Type 0} (f : List ℕ → List ℕ → B) (s t x y : List ℕ) → s ≡ x → t ≡ y → f s t ≡ f x y
 both f s t x y e k = ap (λ z. f z t) e ∙ ap (f x) k
@@ -48,12 +48,12 @@ other_heads c d s t e = ap (λ b. b && same_text s t) (ne_eqb c d e)
 -- the same character at an index
 pub same_next : (s t : List ℕ) (i : ℕ) → i < length s → i < length t → get_or s i 0 ≡ get_or t i 0 → same_text (drop (i + 1) s) (drop (i + 1) t) ≡ same_text (drop i s) (drop i t)
 same_next s t i h k e =
-    sym (both same_text (drop i s) (drop i t) _ _ (behind s i h) (behind t i k) ∙ same_heads (get_or s i 0) (get_or t i 0) (drop (i + 1) s) (drop (i + 1) t) e)
+    sym (both same_text (drop i s) (drop i t) _ _ (after s i h) (after t i k) ∙ same_heads (get_or s i 0) (get_or t i 0) (drop (i + 1) s) (drop (i + 1) t) e)
 
 -- another character at an index
 pub same_not : (s t : List ℕ) (i : ℕ) → i < length s → i < length t → get_or s i 0 ≢ get_or t i 0 → same_text (drop i s) (drop i t) ≡ false
 same_not s t i h k e =
-    both same_text (drop i s) (drop i t) _ _ (behind s i h) (behind t i k) ∙ other_heads (get_or s i 0) (get_or t i 0) (drop (i + 1) s) (drop (i + 1) t) e
+    both same_text (drop i s) (drop i t) _ _ (after s i h) (after t i k) ∙ other_heads (get_or s i 0) (get_or t i 0) (drop (i + 1) s) (drop (i + 1) t) e
 
 -- the end of both
 pub same_end : (s t : List ℕ) (i : ℕ) → length s ≤ i → length t ≤ i → same_text (drop i s) (drop i t) ≡ true

@@ -97,7 +97,7 @@ EndsRow width.Narrow rows (Narrow count start) = start + count ≡ length rows.n
 EndsRow width.Wide rows (Wide count start) = start + count ≡ length rows.wide
 EndsRow _ rows _ = ⊥
 
--- a text ends its row, and another has room behind it there
+-- a text ends its row, and another has room after it there
 abbrev pub GoesOn : Rows → Ref → Ref → Type 0
 GoesOn rows (Narrow count start) right = (start + count ≡ length rows.narrow) × IsNarrow right
 GoesOn rows (Wide count start) right = start + count ≡ length rows.wide

@@ -6,7 +6,7 @@ ghost use Rattle.si_semantics.specs.Dicts.{key_of, value_at, with_pair, without_
 ghost use Rattle.si_arena.specs.Texts.{TextLies};
 ghost use Rattle.si_arena.specs.inner.Words.{WordsLie, Grown};
 ghost use Rattle.si_arena.specs.inner.Keys.{AddsPair, EachTextLies, GathersDict};
-ghost use Rattle.si_arena.specs.Memory.{value_of, all_of, Lies, AllLie, IsMade, key_meant, IsKey, dict_at, IsDictAt, with_object, value_by, MakesDict};
+ghost use Rattle.si_arena.specs.Memory.{value_of, all_of, Lies, AllLie, key_meant, IsKey, dict_at, IsDictAt, with_object, value_by, MakesDict};
 
 use crate::arena::Arena;
 use crate::dict::{Dict, Pair};

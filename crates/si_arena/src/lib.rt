@@ -1,4 +1,4 @@
-// The arena of one interpreter: what its scripts' values are, and what lies behind them.
+// The arena of one interpreter: what its scripts' values are, and what they point at.
 //
 // A value is a `Ref`, which is copied. None, truths, integers, kinds, built-ins, functions, short texts and a few bytes
 // are in the `Ref` itself, and so are modules, queues and interpreters, by their numbers; a longer text, and more bytes, are

@@ -1,12 +1,12 @@
 // The rows in which the characters of texts lie.
 
-ghost use Rattle.std.specs.Prelude.{IsOk, IsSome, if◌then◌else◌, ◌*◌, IfSome, ◌<◌, ◌^◌, ◌∷◌, slice_index, ◌≡◌, ◌+◌, ◌≤◌, ◌++◌, List, [], take, drop, length, OnOk, OnErr, IfOk};
+ghost use Rattle.std.specs.Prelude.{IsOk, IsSome, if◌then◌else◌, ◌*◌, IfSome, ◌<◌, ◌^◌, ◌∷◌, slice_index, ◌≡◌, ◌+◌, ◌≤◌, ◌++◌, [], take, drop, length, OnOk, OnErr, IfOk};
 ghost use Rattle.si_semantics.specs.Text.{max_length};
 ghost use Rattle.si_semantics.specs.Operations.{times};
 ghost use Rattle.si_plain.specs.Characters.{characters_of};
 ghost use Rattle.si_arena.specs.Short.{short_text, FitsShort};
 ghost use Rattle.si_arena.specs.declared.value.Width.TheVariants as width;
-ghost use Rattle.si_arena.specs.Texts.{EndsRow, GoesOn, size_of, copies_of, text_of, TextLies, IsNarrow, FitsIn, IsAdded, StandsLast, row_of, with_row, slice_in, Adds, IsTooLong, characters_in, repeated_text};
+ghost use Rattle.si_arena.specs.Texts.{EndsRow, GoesOn, size_of, copies_of, text_of, TextLies, IsNarrow, FitsIn, IsAdded, StandsLast, row_of, with_row, Adds, IsTooLong, characters_in, repeated_text};
 
 use crate::cause::{Cause, Fault};
 use crate::characters::Characters;

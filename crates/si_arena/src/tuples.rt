@@ -1,6 +1,6 @@
 // The tuples of an arena, each at a place.
 
-ghost use Rattle.std.specs.Prelude.{◌≡◌, ◌^◌, ◌+◌, ◌<◌, ◌≤◌, [], length, get_or, IfOk, OnErr};
+ghost use Rattle.std.specs.Prelude.{◌≡◌, ◌^◌, ◌+◌, ◌<◌, ◌≤◌, [], length, IfOk, OnErr};
 ghost use Rattle.si_arena.specs.Tuples.{IsPushed, items_at, tuple_in};
 
 use crate::value::Ref;

@@ -1,8 +1,8 @@
 // The long texts that are keys of dicts.
 
-ghost use Rattle.std.specs.Prelude.{◌≡◌, ◌++◌, ◌∷◌, [], length, IfOk, OnErr};
+ghost use Rattle.std.specs.Prelude.{◌≡◌, [], IfOk, OnErr};
 ghost use Rattle.si_arena.specs.Short.{FitsShort};
-ghost use Rattle.si_arena.specs.Texts.{Rows, text_of, characters_in, IsText, TextLies};
+ghost use Rattle.si_arena.specs.Texts.{text_of, characters_in, IsText, TextLies};
 ghost use Rattle.si_arena.specs.inner.Words.{FindsWord, IsStrange, IsNext, WordsLie};
 
 use crate::characters::{Characters, are_same, number_in};

@@ -19,7 +19,7 @@ use Rattle.si_slots.proofs.Gained.{length_gained}
 use Rattle.si_slots.proofs.Jumped.{All-push, Due-nil, Due-jump, Due-length}
 use Rattle.si_emit.specs.inner.Conditions.{is_row, Opens, skipping}
 use Rattle.si_emit.proofs.Fronts.{Ending, Test, ending_test}
-use Rattle.si_emit.proofs.Branches.{MakesAll, all_aimed, test_behind}
+use Rattle.si_emit.proofs.Branches.{MakesAll, all_aimed, test_after}
 
 -- ---- one test
 
@@ -100,23 +100,23 @@ ending_row ls early when a (tree.MoreExprs b more) =
     }
 
 -- one jump more stands after what stood in front
-pub all_behind : {t0 t1 t2 : Contents} {more : List ℕ} (ls : List Text) (when : Bool) (a : tree.Expr) (jumps : List ℕ) (at : ℕ) → more ≡ jumps ++ at ∷ [] → at + 1 ≡ length t2.lines → Gains t1 t2 (Test ls 0 when a (Ahead 0)) → Extends t0 t1
+pub all_after : {t0 t1 t2 : Contents} {more : List ℕ} (ls : List Text) (when : Bool) (a : tree.Expr) (jumps : List ℕ) (at : ℕ) → more ≡ jumps ++ at ∷ [] → at + 1 ≡ length t2.lines → Gains t1 t2 (Test ls 0 when a (Ahead 0)) → Extends t0 t1
     → AllByRecursion (λ k. length t0.lines ≤ k) jumps → AllByRecursion (λ k. length t0.lines ≤ k) more
-all_behind {t0} {t1} {t2} {more} ls when a jumps at push here h before all =
-    let behind : length t0.lines ≤ at = omega (arith, length-Begins t0.lines t1.lines before.lines, test_behind ls 0 a when at here h) in
-    subst (AllByRecursion (λ k. length t0.lines ≤ k)) (sym push) (All-push (length t0.lines) jumps at all behind)
+all_after {t0} {t1} {t2} {more} ls when a jumps at push here h before all =
+    let after : length t0.lines ≤ at = omega (arith, length-Begins t0.lines t1.lines before.lines, test_after ls 0 a when at here h) in
+    subst (AllByRecursion (λ k. length t0.lines ≤ k)) (sym push) (All-push (length t0.lines) jumps at all after)
 
--- of places behind another one, the last, and those before it
-pub behind_last : (low : ℕ) (xs : List ℕ) (x : ℕ) → AllByRecursion (λ k. low ≤ k) (xs ++ x ∷ []) → low ≤ x
-behind_last low [] x h = h.0
-behind_last low (y ∷ ys) x h = behind_last low ys x h.1
+-- of places after another one, the last, and those before it
+pub after_last : (low : ℕ) (xs : List ℕ) (x : ℕ) → AllByRecursion (λ k. low ≤ k) (xs ++ x ∷ []) → low ≤ x
+after_last low [] x h = h.0
+after_last low (y ∷ ys) x h = after_last low ys x h.1
 
-pub behind_soon : (low : ℕ) (xs : List ℕ) (x : ℕ) → AllByRecursion (λ k. low ≤ k) (xs ++ x ∷ []) → AllByRecursion (λ k. low ≤ k) xs
-behind_soon low [] x h = tt
-behind_soon low (y ∷ ys) x h = (h.0, behind_soon low ys x h.1)
+pub after_soon : (low : ℕ) (xs : List ℕ) (x : ℕ) → AllByRecursion (λ k. low ≤ k) (xs ++ x ∷ []) → AllByRecursion (λ k. low ≤ k) xs
+after_soon low [] x h = tt
+after_soon low (y ∷ ys) x h = (h.0, after_soon low ys x h.1)
 
-pub behind_one : (low at : ℕ) (places : List ℕ) → places ≡ at ∷ [] → low ≤ at → AllByRecursion (λ k. low ≤ k) places
-behind_one low at places one h = subst (AllByRecursion (λ k. low ≤ k)) (sym one) (h, tt)
+pub after_one : (low at : ℕ) (places : List ℕ) → places ≡ at ∷ [] → low ≤ at → AllByRecursion (λ k. low ≤ k) places
+after_one low at places one h = subst (AllByRecursion (λ k. low ≤ k)) (sym one) (h, tt)
 
 -- ---- tests of statements
 

@@ -104,10 +104,10 @@ module _ (ls : List Text) where
   pub if_gains : {t0 t1 t2 t3 : Contents} (first then : ℕ) (b : Branch) (others : tree.Stmts) (end : ℕ) → then ≡ first + length (functions_in b.1) → end + 1 ≡ length t1.lines → Starts (stmts_code ls then others)
       → Gains t0 t1 (skipping ls b.0 (stmts_code ls first b.1 ++ machine.Jump 0 ∷ [])) → Gains t1 t2 (stmts_code ls then others) → Aims t2 end t3
       → Gains t0 t3 (stmt_code ls first (tree.If b.0 b.1 others))
-  if_gains {t0} {t1} {t2} {t3} first then b others end goes here some front behind aim =
+  if_gains {t0} {t1} {t2} {t3} first then b others end goes here some front after aim =
       let suite = stmts_code ls first b.1 in let other = stmts_code ls then others in
       let start = passed ls b.0 suite in
-      let all = subst (Gains t0 t2) (append_assoc start (machine.Jump 0 ∷ []) other) (Gains-append t0 t1 t2 (start ++ machine.Jump 0 ∷ []) other (passed_gains ls b.0 suite front) behind) in
+      let all = subst (Gains t0 t2) (append_assoc start (machine.Jump 0 ∷ []) other) (Gains-append t0 t1 t2 (start ++ machine.Jump 0 ∷ []) other (passed_gains ls b.0 suite front) after) in
       let whole = aim t0 start other (machine.Jump 0) all (passed_place ls b.0 suite end here front) in
       subst (λ n. Gains t0 t3 (branch_code (condition_code ls b.0) suite (stmts_code ls n others))) goes (subst (Gains t0 t3) (branch_passed ls b.0 suite other some) whole)
 
@@ -164,10 +164,10 @@ module _ (ls : List Text) where
   last_elif {t0} {t1} {t2} bs i b last jumps all now then lt is goes none quiet h before end later d =
       let a = (branch_of b).0 in
       let suite = stmts_code ls now (branch_of b).1 in
-      let behind = now + length (functions_in (branch_of b).1) in
-      let rest = stmts_code ls behind last in
-      let at_end : Due t2 later rest end = subst (λ x. Due t2 later (Elifs ls behind x last) end) none (subst (λ n. Due t2 later (Elifs ls n (drop (i + 1) bs) last) end) goes d) in
-      let silence = silent_code last quiet ls behind in
+      let after = now + length (functions_in (branch_of b).1) in
+      let rest = stmts_code ls after last in
+      let at_end : Due t2 later rest end = subst (λ x. Due t2 later (Elifs ls after x last) end) none (subst (λ n. Due t2 later (Elifs ls n (drop (i + 1) bs) last) end) goes d) in
+      let silence = silent_code last quiet ls after in
       let same : skipping ls a suite ++ rest ≡ Elifs ls now (b ∷ []) last =
       ap (λ l. skipping ls a suite ++ l) silence ∙ ap (λ l. l ++ []) (branch_alone ls a suite rest silence) in
       before end later (subst (λ x. Due t1 later (Elifs ls now x last) end) (sym (rest_is bs i b lt is ∙ ap (λ l. b ∷ l) none))
@@ -233,5 +233,5 @@ elifs_none [] last none = refl
 elifs_none (b ∷ bs) last none = absurd (omega (arith, none))
 
 -- what was there stands before the end of what is there now
-pub end_behind : {t0 t1 : Contents} (end : ℕ) → end ≡ length t1.lines → Extends t0 t1 → length t0.lines ≤ end
-end_behind {t0} {t1} end here before = omega (arith, here, length-Begins t0.lines t1.lines before.lines)
+pub end_after : {t0 t1 : Contents} (end : ℕ) → end ≡ length t1.lines → Extends t0 t1 → length t0.lines ≤ end
+end_after {t0} {t1} end here before = omega (arith, here, length-Begins t0.lines t1.lines before.lines)

@@ -115,9 +115,9 @@ pub stand_front : (all : List Function) (n : ℕ) (fs gs : List Function) → St
 stand_front all n [] gs h = tt
 stand_front all n (f ∷ fs) gs h = (h.0, stand_front all (n + 1) fs gs h.1)
 
-pub stand_behind : (all : List Function) (n then : ℕ) (fs gs : List Function) → then ≡ n + length fs → StandAt all n (fs ++ gs) → StandAt all then gs
-stand_behind all n then [] gs goes h = let same : n ≡ then = omega (arith, goes) in subst (λ k. StandAt all k gs) same h
-stand_behind all n then (f ∷ fs) gs goes h = let on : then ≡ n + 1 + length fs = omega (arith, goes) in stand_behind all (n + 1) then fs gs on h.1
+pub stand_after : (all : List Function) (n then : ℕ) (fs gs : List Function) → then ≡ n + length fs → StandAt all n (fs ++ gs) → StandAt all then gs
+stand_after all n then [] gs goes h = let same : n ≡ then = omega (arith, goes) in subst (λ k. StandAt all k gs) same h
+stand_after all n then (f ∷ fs) gs goes h = let on : then ≡ n + 1 + length fs = omega (arith, goes) in stand_after all (n + 1) then fs gs on h.1
 
 stand_within : (before fs : List Function) → StandAt (before ++ fs) (length before) fs
 stand_within before [] = tt
@@ -148,7 +148,7 @@ walk_from {all} {whole} {rest} {t0} {t1} {n0} {n1} more is w = subst (λ l. Walk
 pub walk_more : {all whole rest : List Function} {t0 t1 t2 : Contents} {n0 n1 n2 : ℕ} (fs more : List Function) → rest ≡ fs ++ more → GainsFunctions t1 t2 fs → n2 ≡ n1 + length fs → Walk all whole rest t0 t1 n0 n1 → Walk all whole more t0 t2 n0 n2
 walk_more {all} {whole} {rest} {t0} {t1} {t2} {n0} {n1} {n2} fs more is h goes w = record {
   gains = λ end k. w.gains end (subst (GainsFunctions t1 end) (sym is) (functions_more t1 t2 end fs more h k));
-  stands = stand_behind all n1 n2 fs more goes (subst (StandAt all n1) is w.stands);
+  stands = stand_after all n1 n2 fs more goes (subst (StandAt all n1) is w.stands);
   number = omega (arith, goes, ap length is, length-append fs more, w.number);
 }
 
@@ -191,7 +191,7 @@ pub part_stands : (all : List Function) (n : ℕ) (whole fs gs : List Function) 
 part_stands all n whole fs gs is h = stand_front all n fs gs (subst (StandAt all n) is h)
 
 pub rest_stands : (all : List Function) (n then : ℕ) (whole fs gs : List Function) → whole ≡ fs ++ gs → then ≡ n + length fs → StandAt all n whole → StandAt all then gs
-rest_stands all n then whole fs gs is goes h = stand_behind all n then fs gs goes (subst (StandAt all n) is h)
+rest_stands all n then whole fs gs is goes h = stand_after all n then fs gs goes (subst (StandAt all n) is h)
 
 pub all_stand : (all : List Function) (n : ℕ) (whole fs : List Function) → whole ≡ fs → StandAt all n whole → StandAt all n fs
 all_stand all n whole fs is h = subst (StandAt all n) is h

@@ -4,7 +4,7 @@ use Rattle.si_semantics.specs.Value.{Text}
 use Rattle.si_semantics.specs.Tree as tree
 use Rattle.si_slots.specs.declared.operand.Operand as operand
 use Rattle.si_slots.specs.Machine as machine
-use Rattle.si_slots.specs.Machine.{Source, Temporary, ToTemporary, ToJump, Target, Ahead, Back}
+use Rattle.si_slots.specs.Machine.{Source, ToTemporary, ToJump, Target, Ahead, Back}
 use Rattle.si_slots.specs.Code.{in_place, expr_code, with_code, condition_code, loop_code, for_code}
 use Rattle.si_slots.specs.Contents.{Contents, Extends}
 use Rattle.si_slots.specs.Views.{Gains, locals_now, words_now, operand_of}
@@ -41,9 +41,9 @@ turn_gains {t0} {t1} {t2} {t3} ls e at body here le h leads leave =
     let same = ap (λ i. n.before ++ i ∷ []) (n.leads (Ahead 0) (Back (at + 1 - body))) ∙ sym (n.is (Back (at + 1 - body))) ∙ ap (λ k. test (ToJump true (Back k))) far in
     Gains-append t0 t2 t3 (test (ToJump true (Back (length t0.lines - body + length (test (ToJump true (Back 0))))))) (machine.LeaveBlock ∷ []) (subst (Gains t0 t2) same (leads t0 n.before [] (n.last (Ahead 0)) gains place)) leave
 
--- what stands behind the test is behind what stood in front of it
-pub turn_behind : {t0 t1 : Contents} (ls : List Text) (e : tree.Expr) (at : ℕ) → at + 1 ≡ length t1.lines → Gains t0 t1 (condition_code ls e (ToJump true (Ahead 0))) → length t0.lines ≤ at
-turn_behind {t0} {t1} ls e at here h =
+-- what stands after the test is after what stood in front of it
+pub turn_after : {t0 t1 : Contents} (ls : List Text) (e : tree.Expr) (at : ℕ) → at + 1 ≡ length t1.lines → Gains t0 t1 (condition_code ls e (ToJump true (Ahead 0))) → length t0.lines ≤ at
+turn_after {t0} {t1} ls e at here h =
     let n = ending_repeat ls e in
     omega (arith, here, length_gained h, ap length (n.is (Ahead 0)), length-append n.before (n.last (Ahead 0) ∷ []))
 

@@ -51,8 +51,8 @@ pub for_number : (first then now : ℕ) (g : tree.Target) (items : Expr) (ss end
 for_number first then now g items ss ends t seen goes on = same_number now first t (tree.For g (expr_of items) (body_of ss) (body_of ends)) seen (two_number first then now (body_of ss) (body_of ends) goes on)
 
 -- the entry of a `for` stands after what there was
-pub entry_behind : (t0 : Contents) (ls : List Text) (a : tree.Expr) (at : ℕ) → at + 1 ≡ length t0.lines + length (entry ls a) → length t0.lines ≤ at
-entry_behind t0 ls a at here =
+pub entry_after : (t0 : Contents) (ls : List Text) (a : tree.Expr) (at : ℕ) → at + 1 ≡ length t0.lines + length (entry ls a) → length t0.lines ≤ at
+entry_after t0 ls a at here =
     let place = in_place ls a in
     let code = expr_code ls 0 (ToTemporary 0) a in
     omega (arith, here, ap length (single_is place code 0 (λ v. machine.StartFor 0 0 v)), length-append (front place code) (machine.StartFor 0 0 (held place 0) ∷ []))

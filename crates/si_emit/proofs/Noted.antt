@@ -11,5 +11,5 @@ noted_gains {old} {noted} {new} {code} same gains = subst (λ t. Gains t new cod
 pub noted_extends : {old noted new : Contents} → noted ≡ old → Extends noted new → Extends old new
 noted_extends {old} {noted} {new} same extends = subst (λ t. Extends t new) same extends
 
-pub noted_behind : {old noted : Contents} {at : ℕ} → noted ≡ old → length noted.lines ≤ at → length old.lines ≤ at
-noted_behind {old} {noted} {at} same behind = subst (λ t. length t.lines ≤ at) same behind
+pub noted_after : {old noted : Contents} {at : ℕ} → noted ≡ old → length noted.lines ≤ at → length old.lines ≤ at
+noted_after {old} {noted} {at} same after = subst (λ t. length t.lines ≤ at) same after

@@ -15,7 +15,7 @@ use Rattle.si_syntax.specs.Trees.{expr_of, object_of, index_of, target_of, targe
 use Rattle.si_syntax.proofs.Rows.{rest_is}
 use Rattle.si_slots.specs.declared.operand.Operand as operand
 use Rattle.si_slots.specs.Machine as machine
-use Rattle.si_slots.specs.Machine.{Source, Temporary, ToTemporary}
+use Rattle.si_slots.specs.Machine.{Source, ToTemporary}
 use Rattle.si_slots.specs.Code.{in_place, pair_code, expr_code, target_code, targets_code}
 use Rattle.si_slots.specs.Contents.{Contents}
 use Rattle.si_slots.specs.Views.{Gains, locals_now, words_now, operand_of}

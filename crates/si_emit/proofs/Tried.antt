@@ -38,8 +38,8 @@ place_stays {front} {old} {new} {at} keeps seen here before all = keeps front (o
 -- one jump more stands after what stood in front
 pub jump_more : {t0 t1 : Contents} {more : List ℕ} (jumps : List ℕ) (at : ℕ) → more ≡ jumps ++ at ∷ [] → length t1.lines ≤ at → Extends t0 t1 → AllByRecursion (λ k. length t0.lines ≤ k) jumps → AllByRecursion (λ k. length t0.lines ≤ k) more
 jump_more {t0} {t1} {more} jumps at push here before all =
-    let behind : length t0.lines ≤ at = omega (arith, length-Begins t0.lines t1.lines before.lines, here) in
-    subst (AllByRecursion (λ k. length t0.lines ≤ k)) (sym push) (All-push (length t0.lines) jumps at all behind)
+    let after : length t0.lines ≤ at = omega (arith, length-Begins t0.lines t1.lines before.lines, here) in
+    subst (AllByRecursion (λ k. length t0.lines ≤ k)) (sym push) (All-push (length t0.lines) jumps at all after)
 
 -- what stands in front of a place stays, where that is in a table which has more by now
 pub stays : {front old new seen : Contents} (at k : ℕ) → ((c : Contents) → length c.lines ≤ at → Extends c old → Extends c new) → at ≡ length seen.lines + k → Extends front seen → Extends front old → Extends front new
@@ -50,8 +50,8 @@ abbrev pub Handlers : List Text → ℕ → List ClauseParts → List Instr
 Handlers ls first cs = clauses_code ls first (clauses_of (map clause_of cs))
 
 -- the number that the functions of a suite begin with, after those of others
-pub number_behind : {A : Type 0} (first now then : ℕ) (fs gs : List A) → now ≡ first + length fs → then ≡ now + length gs → then ≡ first + length (fs ++ gs)
-number_behind first now then fs gs goes on = omega (arith, goes, on, length-append fs gs)
+pub number_after : {A : Type 0} (first now then : ℕ) (fs gs : List A) → now ≡ first + length fs → then ≡ now + length gs → then ≡ first + length (fs ++ gs)
+number_after first now then fs gs goes on = omega (arith, goes, on, length-append fs gs)
 
 -- ---- finally suites
 
@@ -66,9 +66,9 @@ front_gains {t0} {t1} {t2} {t3} body enter e0 h0 h1 starts =
 pub finally_gains : {t0 t1 t2 t3 : Contents} (body last : List Instr) → Gains t0 t1 (machine.EnterFinally (length body + 1) ∷ (body ++ machine.StartFinally ∷ [])) → Gains t1 t2 last → Gains t2 t3 (machine.EndFinally ∷ [])
     → Gains t0 t3 (finally_code body last)
 finally_gains {t0} {t1} {t2} {t3} body last h k l =
-    let behind = last ++ machine.EndFinally ∷ [] in
-    subst (Gains t0 t3) (ap (λ x. machine.EnterFinally (length body + 1) ∷ x) (append_assoc body (machine.StartFinally ∷ []) behind))
-    (Gains-append t0 t1 t3 (machine.EnterFinally (length body + 1) ∷ (body ++ machine.StartFinally ∷ [])) behind h (Gains-append t1 t2 t3 last (machine.EndFinally ∷ []) k l))
+    let after = last ++ machine.EndFinally ∷ [] in
+    subst (Gains t0 t3) (ap (λ x. machine.EnterFinally (length body + 1) ∷ x) (append_assoc body (machine.StartFinally ∷ []) after))
+    (Gains-append t0 t1 t3 (machine.EnterFinally (length body + 1) ∷ (body ++ machine.StartFinally ∷ [])) after h (Gains-append t1 t2 t3 last (machine.EndFinally ∷ []) k l))
 
 -- a suite with a name for the exception
 pub named_gains : {t0 t1 t2 t3 : Contents} (ls : List Text) (y : Text) (body : List Instr) (enter : ℕ) → enter ≡ length t0.lines + 2
@@ -128,11 +128,11 @@ tried_front {t0} {t1} {t2} {t3} {t4} {t5} {t6} body handlers enter skip e0 e2 h0
     let front = first ∷ (body ++ machine.LeaveBlock ∷ []) in
     let once = entered_gains body enter e0 h0 h1 skips in
     let tried_so = subst (Gains t0 t3) (ap (λ l. first ∷ l) (sym (append_assoc body (machine.LeaveBlock ∷ []) (machine.Jump 0 ∷ [])))) once in
-    let behind = handlers ++ machine.Jump 0 ∷ [] in
-    let all = subst (Gains t0 t5) (append_assoc front (machine.Jump 0 ∷ []) behind) (Gains-append t0 t3 t5 (front ++ machine.Jump 0 ∷ []) behind tried_so (Gains-append t3 t4 t5 handlers (machine.Jump 0 ∷ []) h3 h4)) in
+    let after = handlers ++ machine.Jump 0 ∷ [] in
+    let all = subst (Gains t0 t5) (append_assoc front (machine.Jump 0 ∷ []) after) (Gains-append t0 t3 t5 (front ++ machine.Jump 0 ∷ []) after tried_so (Gains-append t3 t4 t5 handlers (machine.Jump 0 ∷ []) h3 h4)) in
     let place : skip ≡ length t0.lines + length front = omega (arith, e2, length_gained h0, length_gained h1, length-append body (machine.LeaveBlock ∷ [])) in
-    let far : length behind ≡ length handlers + 1 = omega (arith, length-append handlers (machine.Jump 0 ∷ [])) in
-    subst (Gains t0 t6) (ap (λ n. front ++ (machine.Jump n ∷ behind)) far) (aim_skip t0 front behind (machine.Jump 0) all place)
+    let far : length after ≡ length handlers + 1 = omega (arith, length-append handlers (machine.Jump 0 ∷ [])) in
+    subst (Gains t0 t6) (ap (λ n. front ++ (machine.Jump n ∷ after)) far) (aim_skip t0 front after (machine.Jump 0) all place)
 
 -- the else suite after them, to which the suite leads
 pub tried_gains : {t0 t1 t2 t3 t4 t5 t6 t7 t8 : Contents} (body handlers last : List Instr) (enter skip end : ℕ) → enter ≡ length t0.lines → skip ≡ length t2.lines + 1 → end ≡ length t4.lines
@@ -158,7 +158,7 @@ pub tried_stmt : {t0 t1 : Contents} (ls : List Text) (first then now : ℕ) (t :
 tried_stmt {t0} {t1} ls first then now t ss ends cs seen goes on h =
     let clauses = clauses_of (map clause_of cs) in
     let body = stmts_code ls first (body_of ss) in
-    let number = number_behind first then now (functions_in (body_of ss)) (functions_in_clauses clauses) goes on in
+    let number = number_after first then now (functions_in (body_of ss)) (functions_in_clauses clauses) goes on in
     let numbered = subst (λ n. Gains t0 t1 (try_code body clauses (Handlers ls n cs) (stmts_code ls now (body_of ends)))) goes h in
     same_gains ls first t (tree.Try (body_of ss) clauses (body_of ends)) seen
     (subst (λ n. Gains t0 t1 (try_code body clauses (Handlers ls (first + length (functions_in (body_of ss))) cs) (stmts_code ls n (body_of ends)))) number numbered)
@@ -236,8 +236,8 @@ next_clause {t1} {t2} ls cs i c at now then lt is goes here gains end later d =
     (subst (λ l. Due t1 (at ∷ later) l end) (clause_whole ls (clause_of c).0 body rest) (Due-jump front rest (machine.Jump 0) gains place others))
 
 -- where that jump stands
-pub clause_behind : {t1 t2 : Contents} (front : List Instr) (at : ℕ) → at + 1 ≡ length t2.lines → Gains t1 t2 (front ++ machine.Jump 0 ∷ []) → length t1.lines ≤ at
-clause_behind front at here h = omega (arith, here, length_gained h, length-append front (machine.Jump 0 ∷ []))
+pub clause_after : {t1 t2 : Contents} (front : List Instr) (at : ℕ) → at + 1 ≡ length t2.lines → Gains t1 t2 (front ++ machine.Jump 0 ∷ []) → length t1.lines ≤ at
+clause_after front at here h = omega (arith, here, length_gained h, length-append front (machine.Jump 0 ∷ []))
 
 -- the number moves on over a clause, and over the last
 pub next_clause_number : (cs : List ClauseParts) (i : ℕ) (c : ClauseParts) (now then all : ℕ) → i < length cs → get_or cs i c ≡ c → then ≡ now + length (functions_in (clause_of c).2)

@@ -78,8 +78,8 @@ ending_clause ls e =
     record { before = front o code; last = λ a. machine.TestClause (ToJump false a) (held o 0); is = λ a. single_is o code 0 (λ s. machine.TestClause (ToJump false a) s); leads = λ a b. refl }
 
 -- a clause's test stands after what there was
-pub clause_test_behind : {t0 t1 : Contents} (ls : List Text) (e : tree.Expr) (at : ℕ) → at + 1 ≡ length t1.lines → Gains t0 t1 (ClauseTest ls e (Ahead 0)) → length t0.lines ≤ at
-clause_test_behind ls e at here h = omega (arith, here, test_at (ClauseTest ls e) (ending_clause ls e) h)
+pub clause_test_after : {t0 t1 : Contents} (ls : List Text) (e : tree.Expr) (at : ℕ) → at + 1 ≡ length t1.lines → Gains t0 t1 (ClauseTest ls e (Ahead 0)) → length t0.lines ≤ at
+clause_test_after ls e at here h = omega (arith, here, test_at (ClauseTest ls e) (ending_clause ls e) h)
 
 -- it passes over the suite and the jump after that
 pub tested_gains : {t0 t1 t2 t3 : Contents} (ls : List Text) (e : tree.Expr) (body : List Instr) (skip : ℕ) → skip + 1 ≡ length t1.lines

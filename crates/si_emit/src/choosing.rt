@@ -81,7 +81,7 @@ fn emit_branch(
         OnOk result (Gains table.old table.new (skipping locals.now (expr_of branch.now.test) (suite ++ machine.Jump 0 ∷ []))) }
     ensures next { OnOk result (next.new ≡ next.old + length (functions_in (body_of branch.now.body.items))) }
     ensures at { IfOk result (λ at. at + 1 ≡ length table.new.lines) }
-    ensures behind { IfOk result (λ at. length table.old.lines ≤ at) }
+    ensures after { IfOk result (λ at. length table.old.lines ≤ at) }
     ensures extends { Extends table.old table.new }
 {
     let jumps = emit_skip(table, locals, &branch.test)?;

@@ -25,7 +25,7 @@ pub(crate) fn emit_skip(
 ) -> Result<Vec<usize>, NoMemory>
     requires { locals_now table.old ≡ locals.now }
     ensures ok { IfOk result (λ jumps. Opens table.old jumps.items (λ rest. skipping locals.now (expr_of expr.now) rest) table.new) }
-    ensures behind { IfOk result (λ jumps. AllByRecursion (λ at. length table.old.lines ≤ at) jumps.items) }
+    ensures after { IfOk result (λ jumps. AllByRecursion (λ at. length table.old.lines ≤ at) jumps.items) }
     ensures extends { Extends table.old table.new }
 {
     match row_of(expr) {
@@ -120,7 +120,7 @@ fn emit_row(
     ensures within { IfOk result (λ row. (early : ℕ → machine.Target) → ((k : ℕ) → early k ≡ machine.ToJump soon (machine.Ahead k))
         → Due table.old row.0.items (row_code locals.now early (machine.ToJump when (machine.Ahead 0)) (expr_of first.now) (exprs_of (map expr_of others.now))) table.new) }
     ensures at { IfOk result (λ row. row.1 + 1 ≡ length table.new.lines) }
-    ensures behind { IfOk result (λ row. AllByRecursion (λ at. length table.old.lines ≤ at) (row.0.items ++ row.1 ∷ [])) }
+    ensures after { IfOk result (λ row. AllByRecursion (λ at. length table.old.lines ≤ at) (row.0.items ++ row.1 ∷ [])) }
     ensures extends { Extends table.old table.new }
 {
     let mut jumps = Vec::new(table.allocator());

@@ -1,6 +1,6 @@
 // The parts of the code of loops, before and after their suites. The start of a loop is told by `CodeTable::aim_loop` where
 // it leads, once all of it is there.
-ghost use Rattle.std.specs.Prelude.{◌≡◌, ◌+◌, ◌-◌, ◌≤◌, ℕ, [], ◌∷◌, ◌++◌, length, IfOk, OnOk};
+ghost use Rattle.std.specs.Prelude.{◌≡◌, ◌+◌, ◌-◌, ◌≤◌, [], ◌∷◌, ◌++◌, length, IfOk, OnOk};
 ghost use Rattle.si_semantics.specs.Scope.{place_of};
 ghost use Rattle.si_syntax.specs.Trees.{expr_of, target_of as tree_target};
 ghost use Rattle.si_slots.specs.Code.{condition_code, item_code, item_of_name, item_target, name_bound_code, with_code};

@@ -1,4 +1,4 @@
--- Texts that are written one behind another.
+-- Texts that are written one after another.
 use Rattle.std.proofs.Common.{◌≡◌, ℕ, zero, suc, ◌+◌, ◌<◌, Bool, true, false, ◌&&◌, List, [], ◌∷◌, ◌++◌, length, take, get_or, flat_map, nat_lt, encode_utf8_all, sym, ap, ap₂, subst, ◌∙◌, refl, append_assoc, append-nil, arith}
 use Rattle.std.proofs.lemmas.Bool.{ltb-true}
 use Rattle.std.proofs.lemmas.List.{take_more}

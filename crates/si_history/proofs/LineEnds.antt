@@ -1,4 +1,4 @@
--- The lines of calls, one behind another.
+-- The lines of calls, one after another.
 use Rattle.std.proofs.Common.{◌≡◌, codes, ℕ, ◌+◌, ◌<◌, List, ◌∷◌, ◌++◌, length, drop, get_or, encode_utf8_all, sym, ap, ◌∙◌, refl, append_assoc, add-one}
 use Rattle.std.proofs.lemmas.List.{at_drop_more}
 use Rattle.std.proofs.lemmas.Str.{encodes-append}

@@ -15,7 +15,7 @@ abbrev pub outcome_text : Outcome → Text
 outcome_text Returned = codes "returned"
 outcome_text (Raised kind message) = codes "raised " ++ name_of kind ++ codes " " ++ repr_of message
 
--- a name to bind, by its `repr` and behind a space; its parcel is not told
+-- a name to bind, by its `repr` and after a space; its parcel is not told
 abbrev pub name_text : Text × Tree → Text
 name_text b = codes " " ++ repr_of b.0
 
@@ -41,7 +41,7 @@ action_text ListAll = codes "list"
 action_text Take = codes "take"
 action_text (End o) = codes "end " ++ outcome_text o
 
--- a number behind a space
+-- a number after a space
 abbrev pub further_id : ℕ → Text
 further_id i = codes " " ++ decimal i
 

@@ -20,7 +20,7 @@ pub(crate) fn push_ids(out: &mut String, ids: &[u32]) -> Result<(), NoMemory>
     }
 }
 
-// Adds each number, behind a space.
+// Adds each number, after a space.
 fn push_further_ids(out: &mut String, ids: &[u32]) -> Result<(), NoMemory>
     ensures { OnOk result (Adds (string_bytes out.old) (string_bytes out.new) (further_ids ids.now)) }
 {

@@ -40,7 +40,7 @@ fn push_call(alloc: Global, out: &mut String, number: u64, call: &Call) -> Resul
     push_word(out, "\n")
 }
 
-// Adds the number of a call and who asked, each with a space behind it.
+// Adds the number of a call and who asked, each with a space after it.
 fn push_numbers(out: &mut String, number: u64, by: u32) -> Result<(), NoMemory>
     ensures { OnOk result (Adds (string_bytes out.old) (string_bytes out.new) (decimal number ++ codes " " ++ decimal by ++ codes " ")) }
 {

@@ -9,7 +9,7 @@ use si_parcel::Parcel;
 use si_plain::{NoMemory, Text};
 use std::alloc::Global;
 
-// Adds each name, behind a space. The parcels are not told.
+// Adds each name, after a space. The parcels are not told.
 pub(crate) fn push_names(
     alloc: Global,
     out: &mut String,
@@ -23,7 +23,7 @@ pub(crate) fn push_names(
     Ok(())
 }
 
-// Adds a name, behind a space.
+// Adds a name, after a space.
 fn push_name(alloc: Global, out: &mut String, pair: &(Text, Parcel)) -> Result<(), NoMemory>
     ensures { OnOk result (Adds (string_bytes out.old) (string_bytes out.new) (name_text pair.now)) }
 {

@@ -1,7 +1,6 @@
 // The shared state.
 
 ghost use Rattle.std.specs.Prelude.{◌≡◌, IfOk, IsOk, OnErr, true};
-ghost use Rattle.si_semantics.specs.Shared as shared;
 ghost use Rattle.si_semantics.specs.Shared.{Replied, reply, is_enabled, first_state};
 ghost use Rattle.si_parcel.specs.Shared.{action_of, answer_of};
 ghost use Rattle.si_hub.specs.Hubs.{takes_none};

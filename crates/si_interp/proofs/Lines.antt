@@ -1,9 +1,8 @@
 -- How lines of a machine go on, one after the other, and what is then seen of its interpreter.
-use Rattle.std.proofs.Common.{◌≡◌, ◌∙◌, ℕ, zero, suc, ◌+◌, ◌<◌, List, Option, Some, None, false, ap, ap₂, refl, sym, subst, arith}
+use Rattle.std.proofs.Common.{◌≡◌, ◌∙◌, ℕ, suc, ◌+◌, ◌<◌, List, Option, Some, None, false, ap, ap₂, refl, sym, subst, arith}
 use Rattle.si_plain.specs.Characters.{characters_of}
 use Rattle.si_semantics.specs.Value.{Text}
-use Rattle.si_slots.specs.Code.{compiled}
-use Rattle.si_slots.specs.Machine.{Course, next}
+use Rattle.si_slots.specs.Machine.{Course}
 use Rattle.si_steps.specs.declared.state.State.{State as Machine}
 use Rattle.si_steps.specs.declared.step.Step.{Step as Line}
 use Rattle.si_steps.specs.declared.step.Step.TheVariants as line
@@ -13,11 +12,11 @@ use Rattle.si_interp.specs.declared.interp.State.{State}
 use Rattle.si_interp.specs.declared.interp.State.TheVariants as states
 use Rattle.si_interp.specs.declared.interp.Step.{Step}
 use Rattle.si_interp.specs.declared.interp.Step.TheVariants as steps
-use Rattle.si_interp.specs.Meaning.{Logged, Stand, Ready, At, Gone, Starved, InterpView}
+use Rattle.si_interp.specs.Meaning.{Logged, Ready, At, Gone, Starved, InterpView}
 use Rattle.si_interp.specs.View.{view_of, step_at, starved_view, Counts, Stepped, HasRun, SteppedOn}
-use Rattle.si_interp.specs.inner.Keeps.{moment_of, IsGoing, ComesSo, Leaves, Keeps, stand_in, taken_in}
+use Rattle.si_interp.specs.inner.Keeps.{moment_of, IsGoing, ComesSo, Keeps, stand_in, taken_in}
 use Rattle.si_interp.specs.inner.Lines.{ready_view, GoneOn, LastLine, LinesLed}
-use Rattle.si_interp.proofs.Keeping.{came_not_taken, came_silent, came_stands, keeps_going, keeps_line, keeps_starved, stands_ready}
+use Rattle.si_interp.proofs.Keeping.{came_not_taken, came_stands, keeps_going, keeps_line, keeps_starved}
 
 -- ---- lines
 

@@ -1,7 +1,7 @@
 -- Lines after which no other line comes print nothing.
 use Rattle.std.proofs.Common.{◌≡◌, ◌∙◌, ℕ, ◌+◌, ◌++◌, List, [], ◌∷◌, Option, Some, None, Bool, true, false, slice_get, take, refl, ap, sym, append-nil, encode_utf8_all}
 use Rattle.std.proofs.lemmas.List.{append_cancel_left}
-use Rattle.std.specs.Prelude.{nat_eq, length, drop, slice_set, Result, Ok, Err}
+use Rattle.std.specs.Prelude.{nat_eq, length, drop, Result, Ok, Err}
 use Rattle.si_plain.specs.declared.kind.Kind.{Kind}
 use Rattle.si_semantics.specs.Tree.{Add}
 use Rattle.si_semantics.specs.Containers.{augment, delete_item, dict_of, set_item, unpacked}
@@ -14,7 +14,7 @@ use Rattle.si_semantics.specs.Subscription.{subscript}
 use Rattle.si_semantics.specs.Attributes.{Method, attribute, called, method_of, call_method}
 use Rattle.si_semantics.specs.Operations.{Iterator, Next, Item, Exhausted, Refuses, is_true}
 use Rattle.si_semantics.specs.Meaning.{Leave, choose, decides, slot_at}
-use Rattle.si_slots.specs.Machine.{Source, Local, Global, Temporary, Kept, Literal, Aim, Target, ToTemporary, ToLocal, ToJump, ToNowhere, Instr, Block, Place, At, Calling, Taking, Ending, Closed, Line, Entry, Stamped, Course, next, on, stamped, act, aimed, below, bound, calls, calls_by, calls_method, defined, ends_finally, enters, fetched, gives_item, goes, having, lands, on_callee, put, raises, reads, starts_for, stuck, unpacks, yields}
+use Rattle.si_slots.specs.Machine.{Source, Local, Global, Temporary, Kept, Literal, Target, ToTemporary, ToLocal, ToJump, ToNowhere, Instr, Block, Place, At, Calling, Taking, Ending, Closed, Line, Entry, Stamped, Course, next, on, stamped, act, aimed, below, bound, calls, calls_by, calls_method, defined, ends_finally, enters, fetched, gives_item, goes, having, lands, on_callee, raises, reads, starts_for, stuck, unpacks, yields}
 use Rattle.si_slots.specs.Machine as machine
 use Rattle.si_slots.specs.Code.{compiled}
 use Rattle.si_slots.specs.Shows.{standing_of, texts}

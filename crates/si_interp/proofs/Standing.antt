@@ -1,5 +1,5 @@
 -- Where a machine stands by at an action.
-use Rattle.std.proofs.Common.{◌≡◌, ◌∙◌, Bool, List, [], true, false, Option, Some, None, ap, refl, sym, subst}
+use Rattle.std.proofs.Common.{◌≡◌, ◌∙◌, [], true, Option, Some, None, ap, refl, sym, subst}
 use Rattle.si_semantics.specs.World as world
 use Rattle.si_semantics.specs.World.{Request}
 use Rattle.si_semantics.specs.Life as language
@@ -7,9 +7,7 @@ use Rattle.si_semantics.specs.Actions as shared
 use Rattle.si_semantics.specs.Actions.{fits}
 use Rattle.si_methods.specs.Requests as requests
 use Rattle.si_methods.specs.Given as given
-use Rattle.si_slots.specs.Machine.{Place, At, Calling, Taking, Ending, Closed, Course, next}
-use Rattle.si_slots.specs.Code.{compiled}
-use Rattle.si_slots.specs.Laws.{with_answer}
+use Rattle.si_slots.specs.Machine.{Place, At, Calling, Taking, Ending, Closed, Course}
 use Rattle.si_slots.specs.Shows.{standing_of}
 use Rattle.si_steps.specs.declared.state.State.{State as Machine}
 use Rattle.si_steps.specs.Moments.{IsAtLine, IsActionAt, HasAction}

@@ -1,6 +1,6 @@
 -- The life of one interpreter under the answers that its shared actions are given: the life of the language, which takes
 -- trees and values (si_semantics/specs/Life.antt), under texts and parcels (this project's own).
-use Rattle.std.specs.Prelude.{ℕ, List, [], ◌∷◌, map, Bool, true, nat_lt, Option, Some, None}
+use Rattle.std.specs.Prelude.{ℕ, List, [], ◌∷◌, map, Bool, true, nat_lt, Option, Some}
 use Rattle.std.specs.List.{list_all}
 use Rattle.si_semantics.specs.Value.{Text, Value}
 use Rattle.si_semantics.specs.Parcels.{Tree}

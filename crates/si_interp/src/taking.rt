@@ -1,6 +1,6 @@
 // What an answer makes of an interpreter.
 
-ghost use Rattle.std.specs.Prelude.{◌≡◌, ◌∷◌, [], true, IfOk, OnOk, OnErr};
+ghost use Rattle.std.specs.Prelude.{◌≡◌, ◌∷◌, [], true, IfOk, OnOk};
 ghost use Rattle.si_methods.specs.Given as requests;
 ghost use Rattle.si_plain.specs.declared.kind.Kind.TheVariants.{SyntaxError};
 ghost use Rattle.si_semantics.specs.World as language;

@@ -97,7 +97,7 @@ fn is_shown(interp: &Interp, name: &str, wanted: &str) -> Result<bool, AllocErro
     }
 }
 
-// What is shown once this has run, and once the text after it has.
+// Two texts that one interpreter runs, the second after the first.
 const FIRST: &str = "z = 1\nx = [z, 'a']\ndef f():\n    y = 2\n    return y\n";
 
 const SECOND: &str =

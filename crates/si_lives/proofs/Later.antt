@@ -62,10 +62,10 @@ pub asked_later : (answers : List Answer) (q : Request) (s : State) → Later (r
 asked_later [] q s = same (record s { answers = [] })
 asked_later (a ∷ rest) q s = replied_later a rest (reply q a s.world) s (λ q' t. asked_later rest q' t)
 
--- those behind the first
-abbrev pub behind_first : List Answer → List Answer
-behind_first [] = []
-behind_first (a ∷ rest) = rest
+-- those after the first
+abbrev pub after_first : List Answer → List Answer
+after_first [] = []
+after_first (a ∷ rest) = rest
 
 replied_first : (rest : List Answer) (o : Replied) (s : State)
     → Later (record s { answers = rest }) (state_at (elim o [ Got v w ↦ Gives v (record s { world = w; answers = rest }) | Failed k m w ↦ raised (exception k m w) (record s { answers = rest }) | Wants q w ↦ asked rest q (record s { world = w }) ]))
@@ -74,7 +74,7 @@ replied_first rest (Failed k m w) s = let x = exception k m w in still (record s
 replied_first rest (Wants q w) s = trans (still (record s { answers = rest }) w s.slots) (asked_later rest q (record s { world = w }))
 
 -- the first answer is taken at once
-pub asked_first : (answers : List Answer) (q : Request) (s : State) → Later (record s { answers = behind_first answers }) (state_at (asked answers q s))
+pub asked_first : (answers : List Answer) (q : Request) (s : State) → Later (record s { answers = after_first answers }) (state_at (asked answers q s))
 asked_first [] q s = same (record s { answers = [] })
 asked_first (a ∷ rest) q s = replied_first rest (reply q a s.world) s
 
@@ -135,13 +135,13 @@ abbrev pub Rest_goes_on : (State → Told) → Type 0
 Rest_goes_on rest = (s : State) → Later s (state_of (rest s))
 
 -- the first answer is taken at once
-pub after_end_first : (answers : List Answer) (o : Outcome) (rest : State → Told) → Rest_goes_on rest → (s : State) → Later (record s { answers = behind_first answers }) (state_of (after_end answers o rest s))
+pub after_end_first : (answers : List Answer) (o : Outcome) (rest : State → Told) → Rest_goes_on rest → (s : State) → Later (record s { answers = after_first answers }) (state_of (after_end answers o rest s))
 after_end_first [] o rest h s = same (record s { answers = [] })
 after_end_first (Done ∷ left) o rest h s = h (record s { answers = left })
 after_end_first (a ∷ left) o rest h s = same (record s { answers = left })
 
 -- answers of which the first is taken or left
-pub at_first : (answers : List Answer) (s : State) → Later (record s { answers = answers }) (record s { answers = behind_first answers })
+pub at_first : (answers : List Answer) (s : State) → Later (record s { answers = answers }) (record s { answers = after_first answers })
 at_first [] s = same (record s { answers = [] })
 at_first (a ∷ rest) s = taken s a rest s.world
 

@@ -4,7 +4,7 @@ use Rattle.std.specs.Prelude.{nat_eq, slice_get, slice_set}
 use Rattle.std.specs.Prelude as prelude
 use Rattle.si_plain.specs.declared.kind.Kind.{Kind}
 use Rattle.si_semantics.specs.Value.{Text, Value, Str, Function, Module, Address}
-use Rattle.si_semantics.specs.Tree.{BinaryOperator, BooleanOperator, Expr, Exprs, Comparisons, Target, Targets, count_of_targets, Stmt, Stmts, Clauses, functions_of, functions_in, functions_in_clauses}
+use Rattle.si_semantics.specs.Tree.{BooleanOperator, Expr, Exprs, Comparisons, Target, Targets, count_of_targets, Stmt, Stmts, Clauses, functions_of, functions_in, functions_in_clauses}
 use Rattle.si_semantics.specs.Tree as tree
 use Rattle.si_semantics.specs.Text.{module_name}
 use Rattle.si_semantics.specs.Scope.{place_of, locals_of}
@@ -15,12 +15,12 @@ use Rattle.si_semantics.specs.Replies.{reply}
 use Rattle.si_semantics.specs.Subscription.{subscript}
 use Rattle.si_semantics.specs.Containers.{dict_of, set_item, delete_item, augment, unpacked}
 use Rattle.si_semantics.specs.Attributes.{Method, attribute, called, method_of, call_method}
-use Rattle.si_semantics.specs.Meaning.{State, Raises, Returns, Breaks, Continues, Result, Gives, Leaves, Asks, Cut, Meaning, Scope, behind, with_active, visit, then, printed, raised, asked, ran, slot_at, read, assign, unassign, calls, calls_method, calls_attribute, callee, choose, decides, compared, expr, exprs, operands, chain, done, spread, bind, bind_each, bind_all, after_turn, turn_of, loop, for_loop, over, returning, raising, caught, active_in, finally, named, stmt, stmts, clauses, returned, entered, fitting, run_body, call, max_calls}
+use Rattle.si_semantics.specs.Meaning.{State, Raises, Returns, Breaks, Continues, Result, Gives, Leaves, Asks, Cut, Meaning, Scope, after, with_active, visit, then, printed, raised, asked, ran, slot_at, read, assign, unassign, calls, calls_method, calls_attribute, callee, choose, decides, compared, expr, exprs, operands, chain, done, spread, bind, bind_each, bind_all, after_turn, turn_of, loop, for_loop, over, returning, raising, caught, active_in, finally, named, stmt, stmts, clauses, returned, entered, fitting, run_body, call, max_calls}
 use Rattle.si_semantics.specs.Life.{Outcome, Returned, Told, Stops, IsGone, IsCut, outcome_of, not_read, after_end, ends_with, run_ended, module_scope, run_of, takes, life, newborn, life_of}
 use Rattle.si_semantics.specs.Laws.{state_of}
 use Rattle.si_semantics.proofs.Growing.{state_at, handling, otherwise, lastly, suite_scope}
 use Rattle.si_lives.specs.Laws.{Later, with_answers as more, Waits, AnswersWait}
-use Rattle.si_lives.proofs.Later.{same, trans, still, visited, asked_first, behind_first, ran_later, Goes_on, then_later, after_turn_later, caught_later, finally_later, returned_later, Rest_goes_on, at_first, after_end_first, ends_later, run_ended_later}
+use Rattle.si_lives.proofs.Later.{same, trans, still, visited, asked_first, after_first, ran_later, Goes_on, then_later, after_turn_later, caught_later, finally_later, returned_later, Rest_goes_on, at_first, after_end_first, ends_later, run_ended_later}
 
 -- ---- going alike
 
@@ -29,7 +29,7 @@ use Rattle.si_lives.proofs.Later.{same, trans, still, visited, asked_first, behi
 abbrev Same : {A : Type 0} → List Answer → Result A → Result A → Type 0
 Same b (Gives a s) r = r ≡ Gives a (more b s)
 Same b (Leaves p s) r = r ≡ Leaves p (more b s)
-Same b (Asks q s) r = (s.answers ≡ []) × Later (record s { answers = behind_first b }) (state_at r)
+Same b (Asks q s) r = (s.answers ≡ []) × Later (record s { answers = after_first b }) (state_at r)
 Same b (Cut s) r = r ≡ Cut (more b s)
 
 -- so it is, and the first comes to a later state
@@ -289,11 +289,11 @@ mutual
   stmt_alike b e h tree.Pass s = (visited s, refl)
   stmt_alike b e h (tree.If a c d) s =
       then_alike b _ _ _ _ (visits_to b s _ _ (expr_alike b e h a (visit s)))
-      (λ t s1. choose_alike b _ (is_true t s1.world) _ _ _ _ (stmts_alike b e h c s1) (stmts_alike b (behind (functions_in c) e) h d s1))
+      (λ t s1. choose_alike b _ (is_true t s1.world) _ _ _ _ (stmts_alike b e h c s1) (stmts_alike b (after (functions_in c) e) h d s1))
   stmt_alike b e h (tree.While a c d) s =
       visits_to b s _ _
-      (loop_alike b e.turns (expr e a) (stmts e c) (stmts (behind (functions_in c) e) d)
-      (λ s1. expr_alike b e h a s1) (λ s1. stmts_alike b e h c s1) (λ s1. stmts_alike b (behind (functions_in c) e) h d s1) (visit s))
+      (loop_alike b e.turns (expr e a) (stmts e c) (stmts (after (functions_in c) e) d)
+      (λ s1. expr_alike b e h a s1) (λ s1. stmts_alike b e h c s1) (λ s1. stmts_alike b (after (functions_in c) e) h d s1) (visit s))
   stmt_alike b e h tree.Break s = (visited s, refl)
   stmt_alike b e h tree.Continue s = (visited s, refl)
   stmt_alike b e h (tree.Define f ps c) s = visits_to b s _ _ (assign_alike b f (place_of f e.locals) (Function f e.first) (visit s))
@@ -304,21 +304,21 @@ mutual
   stmt_alike b e h (tree.For t a c d) s =
       then_alike b _ _ _ _ (visits_to b s _ _ (expr_alike b e h a (visit s)))
       (λ v s1. over_alike b (iterator_of v s1.world) _
-      (λ it s2. for_loop_alike b e.turns (λ u s3. bind e t u s3) (stmts e c) (stmts (behind (functions_in c) e) d)
-      (λ u s3. bind_alike b e h t u s3) (λ s3. stmts_alike b e h c s3) (λ s3. stmts_alike b (behind (functions_in c) e) h d s3) it s2) s1)
+      (λ it s2. for_loop_alike b e.turns (λ u s3. bind e t u s3) (stmts e c) (stmts (after (functions_in c) e) d)
+      (λ u s3. bind_alike b e h t u s3) (λ s3. stmts_alike b e h c s3) (λ s3. stmts_alike b (after (functions_in c) e) h d s3) it s2) s1)
   stmt_alike b e h (tree.Try c cs d) s =
       caught_alike b _ (stmts e c (visit s)) (stmts e c (visit (more b s))) (handling e c cs) (otherwise e c cs d) (visits_to b s _ _ (stmts_alike b e h c (visit s)))
-      (λ x s1. clauses_alike b (behind (functions_in c) (with_active (Some x) e)) h cs x s1) (λ s1. stmts_alike b (behind (functions_in c ++ functions_in_clauses cs) e) h d s1)
+      (λ x s1. clauses_alike b (after (functions_in c) (with_active (Some x) e)) h cs x s1) (λ s1. stmts_alike b (after (functions_in c ++ functions_in_clauses cs) e) h d s1)
   stmt_alike b e h (tree.Finally c cs d f) s =
       finally_alike b _ e.active
       (caught (stmts e c (visit s)) (handling e c cs) (otherwise e c cs d)) (caught (stmts e c (visit (more b s))) (handling e c cs) (otherwise e c cs d)) (lastly e c cs d f)
       (caught_alike b _ (stmts e c (visit s)) (stmts e c (visit (more b s))) (handling e c cs) (otherwise e c cs d) (visits_to b s _ _ (stmts_alike b e h c (visit s)))
-      (λ x s1. clauses_alike b (behind (functions_in c) (with_active (Some x) e)) h cs x s1) (λ s1. stmts_alike b (behind (functions_in c ++ functions_in_clauses cs) e) h d s1))
-      (λ active s1. stmts_alike b (behind (functions_in c ++ (functions_in_clauses cs ++ functions_in d)) (with_active active e)) h f s1)
+      (λ x s1. clauses_alike b (after (functions_in c) (with_active (Some x) e)) h cs x s1) (λ s1. stmts_alike b (after (functions_in c ++ functions_in_clauses cs) e) h d s1))
+      (λ active s1. stmts_alike b (after (functions_in c ++ (functions_in_clauses cs ++ functions_in d)) (with_active active e)) h f s1)
 
   stmts_alike : (b : List Answer) (e : Scope) → Calls_go b e → (c : Stmts) → Goes b (stmts e c)
   stmts_alike b e h tree.NoStmts s = (same s, refl)
-  stmts_alike b e h (tree.MoreStmts a c) s = then_alike b _ _ _ _ (stmt_alike b e h a s) (λ u s1. stmts_alike b (behind (functions_of a) e) h c s1)
+  stmts_alike b e h (tree.MoreStmts a c) s = then_alike b _ _ _ _ (stmt_alike b e h a s) (λ u s1. stmts_alike b (after (functions_of a) e) h c s1)
 
   clauses_alike : (b : List Answer) (e : Scope) → Calls_go b e → (cs : Clauses) (x : ℕ) → Goes b (clauses e cs x)
   clauses_alike b e h tree.NoClauses x s = (same s, refl)
@@ -326,7 +326,7 @@ mutual
   clauses_alike b e h (tree.MoreClauses (Some a) y c cs) x s =
       then_alike b _ _ _ _ (visits_to b s _ _ (expr_alike b e h a (visit s)))
       (λ v s1. then_alike b _ _ _ _ (ran_alike b (catches v x s1.world) s1)
-      (λ t s2. choose_alike b _ (is_true t s2.world) _ _ _ _ (named_alike b e y x (stmts e c) (λ s3. stmts_alike b e h c s3) s2) (clauses_alike b (behind (functions_in c) e) h cs x s2)))
+      (λ t s2. choose_alike b _ (is_true t s2.world) _ _ _ _ (named_alike b e y x (stmts e c) (λ s3. stmts_alike b e h c s3) s2) (clauses_alike b (after (functions_in c) e) h cs x s2)))
 
 -- ---- going alike, of a call
 
@@ -368,7 +368,7 @@ run_alike b fs n body s =
 run_later : (fs : List tree.Function) (n : ℕ) (body : Stmts) → Goes_on (run_of fs n body)
 run_later fs n body s = let g = run_alike [] fs n body s in g.0
 
-takes_first : (n : ℕ) (fs : List tree.Function) (rest : List tree.Function → State → Told) → ((gs : List tree.Function) → Rest_goes_on (rest gs)) → (answers : List Answer) (s : State) → Later (record s { answers = behind_first answers }) (state_of (takes n fs rest answers s))
+takes_first : (n : ℕ) (fs : List tree.Function) (rest : List tree.Function → State → Told) → ((gs : List tree.Function) → Rest_goes_on (rest gs)) → (answers : List Answer) (s : State) → Later (record s { answers = after_first answers }) (state_of (takes n fs rest answers s))
 takes_first n fs rest h [] s = same (record s { answers = [] })
 takes_first n fs rest h (Taken (Bind bs) ∷ left) s =
     let w = record s.world { globals = world.bind_all bs s.world.globals } in
@@ -390,7 +390,7 @@ life_later n (suc k) fs s = trans (visited s) (trans (at_first s.answers (visit 
 -- a life stops with no answer left, and the second goes on from there with the first of more answers taken; or the second
 -- is gone or cut as the first, with more answers left
 abbrev Lives : List Answer → Told → Told → Type 0
-Lives b (Stops a s) r = (s.answers ≡ []) × Later (record s { answers = behind_first b }) (state_of r)
+Lives b (Stops a s) r = (s.answers ≡ []) × Later (record s { answers = after_first b }) (state_of r)
 Lives b (IsGone s) r = r ≡ IsGone (more b s)
 Lives b (IsCut s) r = r ≡ IsCut (more b s)
 

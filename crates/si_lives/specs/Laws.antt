@@ -13,7 +13,7 @@ pub record Later (s t : State) : Type 0 where
   pub visits : s.visits ≤ t.visits
   pub pieces : (further : List Piece) × (t.pieces ≡ s.pieces ++ further) × All (λ p. s.visits ≤ p.number) further
 
--- a state with more answers to come, behind those that are left
+-- a state with more answers to come, after those that are left
 abbrev pub with_answers : List Answer → State → State
 with_answers more s = record s { answers = s.answers ++ more }
 

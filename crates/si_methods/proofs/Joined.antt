@@ -5,7 +5,7 @@ use Rattle.std.proofs.lemmas.List.{drop_all}
 use Rattle.si_semantics.specs.Value as pure
 use Rattle.si_semantics.specs.Value.{Text, Value}
 use Rattle.si_semantics.specs.Tuples as tuples
-use Rattle.si_semantics.specs.Attributes.{joined_texts, joined_behind}
+use Rattle.si_semantics.specs.Attributes.{joined_texts, joined_after}
 use Rattle.si_methods.specs.Shown.{IsNoStr}
 use Rattle.si_methods.specs.Joining.{told, ComesTo}
 use Rattle.std.proofs.Common.{length-append, inl, inr}
@@ -20,7 +20,7 @@ first_left [] i x e = absurd cc
 first_left (y ∷ xs) zero x e = let same : y ≡ x = cc in ap (λ z. z ∷ xs) same
 first_left (y ∷ xs) (suc i) x e = first_left xs i x e
 
-no_text : (v : Value) (vs : List Value) (s : Text) → IsNoStr v → joined_behind s (v ∷ vs) ≡ None
+no_text : (v : Value) (vs : List Value) (s : Text) → IsNoStr v → joined_after s (v ∷ vs) ≡ None
 no_text (pure.Str t) vs s h = absurd h
 no_text _ vs s h = refl
 
@@ -29,7 +29,7 @@ no_first (pure.Str t) vs s h = absurd h
 no_first _ vs s h = refl
 
 -- the first text
-pub first_joined : (s t : Text) (v : Value) (vs : List Value) → slice_get vs 0 ≡ Some v → v ≡ pure.Str t → joined_texts s vs ≡ told t (joined_behind s (drop 1 vs))
+pub first_joined : (s t : Text) (v : Value) (vs : List Value) → slice_get vs 0 ≡ Some v → v ≡ pure.Str t → joined_texts s vs ≡ told t (joined_after s (drop 1 vs))
 first_joined s t v vs e f = ap (joined_texts s) (first_left vs 0 v e) ∙ ap (λ u. joined_texts s (u ∷ drop 1 vs)) f
 
 pub first_other : (s : Text) (v : Value) (vs : List Value) → slice_get vs 0 ≡ Some v → IsNoStr v → joined_texts s vs ≡ None
@@ -40,24 +40,24 @@ told_more done s t (Some u) = ap (λ x. Some x) (sym (append_assoc (done ++ s) t
 told_more done s t None = refl
 
 -- the next text
-pub next_joined : (s t done : Text) (v : Value) (vs : List Value) (i : ℕ) (whole : Option Text) → slice_get vs i ≡ Some v → v ≡ pure.Str t → whole ≡ told done (joined_behind s (drop i vs)) → whole ≡ told ((done ++ s) ++ t) (joined_behind s (drop (i + 1) vs))
+pub next_joined : (s t done : Text) (v : Value) (vs : List Value) (i : ℕ) (whole : Option Text) → slice_get vs i ≡ Some v → v ≡ pure.Str t → whole ≡ told done (joined_after s (drop i vs)) → whole ≡ told ((done ++ s) ++ t) (joined_after s (drop (i + 1) vs))
 next_joined s t done v vs i whole e f h =
     h
-    ∙ ap (λ us. told done (joined_behind s us)) (first_left vs i v e ∙ ap (λ u. u ∷ drop (suc i) vs) f)
-    ∙ told_more done s t (joined_behind s (drop (suc i) vs))
-    ∙ ap (λ j. told ((done ++ s) ++ t) (joined_behind s (drop j vs))) (sym (add-one i))
+    ∙ ap (λ us. told done (joined_after s us)) (first_left vs i v e ∙ ap (λ u. u ∷ drop (suc i) vs) f)
+    ∙ told_more done s t (joined_after s (drop (suc i) vs))
+    ∙ ap (λ j. told ((done ++ s) ++ t) (joined_after s (drop j vs))) (sym (add-one i))
 
 -- the next is none
-pub next_other : (s done : Text) (v : Value) (vs : List Value) (i : ℕ) (whole : Option Text) → slice_get vs i ≡ Some v → IsNoStr v → whole ≡ told done (joined_behind s (drop i vs)) → whole ≡ None
+pub next_other : (s done : Text) (v : Value) (vs : List Value) (i : ℕ) (whole : Option Text) → slice_get vs i ≡ Some v → IsNoStr v → whole ≡ told done (joined_after s (drop i vs)) → whole ≡ None
 next_other s done v vs i whole e f h =
     h
-    ∙ ap (λ us. told done (joined_behind s us)) (first_left vs i v e)
+    ∙ ap (λ us. told done (joined_after s us)) (first_left vs i v e)
     ∙ ap (told done) (no_text v (drop (suc i) vs) s f)
 
 -- none is left
-pub all_joined : (s done : Text) (vs : List Value) (i : ℕ) (whole : Option Text) → length vs ≤ i → whole ≡ told done (joined_behind s (drop i vs)) → whole ≡ Some done
+pub all_joined : (s done : Text) (vs : List Value) (i : ℕ) (whole : Option Text) → length vs ≤ i → whole ≡ told done (joined_after s (drop i vs)) → whole ≡ Some done
 all_joined s done vs i whole l h =
-    h ∙ ap (λ us. told done (joined_behind s us)) (drop_all i vs l) ∙ ap (λ x. Some x) (append-nil done)
+    h ∙ ap (λ us. told done (joined_after s us)) (drop_all i vs l) ∙ ap (λ x. Some x) (append-nil done)
 
 -- ---- the characters of a text
 

@@ -48,7 +48,7 @@ JoinsItems v u m (Ok t) = (w : World) → w.store ≡ m.store → joins_texts v 
 JoinsItems v u m (Err (Raises cause)) = Throws (λ w. joins_texts v (texts_in u w) w) m cause
 JoinsItems v u m (Err NoMemory) = Unit {0}
 
--- what is made of a text and of those behind it
+-- what is made of a text and of those after it
 abbrev pub told : pure.Text → Option pure.Text → Option pure.Text
 told done left = option_map (λ u. done ++ u) left
 

@@ -119,7 +119,7 @@ fn join_pieces<'a>(
     }
 }
 
-// The first text, and then the others, each behind another.
+// The first text, and then the others, each after another.
 fn join_others<'a>(
     alloc: Global,
     arena: &'a Arena,
@@ -129,14 +129,14 @@ fn join_others<'a>(
 ) -> Result<Text, Fault>
     requires lie { PiecesLie arena.now pieces }
     requires some { 0 < length (values_in arena.now pieces) }
-    ensures { Joins (told (characters_in first.entry) (attributes.joined_behind (characters_in between.entry) (drop 1 (values_in arena.now pieces.entry)))) arena.now result }
+    ensures { Joins (told (characters_in first.entry) (attributes.joined_after (characters_in between.entry) (drop 1 (values_in arena.now pieces.entry)))) arena.now result }
 {
     let mut text = Text::new(alloc);
     push(&mut text, first)?;
     let mut count = length_of(first);
     for i in 1..count_of(pieces) {
         match piece_at(arena, pieces, i) {
-            Some(piece) => match push_behind(&mut text, count, between, piece) {
+            Some(piece) => match push_after(&mut text, count, between, piece) {
                 Ok(more) => count = more,
                 Err(_) => return Err(Fault::NoMemory),
             },
@@ -151,7 +151,7 @@ fn join_others<'a>(
 
 // Two texts at the end of one that comes to so many characters, and to how many it comes then. Past those of a str nothing is
 // added any more: what comes later may still be no str, and then it is that which is raised.
-fn push_behind(
+fn push_after(
     text: &mut Text,
     count: usize,
     between: Characters<'_>,

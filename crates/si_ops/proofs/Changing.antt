@@ -1,13 +1,13 @@
 -- Objects that are made and changed, by what the definitions say of a world.
-use Rattle.std.proofs.Common.{◌≡◌, ◌≢◌, ℕ, zero, suc, ◌+◌, ◌<◌, ◌≤◌, List, [], ◌∷◌, ◌++◌, length, Bool, true, false, cond, Option, Some, None, Result, Ok, Err, refl, sym, ap, subst, ◌∙◌, arith, length-append, ◌*◌, zero-mul, mul-zero}
-use Rattle.std.specs.Prelude.{slice_get, slice_set, nat_lt, ℤ, pos, negsuc, int_le}
+use Rattle.std.proofs.Common.{◌≡◌, ℕ, zero, suc, ◌+◌, ◌<◌, ◌≤◌, List, [], ◌∷◌, ◌++◌, length, Bool, true, false, cond, Option, Some, None, Result, Ok, Err, refl, sym, ap, subst, ◌∙◌, arith, length-append, ◌*◌, zero-mul, mul-zero}
+use Rattle.std.specs.Prelude.{slice_set, nat_lt, ℤ, pos, negsuc, int_le}
 use Rattle.std.proofs.lemmas.Bool.Decides.{nat_tests}
 use Rattle.si_semantics.specs.Tuples.{copies}
 use Rattle.si_ops.proofs.Gathered.{copies_empty}
 use Rattle.si_semantics.specs.Value as pure
 use Rattle.si_semantics.specs.Text.{max_length}
 use Rattle.si_semantics.specs.World.{World, Ran}
-use Rattle.si_semantics.specs.Operations.{gave, placed, too_long, wrong_type, list_within, list_repeated, refused}
+use Rattle.si_semantics.specs.Operations.{gave, placed, too_long, wrong_type, list_within, list_repeated}
 use Rattle.si_semantics.specs.Subscription.{outside}
 use Rattle.si_semantics.specs.Containers.{changed, dict_made}
 use Rattle.si_arena.specs.declared.value.Ref.{Ref}
@@ -16,10 +16,9 @@ use Rattle.si_arena.specs.declared.cause.Cause.{Cause}
 use Rattle.si_arena.specs.declared.cause.Cause.TheVariants.{TooLong, WrongType, Outside}
 use Rattle.si_arena.specs.declared.cause.Fault.{Fault}
 use Rattle.si_arena.specs.declared.cause.Fault.TheVariants.{Raises, NoMemory}
-use Rattle.si_arena.specs.Causes.{kind_of, message_of, CauseLies}
-use Rattle.si_arena.specs.Memory.{Memory, value_of, Lies, Extends, IsMade, MakesDict, with_object}
+use Rattle.si_arena.specs.Memory.{Memory, Lies, Extends, IsMade, MakesDict, with_object}
 use Rattle.si_arena.proofs.Lying.{lasts_same, extends_made}
-use Rattle.si_ops.specs.Runs.{Gives, Throws, Runs, Tells}
+use Rattle.si_ops.specs.Runs.{Throws, Runs, Tells}
 use Rattle.si_ops.specs.Calls.{GivesAnew, Makes}
 use Rattle.si_ops.specs.declared.lack.Lack.{Lack}
 use Rattle.si_ops.specs.declared.lack.Lack.TheVariants as lack

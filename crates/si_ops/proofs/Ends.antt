@@ -31,16 +31,16 @@ and_right : (a b : Bool) → (a && b) ≡ true → b ≡ true
 and_right true b e = e
 and_right false b e = cc
 
-scalars_behind : (fs rest : List ℕ) → scalars (fs ++ rest) ≡ true → scalars rest ≡ true
-scalars_behind [] rest e = e
-scalars_behind (f ∷ fs) rest e = scalars_behind fs rest (and_right _ (scalars (fs ++ rest)) e)
+scalars_after : (fs rest : List ℕ) → scalars (fs ++ rest) ≡ true → scalars rest ≡ true
+scalars_after [] rest e = e
+scalars_after (f ∷ fs) rest e = scalars_after fs rest (and_right _ (scalars (fs ++ rest)) e)
 
 more_is : {Z : Type 0} (old new : String Z) (more : List ℕ) → string_bytes new ≡ string_bytes old ++ more → IsUtf8 more
 more_is old new more e =
     let u = IsUtf8-string_bytes old in
     let v = IsUtf8-string_bytes new in
     let f = front_of u.0 v.0 more (v.1.1 ∙ e ∙ ap (λ x. x ++ more) (sym u.1.1)) in
-    (f.0, (scalars_behind u.0 f.0 (sym (ap scalars f.1) ∙ v.1.0), f.2))
+    (f.0, (scalars_after u.0 f.0 (sym (ap scalars f.1) ∙ v.1.0), f.2))
 
 -- where what was added begins
 pub seam : {Z : Type 0} (old new : String Z) (start : ℕ) → start ≡ length (string_bytes old) → Begins old new → IsCharBoundary (string_bytes new) start

@@ -1,13 +1,13 @@
 -- Values that are compared one by one.
 use Rattle.std.proofs.Common.{◌≡◌, ◌≢◌, ℕ, zero, suc, ◌+◌, ◌-◌, ◌<◌, ◌≤◌, List, [], ◌∷◌, length, drop, get_or, Bool, true, false, cond, Option, Some, None, Result, Ok, refl, sym, ap, subst, ◌∙◌, arith, ne_eqb}
-use Rattle.std.specs.Prelude.{slice_get, nat_eq}
+use Rattle.std.specs.Prelude.{slice_get}
 use Rattle.std.proofs.lemmas.Bool.{eq-eqb}
 use Rattle.std.proofs.Math.ListN.{drop_of_length-le}
 use Rattle.si_plain.specs.declared.kind.Kind.{Kind}
 use Rattle.si_semantics.specs.Value.{Value, Tuple, Address, Key, Object, Items, Pairs, tuple_of, values_of, items_of}
 use Rattle.si_semantics.specs.World.{World}
 use Rattle.si_semantics.specs.Dicts.{value_at}
-use Rattle.si_semantics.specs.Operations.{Compared, equal_by, equal_objects, equal_within, each_equal, each_found, equal_found, and_then, items_equal, are_equal, is_any_of}
+use Rattle.si_semantics.specs.Operations.{Compared, equal_by, equal_objects, equal_within, each_equal, each_found, equal_found, and_then, are_equal, is_any_of}
 use Rattle.si_arena.specs.declared.value.Ref.{Ref}
 use Rattle.si_arena.specs.declared.view.View.{View}
 use Rattle.si_arena.specs.declared.view.View.TheVariants as view
@@ -20,7 +20,7 @@ use Rattle.si_ops.specs.declared.refusal.Refusal.TheVariants.{WrongType, TooDeep
 use Rattle.si_ops.specs.Runs.{kind_refused}
 use Rattle.si_ops.specs.inner.Equal.{compared_at, AreBare}
 use Rattle.si_ops.specs.inner.Held.{IsPlainObject}
-use Rattle.si_ops.proofs.Providing.{values_behind}
+use Rattle.si_ops.proofs.Providing.{values_after}
 use Rattle.si_ops.proofs.Tupled.{items_back}
 
 -- ---- by how parts are compared
@@ -125,8 +125,8 @@ lengths_same (suc n) us vs w l h =
 module _ (E : Value → Value → Result Bool Kind) (m : Memory) (xs ys : List Ref) (i : ℕ) (x y : Ref) (h : i < length xs) (k : i < length ys) (e : x ≡ get_or xs i x) (f : y ≡ get_or ys i y) where
   each_from : each_equal E (all_of m (drop i xs)) (all_of m (drop i ys)) ≡ each_equal E (value_of m x ∷ all_of m (drop (i + 1) xs)) (value_of m y ∷ all_of m (drop (i + 1) ys))
   each_from =
-      ap (λ vs. each_equal E vs (all_of m (drop i ys))) (values_behind m xs i x h e)
-      ∙ ap (λ vs. each_equal E (value_of m x ∷ all_of m (drop (i + 1) xs)) vs) (values_behind m ys i y k f)
+      ap (λ vs. each_equal E vs (all_of m (drop i ys))) (values_after m xs i x h e)
+      ∙ ap (λ vs. each_equal E (value_of m x ∷ all_of m (drop (i + 1) xs)) vs) (values_after m ys i y k f)
 
   -- one more that is equal
   pub each_next : E (value_of m x) (value_of m y) ≡ Ok true → each_equal E (all_of m (drop (i + 1) xs)) (all_of m (drop (i + 1) ys)) ≡ each_equal E (all_of m (drop i xs)) (all_of m (drop i ys))
@@ -193,7 +193,7 @@ found_end E ps qs i h = ap (λ rs. each_found E rs qs) (drop_of_length-le ps h)
 
 module _ (m : Memory) (xs : List Ref) (v : Value) (i : ℕ) (x : Ref) (w : World) (h : i < length xs) (e : x ≡ get_or xs i x) where
   any_from : is_any_of (all_of m (drop i xs)) v w ≡ is_any_of (value_of m x ∷ all_of m (drop (i + 1) xs)) v w
-  any_from = ap (λ us. is_any_of us v w) (values_behind m xs i x h e)
+  any_from = ap (λ us. is_any_of us v w) (values_after m xs i x h e)
 
   pub any_next : are_equal v (value_of m x) w ≡ Ok false → is_any_of (all_of m (drop (i + 1) xs)) v w ≡ is_any_of (all_of m (drop i xs)) v w
   any_next g = sym (any_from ∙ (rw g refl))

@@ -14,9 +14,9 @@ use Rattle.si_arena.specs.declared.value.Ref.{Ref}
 use Rattle.si_arena.specs.declared.view.View.{View}
 use Rattle.si_arena.specs.declared.view.View.TheVariants as view
 use Rattle.si_arena.specs.Views.{value_in}
-use Rattle.si_arena.specs.Memory.{Memory, value_of, all_of, object_of, AllLie}
-use Rattle.si_ops.proofs.Compared.{behind}
-use Rattle.si_ops.proofs.Providing.{values_behind}
+use Rattle.si_arena.specs.Memory.{Memory, value_of, all_of, AllLie}
+use Rattle.si_ops.proofs.Compared.{after}
+use Rattle.si_ops.proofs.Providing.{values_after}
 use Rattle.si_ops.proofs.MadeBytes.{one_left}
 use Rattle.si_ops.proofs.Tupled.{items_back}
 
@@ -44,10 +44,10 @@ one_more m xs more r v rest whole e f h =
 -- ---- characters, bytes and integers
 
 pub characters_left : (s : List ℕ) (i : ℕ) → i < length s → characters_in (drop i s) ≡ Str (get_or s i 0 ∷ []) ∷ characters_in (drop (i + 1) s)
-characters_left s i h = ap characters_in (behind s i h)
+characters_left s i h = ap characters_in (after s i h)
 
 pub numbers_left : (s : List ℕ) (i : ℕ) → i < length s → numbers_in (drop i s) ≡ Int (pos (get_or s i 0)) ∷ numbers_in (drop (i + 1) s)
-numbers_left s i h = ap numbers_in (behind s i h)
+numbers_left s i h = ap numbers_in (after s i h)
 
 pub no_characters : (s : List ℕ) (i : ℕ) → length s ≤ i → characters_in (drop i s) ≡ []
 no_characters s i h = ap characters_in (drop_of_length-le s h)
@@ -89,14 +89,14 @@ integers_none a b c i h =
 
 -- ---- copies
 
-copies_behind : (n : ℕ) (vs : List Value) → copies n vs ++ vs ≡ vs ++ copies n vs
-copies_behind zero vs = sym (append-nil vs)
-copies_behind (suc n) vs = append_assoc vs (copies n vs) vs ∙ ap (λ us. vs ++ us) (copies_behind n vs)
+copies_after : (n : ℕ) (vs : List Value) → copies n vs ++ vs ≡ vs ++ copies n vs
+copies_after zero vs = sym (append-nil vs)
+copies_after (suc n) vs = append_assoc vs (copies n vs) vs ∙ ap (λ us. vs ++ us) (copies_after n vs)
 
 pub copy_more : (m : Memory) (items all more : List Ref) (i : ℕ) → more ≡ all ++ items → all_of m all ≡ copies i (all_of m items) → all_of m more ≡ copies (i + 1) (all_of m items)
 copy_more m items all more i e h =
     let next : suc i ≡ i + 1 = omega arith in
-    ap (all_of m) e ∙ all_joined m all items ∙ ap (λ vs. vs ++ all_of m items) h ∙ copies_behind i (all_of m items) ∙ ap (λ n. copies n (all_of m items)) next
+    ap (all_of m) e ∙ all_joined m all items ∙ ap (λ vs. vs ++ all_of m items) h ∙ copies_after i (all_of m items) ∙ ap (λ n. copies n (all_of m items)) next
 
 pub copies_empty : (n : ℕ) → copies n [] ≡ []
 copies_empty zero = refl
@@ -110,7 +110,7 @@ some_more b bs (Some more) = ap Some (sym (append_assoc bs (b ∷ []) more))
 
 module _ (m : Memory) (rs : List Ref) (i : ℕ) (r : Ref) (bs : List ℕ) (whole : Option (List ℕ)) (h : i < length rs) (e : r ≡ get_or rs i r) (k : option_map (λ (more : List ℕ). bs ++ more) (bytes_in (all_of m (drop i rs))) ≡ whole) where
   byte_from : option_map (λ (more : List ℕ). bs ++ more) (more_bytes (byte_meant (integer_in (value_of m r))) (bytes_in (all_of m (drop (i + 1) rs)))) ≡ whole
-  byte_from = ap (λ vs. option_map (λ (more : List ℕ). bs ++ more) (bytes_in vs)) (sym (values_behind m rs i r h e)) ∙ k
+  byte_from = ap (λ vs. option_map (λ (more : List ℕ). bs ++ more) (bytes_in vs)) (sym (values_after m rs i r h e)) ∙ k
 
   pub byte_next : (b : ℕ) (more : List ℕ) → byte_meant (integer_in (value_of m r)) ≡ Some b → more ≡ bs ++ b ∷ [] → option_map (λ (xs : List ℕ). more ++ xs) (bytes_in (all_of m (drop (i + 1) rs))) ≡ whole
   byte_next b more f g =
@@ -144,7 +144,7 @@ one_of_more a t (Some b) = ap Some (or_assoc a t b)
 
 module _ (m : Memory) (rs : List Ref) (i : ℕ) (r : Ref) (a : Bool) (o : pure.Object) (whole : Option Bool) (h : i < length rs) (e : r ≡ get_or rs i r) (k : option_map (λ b. a || b) (is_of_one (all_of m (drop i rs)) (Some o)) ≡ whole) where
   kind_from : option_map (λ b. a || b) (is_of_one (value_of m r ∷ all_of m (drop (i + 1) rs)) (Some o)) ≡ whole
-  kind_from = ap (λ vs. option_map (λ b. a || b) (is_of_one vs (Some o))) (sym (values_behind m rs i r h e)) ∙ k
+  kind_from = ap (λ vs. option_map (λ b. a || b) (is_of_one vs (Some o))) (sym (values_after m rs i r h e)) ∙ k
 
   pub kind_next : (top : Kind) → pure.Class top ≡ value_of m r → option_map (λ b. (a || is_of top (Some o)) || b) (is_of_one (all_of m (drop (i + 1) rs)) (Some o)) ≡ whole
   kind_next top f =

@@ -1,8 +1,7 @@
 -- The items that are given one by one, and what is left of them after the arena has gone on: laws that the crates above
 -- cite.
-use Rattle.std.proofs.Common.{◌≡◌, ◌<◌, ◌≤◌, arith, ℤ, length, drop, Option, refl, sym, ap, subst, ◌∙◌}
+use Rattle.std.proofs.Common.{◌≡◌, arith, ℤ, length, drop, Option, refl, sym, ap, subst, ◌∙◌}
 use Rattle.si_semantics.specs.Operations as operations
-use Rattle.si_semantics.specs.Operations.{Iterator, Item, Exhausted, next_item}
 use Rattle.si_arena.specs.declared.value.Ref.{Ref}
 use Rattle.si_arena.specs.declared.value.Ref.TheVariants as value
 use Rattle.si_arena.specs.Memory.{Memory, Lies, Extends}

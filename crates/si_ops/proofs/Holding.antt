@@ -1,18 +1,17 @@
 -- What objects hold: lists, dicts, and what is neither.
-use Rattle.std.proofs.Common.{◌≡◌, ◌≢◌, ℕ, zero, suc, ◌+◌, ◌<◌, ◌≤◌, List, [], ◌∷◌, length, get_or, map, cond, codes, ne_eqb, Bool, true, false, Option, Some, None, Result, Ok, Err, refl, sym, ap, subst, ◌∙◌, arith}
+use Rattle.std.proofs.Common.{◌≡◌, ◌≢◌, ℕ, zero, suc, ◌+◌, ◌<◌, ◌≤◌, List, [], ◌∷◌, length, get_or, cond, codes, ne_eqb, Bool, true, false, Option, Some, None, Ok, Err, refl, sym, ap, ◌∙◌, arith}
 use Rattle.std.specs.Prelude.{slice_get, nat_eq, not, is_some, option_map}
 use Rattle.std.proofs.lemmas.Bool.Decides.{nat_tests}
 use Rattle.std.proofs.lemmas.List.{length-map, get_or-map}
 use Rattle.std.proofs.lemmas.Option.{slice_get-get_or, slice_get-map}
-use Rattle.si_plain.specs.declared.kind.Kind.{Kind}
 use Rattle.si_plain.specs.declared.kind.Kind.TheVariants.{TypeError, RuntimeError}
 use Rattle.si_semantics.specs.Value as pure
 use Rattle.si_semantics.specs.World.{World}
-use Rattle.si_semantics.specs.Dicts.{key_of, value_at, keys_in}
+use Rattle.si_semantics.specs.Dicts.{key_of, keys_in}
 use Rattle.si_semantics.specs.Value.{value_of_key}
 use Rattle.std.proofs.lemmas.Bool.{eq-eqb}
 use Rattle.si_ops.proofs.KeysOf.{key_back}
-use Rattle.si_semantics.specs.Operations.{is_true_object, object_contains, is_key, iterator_at, next_of_list, next_of_dict, item_or_end, Next, Item, Exhausted, Refuses, Listed, Keys, length_of_object, wrong_type}
+use Rattle.si_semantics.specs.Operations.{is_true_object, object_contains, is_key, iterator_at, next_of_list, next_of_dict, item_or_end, Exhausted, Refuses, Keys, length_of_object, wrong_type}
 use Rattle.si_arena.specs.declared.value.Ref.{Ref}
 use Rattle.si_arena.specs.declared.value.Ref.TheVariants as ref
 use Rattle.si_arena.specs.declared.view.View.{View}

@@ -1,11 +1,10 @@
 -- Keys of dicts.
-use Rattle.std.proofs.Common.{◌≡◌, ◌≢◌, ℕ, zero, suc, ◌<◌, List, [], ◌∷◌, length, map, Bool, true, false, Option, Some, None, refl, sym, ap, subst, ◌∙◌, arith}
-use Rattle.std.specs.Prelude.{is_some, option_map, slice_get}
-use Rattle.std.proofs.lemmas.List.{length-map}
+use Rattle.std.proofs.Common.{◌≡◌, Bool, true, false, Option, Some, None, refl, sym, ◌∙◌}
+use Rattle.std.specs.Prelude.{is_some}
 use Rattle.si_semantics.specs.Value as pure
 use Rattle.si_semantics.specs.Value.{value_of_key}
 use Rattle.si_semantics.specs.Dicts.{key_of}
-use Rattle.si_arena.specs.Memory.{Memory, key_meant, IsKey, value_by}
+use Rattle.si_arena.specs.Memory.{key_meant, IsKey}
 
 -- a key is the value that it was
 pub key_back : (v : pure.Value) → IsKey v → value_of_key (key_meant v) ≡ v

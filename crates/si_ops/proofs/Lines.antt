@@ -8,7 +8,7 @@ use Rattle.std.proofs.lemmas.Str.{encodes-append}
 use Rattle.si_plain.specs.declared.kind.Kind.{Kind}
 use Rattle.si_plain.specs.declared.kind.Kind.TheVariants.{OverflowError, RecursionError}
 use Rattle.si_semantics.specs.Value.{Text, Value, Object}
-use Rattle.si_semantics.specs.Text.{Written, Whole, Broken, str_in, str_of, written, max_nested, max_length, line_of, line_behind}
+use Rattle.si_semantics.specs.Text.{Written, Whole, Broken, str_in, str_of, written, max_nested, max_length, line_of, line_after}
 use Rattle.si_arena.specs.declared.value.Ref.{Ref}
 use Rattle.si_arena.specs.declared.cause.Cause.{Cause}
 use Rattle.si_arena.specs.declared.cause.Cause.TheVariants.{Arithmetic, TooLong, WrongType, NotCallable, WrongArguments, TooDeep, NoneActive, Outside, SizeChanged, NotDefined, NotBound, NoAttribute, Refused}
@@ -118,15 +118,15 @@ unfolding lib.Utf8.encode
 newline_bytes = refl
 
 spaced_next : (store : List Object) (v : Value) (vs : List Value) (t u : Text) (q : Result Text Kind) → ((rest : Text) → spaced_in store vs ≡ Ok rest → encode_utf8_all rest ≡ spaced_bytes store vs) → str_in store v ≡ Ok u → spaced_in store vs ≡ q → ◌≡◌ {A = Result Text Kind} (elim q [ Err k ↦ Err k | Ok rest ↦ Ok (32 ∷ (u ++ rest)) ]) (Ok t) → encode_utf8_all t ≡ spaced_bytes store (v ∷ vs)
-spaced_next store v vs t u (Err k) behind h g f = cc
-spaced_next store v vs t u (Ok rest) behind h g f =
+spaced_next store v vs t u (Err k) after h g f = cc
+spaced_next store v vs t u (Ok rest) after h g f =
     let same : 32 ∷ (u ++ rest) ≡ t = cc in
     ap encode_utf8_all (sym same) ∙ space_bytes (u ++ rest)
-    ∙ ap (λ x. 32 ∷ x) (encodes-append u rest ∙ ap₂ (λ x y. x ++ y) (written_bytes (str_of max_nested store v) u h) (behind rest g))
+    ∙ ap (λ x. 32 ∷ x) (encodes-append u rest ∙ ap₂ (λ x y. x ++ y) (written_bytes (str_of max_nested store v) u h) (after rest g))
 
 spaced_first : (store : List Object) (v : Value) (vs : List Value) (t : Text) (r : Result Text Kind) → ((rest : Text) → spaced_in store vs ≡ Ok rest → encode_utf8_all rest ≡ spaced_bytes store vs) → str_in store v ≡ r → ◌≡◌ {A = Result Text Kind} (elim r [ Err k ↦ Err k | Ok u ↦ elim (spaced_in store vs) [ Err k ↦ Err k | Ok rest ↦ Ok (32 ∷ (u ++ rest)) ] ]) (Ok t) → encode_utf8_all t ≡ spaced_bytes store (v ∷ vs)
-spaced_first store v vs t (Err k) behind h f = cc
-spaced_first store v vs t (Ok u) behind h f = spaced_next store v vs t u (spaced_in store vs) behind h refl f
+spaced_first store v vs t (Err k) after h f = cc
+spaced_first store v vs t (Ok u) after h f = spaced_next store v vs t u (spaced_in store vs) after h refl f
 
 spaced_texts : (store : List Object) (vs : List Value) (t : Text) → spaced_in store vs ≡ Ok t → encode_utf8_all t ≡ spaced_bytes store vs
 spaced_texts store [] t e = let none : [] ≡ t = cc in ap encode_utf8_all (sym none)
@@ -190,23 +190,23 @@ next_refused U store vs v ws all s t u w NoMemory e h p q = next_lacks store vs 
 abbrev ended : Result Text Kind → Result Text Kind
 ended p = joined p (Ok (10 ∷ []))
 
-behind_step : (t : Text) (r : Result Text Kind) (go : Text → Result Text Kind) (p : Result Text Kind) → ((u : Text) → go u ≡ joined (Ok u) (ended p)) → elim r [ Err k ↦ Err k | Ok u ↦ elim (go u) [ Err k ↦ Err k | Ok rest ↦ Ok (t ++ 32 ∷ rest) ] ] ≡ joined (Ok t) (ended (spaced_by r p))
-behind_step t (Err k) go p h = refl
-behind_step t (Ok u) go (Err k) h = ap (λ (x : Result Text Kind). elim x [ Err k ↦ Err k | Ok rest ↦ Ok (t ++ 32 ∷ rest) ]) (h u)
-behind_step t (Ok u) go (Ok s) h =
+after_step : (t : Text) (r : Result Text Kind) (go : Text → Result Text Kind) (p : Result Text Kind) → ((u : Text) → go u ≡ joined (Ok u) (ended p)) → elim r [ Err k ↦ Err k | Ok u ↦ elim (go u) [ Err k ↦ Err k | Ok rest ↦ Ok (t ++ 32 ∷ rest) ] ] ≡ joined (Ok t) (ended (spaced_by r p))
+after_step t (Err k) go p h = refl
+after_step t (Ok u) go (Err k) h = ap (λ (x : Result Text Kind). elim x [ Err k ↦ Err k | Ok rest ↦ Ok (t ++ 32 ∷ rest) ]) (h u)
+after_step t (Ok u) go (Ok s) h =
     ap (λ (x : Result Text Kind). elim x [ Err k ↦ Err k | Ok rest ↦ Ok (t ++ 32 ∷ rest) ]) (h u)
     ∙ ap (λ x. Ok (t ++ 32 ∷ x)) (sym (append_assoc u s (10 ∷ [])))
 
-behind_is : (store : List Object) (t : Text) (vs : List Value) → line_behind store t vs ≡ joined (Ok t) (ended (spaced_in store vs))
-behind_is store t [] = refl
-behind_is store t (v ∷ vs) = behind_step t (str_in store v) (λ u. line_behind store u vs) (spaced_in store vs) (λ u. behind_is store u vs)
+after_is : (store : List Object) (t : Text) (vs : List Value) → line_after store t vs ≡ joined (Ok t) (ended (spaced_in store vs))
+after_is store t [] = refl
+after_is store t (v ∷ vs) = after_step t (str_in store v) (λ u. line_after store u vs) (spaced_in store vs) (λ u. after_is store u vs)
 
 begun : (r : Result Text Kind) (go : Text → Result Text Kind) (q : Result Text Kind) → ((t : Text) → go t ≡ joined (Ok t) q) → elim r [ Err k ↦ Err k | Ok t ↦ go t ] ≡ joined r q
 begun (Err k) go q h = refl
 begun (Ok t) go q h = h t
 
 line_is : (store : List Object) (v : Value) (vs : List Value) → line_of store (v ∷ vs) ≡ joined (str_in store v) (ended (spaced_in store vs))
-line_is store v vs = begun (str_in store v) (λ t. line_behind store t vs) (ended (spaced_in store vs)) (λ t. behind_is store t vs)
+line_is store v vs = begun (str_in store v) (λ t. line_after store t vs) (ended (spaced_in store vs)) (λ t. after_is store t vs)
 
 first_fails : (p q : Result Text Kind) (k : Kind) → p ≡ Err k → joined p q ≡ Err k
 first_fails p q k e = ap (λ r. joined r q) e

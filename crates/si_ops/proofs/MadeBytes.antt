@@ -102,9 +102,9 @@ none_made a b c i at bs h none s =
     ∙ ap (λ is. option_map (λ (more : List ℕ). bs ++ more) (bytes_from is)) (one_left n s.0 c left)
     ∙ ap (option_map (λ (more : List ℕ). bs ++ more)) (there (stepped (n - 1) (s.0 +ℤ c) c))
 
-more_behind : (bs : List ℕ) (b : ℕ) (o : Option (List ℕ)) → option_map (λ (more : List ℕ). bs ++ more) (option_map (λ more. b ∷ more) o) ≡ option_map (λ (more : List ℕ). (bs ++ b ∷ []) ++ more) o
-more_behind bs b None = refl
-more_behind bs b (Some more) = ap Some (sym (append_assoc bs (b ∷ []) more))
+more_after : (bs : List ℕ) (b : ℕ) (o : Option (List ℕ)) → option_map (λ (more : List ℕ). bs ++ more) (option_map (λ more. b ∷ more) o) ≡ option_map (λ (more : List ℕ). (bs ++ b ∷ []) ++ more) o
+more_after bs b None = refl
+more_after bs b (Some more) = ap Some (sym (append_assoc bs (b ∷ []) more))
 
 no_none : (b : ℕ) → nat_lt b 256 ≡ true → IsNone (pos b) → ⊥
 no_none b h none =
@@ -126,7 +126,7 @@ one_made a b c i at next byte bs more h e small near is s =
       at +ℤ c,
       near,
       ap (λ (xs : List ℕ). option_map (λ (m : List ℕ). xs ++ m) (bytes_from rest)) is
-          ∙ sym (more_behind bs byte (bytes_from rest))
+          ∙ sym (more_after bs byte (bytes_from rest))
           ∙ ap (option_map (λ (m : List ℕ). bs ++ m)) (sym first)
           ∙ ap (λ xs. option_map (λ (m : List ℕ). bs ++ m) (bytes_from xs)) (sym there)
           ∙ s.2,

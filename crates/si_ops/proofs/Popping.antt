@@ -1,14 +1,13 @@
 -- What methods do with lists and dicts, by what the definitions say of a world.
-use Rattle.std.proofs.Common.{◌≡◌, ℕ, ◌+◌, ◌<◌, ◌≤◌, List, [], ◌∷◌, ◌++◌, length, Bool, true, false, cond, not, Option, Some, None, refl, sym, ap, subst, ◌∙◌, arith}
+use Rattle.std.proofs.Common.{◌≡◌, ℕ, ◌+◌, List, [], ◌∷◌, ◌++◌, length, Bool, true, false, cond, not, Option, Some, refl, sym, ap, subst, ◌∙◌, arith}
 use Rattle.std.specs.Prelude.{slice_get, nat_lt, ℤ}
 use Rattle.std.proofs.lemmas.Bool.Decides.{nat_tests}
-use Rattle.si_semantics.specs.Value.{Value, Key, Object, Items, Pairs, Address}
+use Rattle.si_semantics.specs.Value.{Value, Object, Items, Pairs, Address}
 use Rattle.si_semantics.specs.Text.{max_length}
-use Rattle.si_semantics.specs.World.{World, Ran}
-use Rattle.si_semantics.specs.Dicts.{key_of}
-use Rattle.si_semantics.specs.Operations.{wrong_type, too_long, integer_in}
-use Rattle.si_semantics.specs.Containers.{did, append, pop_item, pop_in_list, get_value, get_in_dict, pop_value, pop_in_dict}
-use Rattle.si_arena.specs.Memory.{Memory, list_at, dict_at, IsListAt, IsDictAt}
+use Rattle.si_semantics.specs.World.{World}
+use Rattle.si_semantics.specs.Operations.{wrong_type, too_long}
+use Rattle.si_semantics.specs.Containers.{did, append, pop_item, get_value, pop_value}
+use Rattle.si_arena.specs.Memory.{Memory}
 use Rattle.si_ops.specs.inner.Held.{IsPlain, IsPlainObject}
 
 -- the object that is held at an address, by the address that it was found at

@@ -82,8 +82,8 @@ module _ (u v : pure.Value) (vs : List pure.Value) (w : World) where
       by (Ok false) e = let g : gave (pure.Truth false) w ≡ refused k t w = ap (λ r. truth r w) (sym e) ∙ h in cc
 
 -- the values from an index on
-pub values_behind : (m : Memory) (rs : List Ref) (i : ℕ) (r : Ref) → i < length rs → r ≡ get_or rs i r → all_of m (drop i rs) ≡ value_of m r ∷ all_of m (drop (i + 1) rs)
-values_behind m rs i r h e =
+pub values_after : (m : Memory) (rs : List Ref) (i : ℕ) (r : Ref) → i < length rs → r ≡ get_or rs i r → all_of m (drop i rs) ≡ value_of m r ∷ all_of m (drop (i + 1) rs)
+values_after m rs i r h e =
     ap (all_of m) (drop-cons rs i r h)
     ∙ ap (λ x. value_of m x ∷ all_of m (drop (suc i) rs)) (sym e)
     ∙ ap (λ k. value_of m r ∷ all_of m (drop k rs)) (sym (add-one i))
@@ -96,25 +96,25 @@ chosen m false x u = refl
 pub least_step : (m : Memory) (rs : List Ref) (i : ℕ) (u x new : Ref) (b : Bool) → i < length rs → x ≡ get_or rs i x → Gives (λ w. compare tree.Less (value_of m x) (value_of m u) w) m (pure.Truth b) → new ≡ cond b x u → (w : World) → w.store ≡ m.store → least (value_of m u) (all_of m (drop i rs)) w ≡ least (value_of m new) (all_of m (drop (i + 1) rs)) w
 least_step m rs i u x new b l e h n w g =
     let vs = all_of m (drop (i + 1) rs) in
-    ap (λ xs. least (value_of m u) xs w) (values_behind m rs i x l e)
+    ap (λ xs. least (value_of m u) xs w) (values_after m rs i x l e)
     ∙ least_next (value_of m u) (value_of m x) vs w b (h w g)
     ∙ ap (λ v. least v vs w) (chosen m b x u ∙ ap (value_of m) (sym n))
 
 pub least_throws : (m : Memory) (rs : List Ref) (i : ℕ) (u x : Ref) (cause : Cause) (f : World → Ran) → i < length rs → x ≡ get_or rs i x → ((w : World) → w.store ≡ m.store → f w ≡ least (value_of m u) (all_of m (drop i rs)) w) → Throws (λ w. compare tree.Less (value_of m x) (value_of m u) w) m cause → Throws f m cause
 least_throws m rs i u x cause f l e is h =
-    ((λ w g. is w g ∙ ap (λ xs. least (value_of m u) xs w) (values_behind m rs i x l e) ∙ least_refused (value_of m u) (value_of m x) (all_of m (drop (i + 1) rs)) w _ _ (h.0 w g)), h.1)
+    ((λ w g. is w g ∙ ap (λ xs. least (value_of m u) xs w) (values_after m rs i x l e) ∙ least_refused (value_of m u) (value_of m x) (all_of m (drop (i + 1) rs)) w _ _ (h.0 w g)), h.1)
 
 -- one more of them, for the greatest
 pub greatest_step : (m : Memory) (rs : List Ref) (i : ℕ) (u x new : Ref) (b : Bool) → i < length rs → x ≡ get_or rs i x → Gives (λ w. compare tree.Greater (value_of m x) (value_of m u) w) m (pure.Truth b) → new ≡ cond b x u → (w : World) → w.store ≡ m.store → greatest (value_of m u) (all_of m (drop i rs)) w ≡ greatest (value_of m new) (all_of m (drop (i + 1) rs)) w
 greatest_step m rs i u x new b l e h n w g =
     let vs = all_of m (drop (i + 1) rs) in
-    ap (λ xs. greatest (value_of m u) xs w) (values_behind m rs i x l e)
+    ap (λ xs. greatest (value_of m u) xs w) (values_after m rs i x l e)
     ∙ greatest_next (value_of m u) (value_of m x) vs w b (h w g)
     ∙ ap (λ v. greatest v vs w) (chosen m b x u ∙ ap (value_of m) (sym n))
 
 pub greatest_throws : (m : Memory) (rs : List Ref) (i : ℕ) (u x : Ref) (cause : Cause) (f : World → Ran) → i < length rs → x ≡ get_or rs i x → ((w : World) → w.store ≡ m.store → f w ≡ greatest (value_of m u) (all_of m (drop i rs)) w) → Throws (λ w. compare tree.Greater (value_of m x) (value_of m u) w) m cause → Throws f m cause
 greatest_throws m rs i u x cause f l e is h =
-    ((λ w g. is w g ∙ ap (λ xs. greatest (value_of m u) xs w) (values_behind m rs i x l e) ∙ greatest_refused (value_of m u) (value_of m x) (all_of m (drop (i + 1) rs)) w _ _ (h.0 w g)), h.1)
+    ((λ w g. is w g ∙ ap (λ xs. greatest (value_of m u) xs w) (values_after m rs i x l e) ∙ greatest_refused (value_of m u) (value_of m x) (all_of m (drop (i + 1) rs)) w _ _ (h.0 w g)), h.1)
 
 -- two arguments or more
 pub of_two : (m : Memory) (f : pure.Value → List pure.Value → World → Ran) (g : List pure.Value → World → Ran) (rs others : List Ref) (first : Ref) (r : Result Ref Cause) → ((u v : pure.Value) (vs : List pure.Value) → g (u ∷ v ∷ vs) ≡ f u (v ∷ vs)) → 2 ≤ length rs → first ≡ get_or rs 0 first → others ≡ drop 1 rs → Tells (f (value_of m first) (all_of m others)) m r → Tells (g (all_of m rs)) m r

@@ -1,4 +1,4 @@
--- What is written of values, one behind the other, at the end of a String.
+-- What is written of values, one after the other, at the end of a String.
 use Rattle.std.proofs.Common.{◌≡◌, ℕ, ◌+◌, ◌*◌, ◌<◌, ◌≤◌, List, [], ◌∷◌, ◌++◌, length, drop, cond, Bool, true, false, nat_lt, lt-ltb, ltb-true, encode_utf8, encode_utf8_all, Result, Ok, Err, refl, sym, ap, subst, ◌∙◌, arith, append_assoc, append-nil, length-append}
 use Rattle.std.proofs.lemmas.Str.{encodes-append, length-encode, len_utf8_bounds}
 use Rattle.std.specs.String.{string_bytes}
@@ -6,7 +6,7 @@ use Rattle.std.specs.declared.string.String.{String}
 use Rattle.si_plain.specs.Characters.{characters_of}
 use Rattle.si_plain.specs.declared.kind.Kind.TheVariants.{OverflowError, RecursionError}
 use Rattle.si_semantics.specs.Value.{Text}
-use Rattle.si_semantics.specs.Text.{Written, Whole, Broken, behind, followed, between, written, max_length}
+use Rattle.si_semantics.specs.Text.{Written, Whole, Broken, after, followed, between, written, max_length}
 use Rattle.si_arena.specs.declared.cause.Cause.TheVariants.{Arithmetic, TooLong, WrongType, NotCallable, WrongArguments, TooDeep, NoneActive, Outside, SizeChanged, NotDefined, NotBound, NoAttribute, Refused}
 use Rattle.si_arena.specs.declared.cause.Fault.{Fault}
 use Rattle.si_arena.specs.declared.cause.Fault.TheVariants.{Raises, NoMemory}
@@ -14,18 +14,18 @@ use Rattle.si_ops.specs.Writing.{Adds, Lacks, Begins, Overruns, Puts, Writes, te
 use Rattle.si_ops.proofs.Adding.{adds_none, adds_more, adds_as, lacks_as, lacks_first, lacks_next}
 use Rattle.si_ops.proofs.Ends.{begins_adds, text_at}
 
--- ---- texts one behind the other
+-- ---- texts one after the other
 
-text_behind : (t : Text) (w : Written) → text_written (behind t w) ≡ t ++ text_written w
-text_behind t (Whole u) = refl
-text_behind t (Broken u) = refl
+text_after : (t : Text) (w : Written) → text_written (after t w) ≡ t ++ text_written w
+text_after t (Whole u) = refl
+text_after t (Broken u) = refl
 
-spelled_behind : (t : Text) (w : Written) → spelled (behind t w) ≡ encode_utf8_all t ++ spelled w
-spelled_behind t w = ap encode_utf8_all (text_behind t w) ∙ encodes-append t (text_written w)
+spelled_after : (t : Text) (w : Written) → spelled (after t w) ≡ encode_utf8_all t ++ spelled w
+spelled_after t w = ap encode_utf8_all (text_after t w) ∙ encodes-append t (text_written w)
 
 -- whatever follows, a text stands in front
 in_front : (a b : Written) → (rest : List ℕ) × (spelled (followed a b) ≡ spelled a ++ rest)
-in_front (Whole t) b = (spelled b, spelled_behind t b)
+in_front (Whole t) b = (spelled b, spelled_after t b)
 in_front (Broken t) b = ([], sym (append-nil (encode_utf8_all t)))
 
 pub followed_none : (w : Written) → followed w (Whole []) ≡ w
@@ -55,29 +55,29 @@ overruns_next {a = a} p q = record {
 overruns_as : {Z : Type 0} {a b : List ℕ} {start : ℕ} {s t : String Z} → a ≡ b → Overruns a start s t → Overruns b start s t
 overruns_as {start = start} {s = s} {t = t} e p = subst (λ x. Overruns x start s t) e p
 
--- ---- one behind the other
+-- ---- one after the other
 
--- a text was added, and then what stands behind it
-pub puts_behind : {Z : Type 0} (V : Type 0) (t : Text) (b : Written) (start : ℕ) (x y z : String Z) (r : Result V Fault) → Adds (encode_utf8_all t) x y → Puts {U = V} b start y z r → Puts {U = V} (behind t b) start x z r
-puts_behind V t b start x y z (Ok v) p q = (t ++ q.0, ap (behind t) q.1, adds_as (sym (encodes-append t q.0)) (adds_more p q.2))
-puts_behind V t b start x y z (Err NoMemory) p q = lacks_as (sym (spelled_behind t b)) (lacks_next p q)
-puts_behind V t b start x y z (Err (Raises TooDeep)) p q = (t ++ q.0, ap (behind t) q.1, adds_as (sym (encodes-append t q.0)) (adds_more p q.2))
-puts_behind V t b start x y z (Err (Raises TooLong)) p q = overruns_as (sym (spelled_behind t b)) (overruns_next p q)
-puts_behind V t b start x y z (Err (Raises (Arithmetic k))) p q = q
-puts_behind V t b start x y z (Err (Raises WrongType)) p q = q
-puts_behind V t b start x y z (Err (Raises NotCallable)) p q = q
-puts_behind V t b start x y z (Err (Raises WrongArguments)) p q = q
-puts_behind V t b start x y z (Err (Raises NoneActive)) p q = q
-puts_behind V t b start x y z (Err (Raises Outside)) p q = q
-puts_behind V t b start x y z (Err (Raises SizeChanged)) p q = q
-puts_behind V t b start x y z (Err (Raises (NotDefined n))) p q = q
-puts_behind V t b start x y z (Err (Raises (NotBound n))) p q = q
-puts_behind V t b start x y z (Err (Raises (NoAttribute n))) p q = q
-puts_behind V t b start x y z (Err (Raises (Refused n))) p q = q
+-- a text was added, and then what stands after it
+pub puts_after : {Z : Type 0} (V : Type 0) (t : Text) (b : Written) (start : ℕ) (x y z : String Z) (r : Result V Fault) → Adds (encode_utf8_all t) x y → Puts {U = V} b start y z r → Puts {U = V} (after t b) start x z r
+puts_after V t b start x y z (Ok v) p q = (t ++ q.0, ap (after t) q.1, adds_as (sym (encodes-append t q.0)) (adds_more p q.2))
+puts_after V t b start x y z (Err NoMemory) p q = lacks_as (sym (spelled_after t b)) (lacks_next p q)
+puts_after V t b start x y z (Err (Raises TooDeep)) p q = (t ++ q.0, ap (after t) q.1, adds_as (sym (encodes-append t q.0)) (adds_more p q.2))
+puts_after V t b start x y z (Err (Raises TooLong)) p q = overruns_as (sym (spelled_after t b)) (overruns_next p q)
+puts_after V t b start x y z (Err (Raises (Arithmetic k))) p q = q
+puts_after V t b start x y z (Err (Raises WrongType)) p q = q
+puts_after V t b start x y z (Err (Raises NotCallable)) p q = q
+puts_after V t b start x y z (Err (Raises WrongArguments)) p q = q
+puts_after V t b start x y z (Err (Raises NoneActive)) p q = q
+puts_after V t b start x y z (Err (Raises Outside)) p q = q
+puts_after V t b start x y z (Err (Raises SizeChanged)) p q = q
+puts_after V t b start x y z (Err (Raises (NotDefined n))) p q = q
+puts_after V t b start x y z (Err (Raises (NotBound n))) p q = q
+puts_after V t b start x y z (Err (Raises (NoAttribute n))) p q = q
+puts_after V t b start x y z (Err (Raises (Refused n))) p q = q
 
 -- it was written whole, and then what follows
 pub puts_next : {Z : Type 0} (U V : Type 0) (a b : Written) (start : ℕ) (x y z : String Z) (u : U) (r : Result V Fault) → Puts {U = U} a start x y (Ok u) → Puts {U = V} b start y z r → Puts {U = V} (followed a b) start x z r
-puts_next U V a b start x y z u r p q = subst (λ w. Puts {U = V} (followed w b) start x z r) (sym p.1) (puts_behind V p.0 b start x y z r p.2 q)
+puts_next U V a b start x y z u r p q = subst (λ w. Puts {U = V} (followed w b) start x z r) (sym p.1) (puts_after V p.0 b start x y z r p.2 q)
 
 -- it was not written whole, whatever follows
 pub puts_ends : {Z : Type 0} (U V : Type 0) (a b : Written) (start : ℕ) (x y : String Z) (f : Fault) → Puts {U = U} a start x y (Err f) → Puts {U = V} (followed a b) start x y (Err f)
@@ -143,7 +143,7 @@ judged {Z = Z} w start s t long r q e p h is = subst (λ x. Writes {U = Unit {0}
     by (Err (Raises (NoAttribute n))) long p h = absurd p
     by (Err (Raises (Refused n))) long p h = absurd p
 
--- what was put stands behind what was there
+-- what was put stands after what was there
 pub begins_puts : {Z : Type 0} (U : Type 0) (w : Written) (start : ℕ) (s t : String Z) (r : Result U Fault) → Puts {U = U} w start s t r → Begins s t
 begins_puts U w start s t (Ok u) p = begins_adds p.2
 begins_puts U w start s t (Err NoMemory) p = p.part
@@ -175,13 +175,13 @@ row_lacks opening w closing start x y e p = puts_ends (Unit {0}) (Unit {0}) (Who
 
 -- the row is not written whole
 pub row_breaks : {Z : Type 0} (opening : Text) (w : Written) (closing : Text) {bs : List ℕ} (start : ℕ) (x y z : String Z) (f : Fault) → bs ≡ encode_utf8_all opening → Adds bs x y → Puts {U = Unit {0}} w start y z (Err f) → Puts {U = Unit {0}} (between opening w closing) start x z (Err f)
-row_breaks opening w closing start x y z f e p q = puts_behind (Unit {0}) opening (followed w (Whole closing)) start x y z (Err f) (adds_as e p) (puts_ends (Unit {0}) (Unit {0}) w (Whole closing) start y z f q)
+row_breaks opening w closing start x y z f e p q = puts_after (Unit {0}) opening (followed w (Whole closing)) start x y z (Err f) (adds_as e p) (puts_ends (Unit {0}) (Unit {0}) w (Whole closing) start y z f q)
 
--- it is, and what closes it is put behind it, or there is no room for that
+-- it is, and what closes it is put after it, or there is no room for that
 pub row_closes : {Z : Type 0} (opening : Text) (w : Written) (closing : Text) {bs : List ℕ} (start : ℕ) (x y z s : String Z) (u : Unit {0}) (r : Result (Unit {0}) Fault) → bs ≡ encode_utf8_all opening → Adds bs x y → Puts {U = Unit {0}} w start y z (Ok u) → Puts {U = Unit {0}} (Whole closing) start z s r → Puts {U = Unit {0}} (between opening w closing) start x s r
-row_closes opening w closing start x y z s u r e p q h = puts_behind (Unit {0}) opening (followed w (Whole closing)) start x y s r (adds_as e p) (puts_next (Unit {0}) (Unit {0}) w (Whole closing) start y z s u r q h)
+row_closes opening w closing start x y z s u r e p q h = puts_after (Unit {0}) opening (followed w (Whole closing)) start x y s r (adds_as e p) (puts_next (Unit {0}) (Unit {0}) w (Whole closing) start y z s u r q h)
 
--- what is put behind the rest, is behind all
+-- what is put after the rest, is after all
 abbrev pub Leads : {Z : Type 0} → Written → Written → ℕ → String Z → String Z → Type 0
 Leads {Z = Z} rest all start now first = (s : String Z) (r : Result (Unit {0}) Fault) → Puts {U = Unit {0}} rest start now s r → Puts {U = Unit {0}} all start first s r
 

@@ -1,15 +1,13 @@
 -- Operators between lists, and between lists and integers, that go as their definitions.
-use Rattle.std.proofs.Common.{◌≡◌, ◌≢◌, ℕ, ℤ, List, ◌++◌, length, Bool, true, false, cond, Option, Some, None, Result, Ok, Err, refl, sym, ap, subst, ◌∙◌, nat_lt, pos, negsuc}
+use Rattle.std.proofs.Common.{◌≡◌, ◌≢◌, ℕ, ℤ, List, ◌++◌, Bool, Option, Some, None, Err, refl, sym, ap, subst, ◌∙◌}
 use Rattle.std.specs.Prelude.{slice_get}
 use Rattle.si_semantics.specs.Value as pure
 use Rattle.si_semantics.specs.Tree as tree
-use Rattle.si_semantics.specs.World.{World, Ran}
+use Rattle.si_semantics.specs.World.{World}
 use Rattle.si_semantics.specs.Operations.{operate, wrong_type, integer_in, int_of_truth, joined_objects, repeated_object, list_within, list_repeated}
 use Rattle.si_plain.specs.declared.operators.BinaryOperator.{BinaryOperator}
 use Rattle.si_plain.specs.declared.operators.BinaryOperator.TheVariants as binary
-use Rattle.si_arena.specs.declared.value.Ref.{Ref}
 use Rattle.si_arena.specs.declared.cause.Cause.TheVariants.{WrongType}
-use Rattle.si_arena.specs.declared.cause.Fault.{Fault}
 use Rattle.si_arena.specs.declared.cause.Fault.TheVariants.{Raises}
 use Rattle.si_arena.specs.Memory.{Memory, list_at, IsListAt}
 use Rattle.si_ops.specs.Runs.{Runs}

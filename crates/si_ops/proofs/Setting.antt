@@ -1,5 +1,5 @@
 -- What changes lists and dicts, by what the definitions say of a world.
-use Rattle.std.proofs.Common.{◌≡◌, ◌≢◌, ℕ, ◌+◌, ◌<◌, List, [], ◌∷◌, ◌++◌, length, Bool, true, false, cond, Option, Some, None, Result, Ok, Err, refl, sym, ap, subst, ◌∙◌, arith}
+use Rattle.std.proofs.Common.{◌≡◌, ◌≢◌, ℕ, ◌+◌, List, ◌++◌, length, true, false, cond, Option, Some, None, Ok, refl, sym, ap, subst, ◌∙◌}
 use Rattle.std.specs.Prelude.{slice_get, slice_set, nat_lt, ℤ, option_map}
 use Rattle.si_semantics.specs.Value as pure
 use Rattle.si_semantics.specs.Tree as tree
@@ -7,16 +7,15 @@ use Rattle.si_semantics.specs.Value.{Value, Key, Object, Items, Pairs, Address, 
 use Rattle.si_semantics.specs.Text.{max_length}
 use Rattle.si_semantics.specs.World.{World, Ran}
 use Rattle.si_semantics.specs.Dicts.{key_of, value_at, with_pair, without_key}
-use Rattle.si_semantics.specs.Operations.{gave, wrong_type, too_long, integer_in, items_from, operate}
+use Rattle.si_semantics.specs.Operations.{gave, wrong_type, too_long, items_from, operate}
 use Rattle.si_semantics.specs.Subscription.{item_meant, outside}
 use Rattle.si_semantics.specs.Containers as containers
-use Rattle.si_semantics.specs.Containers.{changed, did, no_key, item_set, set_in_list, set_in_dict, set_in_object, set_item, item_deleted, without_item, delete_in_list, delete_in_dict, delete_in_object, delete_item, pair_deleted, extended, added_to, augment, append, pop_item, pop_in_list, item_taken, taken_at, get_value, get_in_dict, value_or, pop_value, pop_in_dict, pair_taken}
+use Rattle.si_semantics.specs.Containers.{changed, did, no_key, item_set, set_in_list, set_in_dict, set_in_object, set_item, item_deleted, without_item, delete_in_list, delete_in_dict, delete_in_object, delete_item, pair_deleted, extended, added_to, augment, pop_in_list, item_taken, taken_at, get_in_dict, value_or, pop_in_dict, pair_taken}
 use Rattle.si_arena.specs.declared.value.Ref.{Ref}
-use Rattle.si_arena.specs.Memory.{Memory, value_of, list_at, dict_at, value_by, with_object, Extends, IsListAt, IsDictAt, IsKey, key_meant}
+use Rattle.si_arena.specs.Memory.{Memory, value_of, list_at, value_by, with_object, IsListAt, IsDictAt, IsKey, key_meant}
 use Rattle.si_plain.specs.declared.operators.BinaryOperator.{BinaryOperator}
 use Rattle.si_plain.specs.declared.operators.BinaryOperator.TheVariants as binary
 use Rattle.si_ops.specs.Operands.{IsNoList, IsNoListObject}
-use Rattle.si_ops.specs.Calls.{GivesAnew}
 use Rattle.si_ops.specs.Changes.{Changes, IsNoDict, IsNoDictObject}
 use Rattle.si_ops.specs.inner.Held.{IsPlain, IsPlainObject}
 use Rattle.si_ops.proofs.Changing.{changed_gives, extends_changed}

@@ -7,8 +7,8 @@ use Rattle.si_plain.specs.declared.kind.Kind.{Kind}
 use Rattle.si_plain.specs.declared.kind.Kind.TheVariants as kind
 use Rattle.si_plain.specs.Kinds.{name_of}
 use Rattle.si_semantics.specs.Value as pure
-use Rattle.si_semantics.specs.Opened.{Opened, Atom, opened, opened_at}
-use Rattle.si_semantics.specs.Text.{Written, Whole, Broken, behind, followed, between, rest_by, items_by, pair_by, tuple_end, is_inside, unless_inside, repr_of, str_opened, str_exception, str_of, repr_atom, repr_text}
+use Rattle.si_semantics.specs.Opened.{Atom, opened, opened_at}
+use Rattle.si_semantics.specs.Text.{Written, Whole, Broken, after, followed, between, rest_by, items_by, tuple_end, is_inside, unless_inside, repr_of, str_opened, str_exception, str_of, repr_atom, repr_text}
 use Rattle.si_arena.specs.declared.value.Ref.{Ref}
 use Rattle.si_arena.specs.declared.view.View.{View}
 use Rattle.si_arena.specs.declared.view.View.TheVariants as view
@@ -138,7 +138,7 @@ pub thread_is : codes "<Thread>" ≡ encode_utf8_all (codes "<Thread>")
 unfolding lib.Utf8.encode
 thread_is = refl
 
--- what stands behind the items of a tuple
+-- what stands after the items of a tuple
 pub end_is : (vs : List pure.Value) → tuple_end vs ≡ encode_utf8_all (tuple_end vs)
 unfolding lib.Utf8.encode
 end_is [] = refl
@@ -158,7 +158,7 @@ all_left m rs i r l e =
     let next : suc i ≡ i + 1 = omega arith in
     ap (all_of m) (drop-cons rs i r l) ∙ ap (λ x. value_of m x ∷ all_of m (drop (suc i) rs)) (sym e) ∙ ap (λ k. value_of m r ∷ all_of m (drop k rs)) next
 
-pub rest_left : (f : pure.Value → Written) (m : Memory) (rs : List Ref) (i : ℕ) (r : Ref) → i < length rs → r ≡ get_or rs i r → rest_by f (all_of m (drop i rs)) ≡ behind (codes ", ") (followed (f (value_of m r)) (rest_by f (all_of m (drop (i + 1) rs))))
+pub rest_left : (f : pure.Value → Written) (m : Memory) (rs : List Ref) (i : ℕ) (r : Ref) → i < length rs → r ≡ get_or rs i r → rest_by f (all_of m (drop i rs)) ≡ after (codes ", ") (followed (f (value_of m r)) (rest_by f (all_of m (drop (i + 1) rs))))
 rest_left f m rs i r l e = ap (rest_by f) (all_left m rs i r l e)
 
 -- none are left
@@ -272,17 +272,17 @@ str_of_other n m _ u x h = refl
 
 -- ---- pairs
 
--- the first of a dict, and those behind it
+-- the first of a dict, and those after it
 pub pairs_first : (f : pure.Key × pure.Value → Written) (ps : List (pure.Key × pure.Value)) (p : pure.Key × pure.Value) → slice_get ps 0 ≡ Some p → items_by f ps ≡ followed (f p) (rest_by f (drop 1 ps))
 pairs_first f [] p e = absurd (cc)
 pairs_first f (q ∷ qs) p e = let same : q ≡ p = cc in ap (λ z. followed (f z) (rest_by f qs)) same
 
-pub pair_left : (f : pure.Key × pure.Value → Written) (ps : List (pure.Key × pure.Value)) (i : ℕ) (p : pure.Key × pure.Value) → slice_get ps i ≡ Some p → rest_by f (drop i ps) ≡ behind (codes ", ") (followed (f p) (rest_by f (drop (i + 1) ps)))
+pub pair_left : (f : pure.Key × pure.Value → Written) (ps : List (pure.Key × pure.Value)) (i : ℕ) (p : pure.Key × pure.Value) → slice_get ps i ≡ Some p → rest_by f (drop i ps) ≡ after (codes ", ") (followed (f p) (rest_by f (drop (i + 1) ps)))
 pair_left f [] i p e = absurd (cc)
-pair_left f (q ∷ qs) zero p e = let same : q ≡ p = cc in ap (λ z. behind (codes ", ") (followed (f z) (rest_by f qs))) same
+pair_left f (q ∷ qs) zero p e = let same : q ≡ p = cc in ap (λ z. after (codes ", ") (followed (f z) (rest_by f qs))) same
 pair_left f (q ∷ qs) (suc i) p e =
     let next : suc (i + 1) ≡ suc i + 1 = omega arith in
-    pair_left f qs i p e ∙ ap (λ k. behind (codes ", ") (followed (f p) (rest_by f (drop k (q ∷ qs))))) next
+    pair_left f qs i p e ∙ ap (λ k. after (codes ", ") (followed (f p) (rest_by f (drop k (q ∷ qs))))) next
 
 pub no_pair_left : (f : pure.Key × pure.Value → Written) (ps : List (pure.Key × pure.Value)) (i : ℕ) → length ps ≤ i → Whole [] ≡ rest_by f (drop i ps)
 no_pair_left f ps i l = ap (rest_by f) (sym (drop_all i ps l))

@@ -1,18 +1,17 @@
 -- Subscriptions of objects.
-use Rattle.std.proofs.Common.{◌≡◌, ◌≢◌, ℕ, ℤ, List, length, Option, Some, None, Result, Ok, Err, refl, sym, ap, subst, ◌∙◌}
+use Rattle.std.proofs.Common.{◌≡◌, ℕ, ℤ, List, Option, Some, None, Result, Ok, Err, refl, sym, ap, ◌∙◌}
 use Rattle.std.specs.Prelude.{slice_get, option_map}
-use Rattle.std.proofs.lemmas.List.{length-map}
 use Rattle.si_semantics.specs.Value as pure
 use Rattle.si_semantics.specs.World.{World, Ran}
-use Rattle.si_semantics.specs.Dicts.{key_of, value_at}
-use Rattle.si_semantics.specs.Operations.{gave, integer_in, wrong_type}
-use Rattle.si_semantics.specs.Subscription.{subscript, object_item, item_at, item_of, item_in_list, value_in_dict, value_found, item_meant}
+use Rattle.si_semantics.specs.Dicts.{key_of}
+use Rattle.si_semantics.specs.Operations.{integer_in, wrong_type}
+use Rattle.si_semantics.specs.Subscription.{subscript, object_item, item_at, value_in_dict, value_found}
 use Rattle.si_arena.specs.declared.value.Ref.{Ref}
 use Rattle.si_arena.specs.declared.cause.Cause.{Cause}
-use Rattle.si_arena.specs.Memory.{Memory, value_of, all_of, list_at, dict_at, value_by, IsListAt, IsDictAt, IsKey, key_meant}
+use Rattle.si_arena.specs.Memory.{Memory, value_of, value_by, IsKey}
 use Rattle.si_ops.specs.declared.lack.Lack.{Lack}
 use Rattle.si_ops.specs.declared.lack.Lack.TheVariants as lack
-use Rattle.si_ops.specs.Runs.{Tells, Finds, Throws}
+use Rattle.si_ops.specs.Runs.{Tells, Finds}
 use Rattle.si_ops.specs.inner.Held.{IsPlain, IsPlainObject, lack_of}
 
 pub finds_of : (f : World → Ran) (v : pure.Value) (m : Memory) (r : Result Ref Cause) → Tells f m r → Finds f v m (lack_of r)

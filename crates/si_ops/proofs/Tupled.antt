@@ -43,7 +43,7 @@ members_are v vs e = sym (items_back vs) ∙ ap members_of e
 pub items_length : (m : Memory) (rs : List Ref) → length (items_of (values_of (all_of m rs))) ≡ length rs
 items_length m rs = ap length (items_back (all_of m rs)) ∙ length-map rs (value_of m)
 
--- the item at an index, and those behind it
+-- the item at an index, and those after it
 pub item_there : (m : Memory) (rs : List Ref) (vs : List Value) (i : ℕ) (r : Ref) → all_of m rs ≡ vs → i < length rs → r ≡ get_or rs i r → drop i vs ≡ value_of m r ∷ drop (i + 1) vs
 item_there m rs vs i r e h f =
     let a = length-map rs (value_of m) in

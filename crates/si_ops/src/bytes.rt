@@ -5,7 +5,7 @@ ghost use Rattle.si_semantics.specs.Value.{Bytes, Int};
 ghost use Rattle.si_semantics.specs.Value as pure;
 ghost use Rattle.si_semantics.specs.Operations as operations;
 ghost use Rattle.si_semantics.specs.Operations.{operate, bytes_from, range_items};
-ghost use Rattle.si_arena.specs.Memory.{value_of, range_of, all_of, Lies, AllLie};
+ghost use Rattle.si_arena.specs.Memory.{value_of, all_of, Lies, AllLie};
 ghost use Rattle.si_arena.specs.Bytes.{bytes_of};
 ghost use Rattle.si_ops.specs.Runs.{Runs};
 ghost use Rattle.si_ops.specs.Operands.{made_of, NeedsNone, IsTold};

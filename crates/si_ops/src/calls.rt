@@ -218,7 +218,7 @@ fn place_str(arena: &mut Arena, line: &mut String, value: Ref) -> Result<Ref, Fa
 {
     let start = line.len();
     push_str(line, arena, value)?;
-    place_behind(arena, line, start)
+    place_after(arena, line, start)
 }
 
 // The `repr` of a value, in the same way.
@@ -229,11 +229,11 @@ fn place_repr(arena: &mut Arena, line: &mut String, value: Ref) -> Result<Ref, F
 {
     let start = line.len();
     push_repr(line, arena, value)?;
-    place_behind(arena, line, start)
+    place_after(arena, line, start)
 }
 
 // Places what stands in a line from a start on, and takes it away there.
-fn place_behind(arena: &mut Arena, line: &mut String, start: usize) -> Result<Ref, Fault>
+fn place_after(arena: &mut Arena, line: &mut String, start: usize) -> Result<Ref, Fault>
     requires { IsCharBoundary (string_bytes line.old) start }
     ensures text { PlacesText (characters_of (drop start (string_bytes line.old))) arena.old arena.new result }
     ensures line { string_bytes line.new ≡ take start (string_bytes line.old) }

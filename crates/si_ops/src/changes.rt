@@ -1,10 +1,8 @@
 // What changes lists and dicts: `u[v] = z`, `del u[v]`, and `+=`.
 
 ghost use Rattle.std.specs.Prelude.{◌≡◌, ◌<◌, length, slice_get};
-ghost use Rattle.si_semantics.specs.Value.{Address};
 ghost use Rattle.si_semantics.specs.Tree as tree;
 ghost use Rattle.si_semantics.specs.Containers as containers;
-ghost use Rattle.si_semantics.specs.Subscription as subscription;
 ghost use Rattle.si_semantics.specs.Dicts.{key_of};
 ghost use Rattle.si_semantics.specs.Operations.{integer_in};
 ghost use Rattle.si_arena.specs.Memory.{value_of, list_at, dict_at, Lies, IsListAt, IsDictAt};

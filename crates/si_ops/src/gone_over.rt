@@ -1,6 +1,6 @@
 // All items of what can be gone over.
 
-ghost use Rattle.std.specs.Prelude.{◌≡◌, ◌<◌, ◌∷◌, [], ◌++◌, length, option_map, unwrap_or, slice_get, get_or, Some, IfOk, OnOk};
+ghost use Rattle.std.specs.Prelude.{◌≡◌, ◌<◌, [], length, option_map, unwrap_or, slice_get, get_or, Some, IfOk};
 ghost use Rattle.si_semantics.specs.Operations.{items_from, items_of_object};
 ghost use Rattle.si_arena.specs.Memory.{value_of, all_of, Lies, AllLie};
 ghost use Rattle.si_ops.specs.Items.{world_of, gone_over, Unpacks};

@@ -1,6 +1,6 @@
 // What a `for` goes over.
 
-ghost use Rattle.std.specs.Prelude.{◌≡◌, option_map, IfSome, ◌<◌, ◌^◌, length, slice_get};
+ghost use Rattle.std.specs.Prelude.{◌≡◌, option_map, IfSome, ◌<◌, length, slice_get};
 ghost use Rattle.si_semantics.specs.World.{World};
 ghost use Rattle.si_semantics.specs.Operations.{iterator_of};
 ghost use Rattle.si_arena.specs.Memory.{Memory, value_of, Lies};

@@ -1,6 +1,6 @@
 // What methods do with lists and dicts.
 
-ghost use Rattle.std.specs.Prelude.{◌≡◌, ◌<◌, length, slice_get};
+ghost use Rattle.std.specs.Prelude.{◌<◌, length, slice_get};
 ghost use Rattle.si_semantics.specs.Containers as containers;
 ghost use Rattle.si_semantics.specs.Dicts.{key_of};
 ghost use Rattle.si_semantics.specs.Operations.{integer_in};

@@ -1,6 +1,5 @@
 // The line that `print` writes.
 
-ghost use Rattle.std.specs.Prelude.{encode_utf8_all};
 ghost use Rattle.si_semantics.specs.Text as semantics;
 ghost use Rattle.si_arena.specs.Memory.{all_of, AllLie};
 ghost use Rattle.si_ops.specs.Writing.{Writes, Appends, spaced_in, spaced_bytes, line_bytes};

@@ -31,7 +31,7 @@ pub fn read_integer(text: Characters) -> Result<i64, Kind>
 fn end_of_space(text: Characters, start: usize) -> usize
     requires { start ≤ length (characters_in text) }
     ensures within { result ≤ length (characters_in text.entry) }
-    ensures behind { numerals.behind_space (drop start (characters_in text.entry)) ≡ drop result (characters_in text.entry) }
+    ensures after { numerals.after_space (drop start (characters_in text.entry)) ≡ drop result (characters_in text.entry) }
 {
     for i in start..length_of(text) {
         if !is_space(character_at(text, i)) {
@@ -51,7 +51,7 @@ fn is_space(character: char) -> bool
 // The integer that digits from an index on write, below 0 or not.
 fn read_digits(text: Characters, start: usize, is_negative: bool) -> Result<i64, Kind>
     requires { start ≤ length (characters_in text) }
-    ensures { result ≡ numerals.read (option_map (signed_number is_negative) (numerals.digits_behind true 0 (drop start (characters_in text.entry)))) }
+    ensures { result ≡ numerals.read (option_map (signed_number is_negative) (numerals.digits_after true 0 (drop start (characters_in text.entry)))) }
 {
     match digits_at(text, start) {
         Some(magnitude) => with_sign(magnitude, is_negative),
@@ -59,11 +59,11 @@ fn read_digits(text: Characters, start: usize, is_negative: bool) -> Result<i64,
     }
 }
 
-// The number that digits from an index on write, with white space behind them; one past 64 bits is as good as their
+// The number that digits from an index on write, with white space after them; one past 64 bits is as good as their
 // greatest.
 fn digits_at(text: Characters, start: usize) -> Option<u64>
     requires { start ≤ length (characters_in text) }
-    ensures { result ≡ option_map (λ n. min n (2 ^ 64 - 1)) (numerals.digits_behind true 0 (drop start (characters_in text.entry))) }
+    ensures { result ≡ option_map (λ n. min n (2 ^ 64 - 1)) (numerals.digits_after true 0 (drop start (characters_in text.entry))) }
 {
     let mut number: u64 = 0;
     let mut is_due = true;
@@ -90,7 +90,7 @@ fn is_digit(character: char) -> bool
     '0' <= character && character <= '9'
 }
 
-// A number with one more digit behind it.
+// A number with one more digit after it.
 fn with_digit(number: u64, digit: char) -> u64
     ensures { result ≡ min (number * 10 + (digit - 48)) (2 ^ 64 - 1) }
 {
@@ -101,7 +101,7 @@ fn with_digit(number: u64, digit: char) -> u64
 // A number, if nothing but white space stands from an index on.
 fn whole(number: u64, text: Characters, start: usize) -> Option<u64>
     requires { start ≤ length (characters_in text) }
-    ensures { result ≡ numerals.whole number (numerals.behind_space (drop start (characters_in text.entry))) }
+    ensures { result ≡ numerals.whole number (numerals.after_space (drop start (characters_in text.entry))) }
 {
     if end_of_space(text, start) == length_of(text) {
         Some(number)

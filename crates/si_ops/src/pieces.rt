@@ -1,6 +1,6 @@
 // Pieces of text at the end of a String.
 
-ghost use Rattle.std.specs.Prelude.{◌≡◌, ◌++◌, OnOk, OnErr, encode_utf8_all, encode_utf8};
+ghost use Rattle.std.specs.Prelude.{◌++◌, OnOk, OnErr, encode_utf8_all, encode_utf8};
 ghost use Rattle.si_semantics.specs.Text as semantics;
 ghost use Rattle.si_arena.specs.Texts.{characters_in};
 ghost use Rattle.si_ops.specs.Writing.{Adds, Lacks};

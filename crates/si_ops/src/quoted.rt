@@ -171,12 +171,12 @@ fn put_escaped(out: &mut String, quote: char, c: char) -> Result<(), NoMemory>
     ensures err { OnErr result (Lacks (encode_utf8_all (escaped quote c)) out.old out.new) }
 {
     if c == '\\' || c == quote {
-        return put_behind_backslash(out, c);
+        return put_after_backslash(out, c);
     }
     match c {
-        '\n' => put_behind_backslash(out, 'n'),
-        '\r' => put_behind_backslash(out, 'r'),
-        '\t' => put_behind_backslash(out, 't'),
+        '\n' => put_after_backslash(out, 'n'),
+        '\r' => put_after_backslash(out, 'r'),
+        '\t' => put_after_backslash(out, 't'),
         '\0'..'\x20' | '\x7f' => put_hex(out, c as u8),
         _ => put_one(out, c),
     }
@@ -190,7 +190,7 @@ fn put_one(out: &mut String, c: char) -> Result<(), NoMemory>
     put_char(out, c)
 }
 
-fn put_behind_backslash(out: &mut String, c: char) -> Result<(), NoMemory>
+fn put_after_backslash(out: &mut String, c: char) -> Result<(), NoMemory>
     ensures ok { OnOk result (Adds (encode_utf8_all (92 ∷ c ∷ [])) out.old out.new) }
     ensures err { OnErr result (Lacks (encode_utf8_all (92 ∷ c ∷ [])) out.old out.new) }
 {

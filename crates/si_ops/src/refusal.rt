@@ -1,7 +1,5 @@
 // Why a comparison has no answer.
 
-ghost use Rattle.std.specs.Prelude.{◌≡◌};
-ghost use Rattle.si_semantics.specs.World.{World};
 ghost use Rattle.si_semantics.specs.Operations as operations;
 ghost use Rattle.si_arena.specs.Memory.{Memory};
 ghost use Rattle.si_ops.specs.Runs.{Throws, kind_refused};

@@ -100,11 +100,11 @@ fn is_too_long(out: &String, start: usize) -> bool
     if out.len() - start <= MAX_STR_LENGTH {
         return false;
     }
-    count_behind(out, start) > MAX_STR_LENGTH
+    count_after(out, start) > MAX_STR_LENGTH
 }
 
 // How many characters stand in a String from a start on.
-fn count_behind(out: &String, start: usize) -> usize
+fn count_after(out: &String, start: usize) -> usize
     requires { IsCharBoundary (string_bytes out.now) start }
     ensures { result ≡ length (characters_of (drop start (string_bytes out.now))) }
 {
@@ -255,7 +255,7 @@ fn put_row(
     Ok(())
 }
 
-// What stands behind the items of a tuple.
+// What stands after the items of a tuple.
 fn tuple_end(items: &[Ref]) -> &'static str
     ensures { (m : Memory) → result.now ≡ semantics.tuple_end (all_of m items.now) }
 {
@@ -454,7 +454,7 @@ fn put_pairs(
     put_other_pairs(out, arena, inside, pairs, depth, start)
 }
 
-// Adds the pairs of a dict behind the first, each with a comma and a space before it, up to where it is too long.
+// Adds the pairs of a dict after the first, each with a comma and a space before it, up to where it is too long.
 #[cycle(repr)]
 fn put_other_pairs(
     out: &mut String,

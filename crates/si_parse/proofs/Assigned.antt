@@ -1,11 +1,11 @@
 -- Assignments: the targets that are read, each in front of an `=`, are in the grammar, and those of the grammar are read.
-use Rattle.std.proofs.Common.{◌≡◌, ℕ, zero, suc, ◌<◌, ◌≤◌, List, [], ◌∷◌, ◌++◌, length, Bool, Option, Some, None, true, false, refl, ⊎_elim, sym, ap, ◌∙◌, subst, arith, append_assoc, length-append}
+use Rattle.std.proofs.Common.{◌≡◌, ℕ, zero, suc, ◌<◌, ◌≤◌, List, [], ◌∷◌, ◌++◌, length, Option, Some, None, true, false, refl, ⊎_elim, sym, ap, ◌∙◌, subst, arith, append_assoc, length-append}
 use Rattle.std.specs.Prelude.{if◌then◌else◌}
 use Rattle.std.proofs.lemmas.List.{append-nil}
 use Rattle.si_semantics.specs.Tree as tree
 use Rattle.si_semantics.specs.Tree.{Expr, Stmt, Target, Targets}
 use Rattle.si_semantics.specs.Tokens as token
-use Rattle.si_semantics.specs.Grammar.{Terminal, NEWLINE, Sign, Ahead, max_depth, IsExpressions, target_of, IsTarget, Targeted, Small}
+use Rattle.si_semantics.specs.Grammar.{Terminal, NEWLINE, Sign, max_depth, IsExpressions, target_of, IsTarget, Targeted, Small}
 use Rattle.si_syntax.specs.Trees.{target_row}
 use Rattle.si_parse.specs.inner.Lookahead.{strength_at, begins_literal, after}
 use Rattle.si_parse.specs.inner.Lists.{Found, then_read, many_by}
@@ -20,7 +20,7 @@ use Rattle.si_parse.proofs.Unbracketed.{expressions_reads, expressions_complete,
 abbrev sub : Parser
 sub = expression_at max_depth
 
--- targets, each in front of an `=`, and the value behind them
+-- targets, each in front of an `=`, and the value after them
 abbrev pub Equated : List Target → Expr → List Terminal → Type 0
 Equated [] v h = IsExpressions v h
 Equated (t ∷ us) v h = (f : List Terminal) × (g : List Terminal) × (h ≡ f ++ Sign token.Equal ∷ g) × IsTarget t f × Equated us v g
@@ -109,7 +109,7 @@ ends_all (NEWLINE ∷ ts) h = (omega arith, refl, refl, refl)
 ends_all (Sign token.Semicolon ∷ ts) h = (omega arith, refl, refl, refl)
 ends_all (_ ∷ ts) h = cc
 
--- what was read of them: an expression, which is a target where an `=` stands behind it, and else the value
+-- what was read of them: an expression, which is a target where an `=` stands after it, and else the value
 abbrev Chain : List Target → Expr → List Terminal → Expr → List Terminal → Type 0
 Chain [] v more e ts = (e ≡ v) × (ts ≡ more)
 Chain (t ∷ us) v more e ts = (target_of e ≡ Some t) × (g : List Terminal) × (ts ≡ Sign token.Equal ∷ (g ++ more)) × Equated us v g
@@ -123,10 +123,10 @@ begun [] v h more r ends =
     let c = expressions_complete v h more r (ends.0, ends.1) over.1 over.2 in
     (v, more, c.0, c.1, omega (arith, length-append h more), (refl, refl))
 begun (t ∷ us) v h more r ends =
-    let behind = Sign token.Equal ∷ (r.1 ++ more) in
-    let split : h ++ more ≡ r.0 ++ behind = ap (λ t. t ++ more) r.2 ∙ append_assoc r.0 (Sign token.Equal ∷ r.1) more in
-    let c = expressions_complete r.3.0 r.0 behind r.3.2 (omega arith, refl) refl refl in
-    (r.3.0, behind, c.0, ap (expressions_by sub 1) split ∙ c.1, omega (arith, ap length split, length-append r.0 behind), (r.3.1, r.1, refl, r.4))
+    let rest = Sign token.Equal ∷ (r.1 ++ more) in
+    let split : h ++ more ≡ r.0 ++ rest = ap (λ t. t ++ more) r.2 ∙ append_assoc r.0 (Sign token.Equal ∷ r.1) more in
+    let c = expressions_complete r.3.0 r.0 rest r.3.2 (omega arith, refl) refl refl in
+    (r.3.0, rest, c.0, ap (expressions_by sub 1) split ∙ c.1, omega (arith, ap length split, length-append r.0 rest), (r.3.1, r.1, refl, r.4))
 
 chain_complete : (k : ℕ) (before us : List Target) (v : Expr) (more : List Terminal) (e : Expr) (ts : List Terminal) → length ts ≤ k → Follows more → Chain us v more e ts
     → many_by (chained_by sub) no_equal k (before, e) ts ≡ Some ((before ++ us, v), more)

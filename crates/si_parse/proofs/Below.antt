@@ -9,7 +9,7 @@ use Rattle.std.proofs.lemmas.List.Elements.{All-nil, All-cons, All-head, All-tai
 use Rattle.std.proofs.lemmas.Str.{chars-IsAscii}
 use Rattle.std.proofs.lemmas.Str.Ascii.{IsAscii-from_all}
 use Rattle.si_semantics.specs.Value.{Text}
-use Rattle.si_semantics.specs.Literals.{Written, with_one_more, digits_within, is_character, numbered, behind_letter, letter_escape, escape_by, is_of_texts, escape, unescaped, begins_raw, peeled, quotes_at, between_quotes, begins_line_feed, with_line_feeds, prefix_at, unprefixed, value_of_body, value_of_literal}
+use Rattle.si_semantics.specs.Literals.{Written, with_one_more, digits_within, is_character, numbered, after_letter, letter_escape, escape_by, is_of_texts, escape, unescaped, begins_raw, peeled, quotes_at, between_quotes, begins_line_feed, with_line_feeds, prefix_at, unprefixed, value_of_body, value_of_literal}
 use Rattle.si_token.proofs.Texts.{and_both}
 
 abbrev Small : Text → Type 0
@@ -52,7 +52,7 @@ numbered_octal (Some (n, count)) =
     either Fits (nat_le n 255 && is_character n) (Some (n ∷ [], count)) None
     (λ e. let l = at_most n 255 (and_both (nat_le n 255) (is_character n) e).0 in one n (omega (arith, l))) (λ e. tt)
 
-letter_small : (o : Option Written) → Fits o → Fits (behind_letter o)
+letter_small : (o : Option Written) → Fits o → Fits (after_letter o)
 letter_small None h = tt
 letter_small (Some (c, count)) h = h
 
@@ -95,10 +95,10 @@ by_small (Some d) c cs h t = one d h
 by_small None c cs h t =
     either Fits (c == 10) (Some ([], 1)) _ (λ e. none)
     (λ e. either Fits (nat_le 48 c && nat_le c 55) (numbered 255 (digits_within 8 1 3 0 (c ∷ cs))) _ (λ e. numbered_octal (digits_within 8 1 3 0 (c ∷ cs)))
-    (λ e. either Fits (c == 120) (behind_letter (numbered 1114111 (digits_within 16 2 2 0 cs))) _
+    (λ e. either Fits (c == 120) (after_letter (numbered 1114111 (digits_within 16 2 2 0 cs))) _
     (λ e. letter_small (numbered 1114111 (digits_within 16 2 2 0 cs)) (numbered_small 1114111 (digits_within 16 2 2 0 cs) (two_digits cs)))
-    (λ e. either Fits (c == 117) (behind_letter (numbered 1114111 (digits_within 16 4 4 0 cs))) _ (λ e. absurd (no_text c t e))
-    (λ e. either Fits (c == 85) (behind_letter (numbered 1114111 (digits_within 16 8 8 0 cs))) _ (λ e. absurd (no_long_text c t e))
+    (λ e. either Fits (c == 117) (after_letter (numbered 1114111 (digits_within 16 4 4 0 cs))) _ (λ e. absurd (no_text c t e))
+    (λ e. either Fits (c == 85) (after_letter (numbered 1114111 (digits_within 16 8 8 0 cs))) _ (λ e. absurd (no_long_text c t e))
     (λ e. either Fits (c == 78) None (Some (92 ∷ [], 0)) (λ e. tt) (λ e. one 92 (omega arith)))))))
 
 escape_small : (cs : Text) → Small cs → Fits (escape true cs)
@@ -121,16 +121,16 @@ preceded : (c : ℕ) (o : Option Text) → c < 256 → Holds o → Holds (option
 preceded c None h k = tt
 preceded c (Some v) h k = All-cons (λ c. c < 256) c v h k
 
-behind_escape : (o : Option Written) (cs : Text) → Fits o → ((k : ℕ) → Holds (unescaped true k cs)) → Holds (option_and_then (λ (e : Written). option_map (λ text. e.0 ++ text) (unescaped true e.1 cs)) o)
-behind_escape None cs h go = tt
-behind_escape (Some r) cs h go = joined r.0 (unescaped true r.1 cs) h (go r.1)
+after_escape : (o : Option Written) (cs : Text) → Fits o → ((k : ℕ) → Holds (unescaped true k cs)) → Holds (option_and_then (λ (e : Written). option_map (λ text. e.0 ++ text) (unescaped true e.1 cs)) o)
+after_escape None cs h go = tt
+after_escape (Some r) cs h go = joined r.0 (unescaped true r.1 cs) h (go r.1)
 
 unescaped_small : (cs : Text) (skipped : ℕ) → Small cs → Holds (unescaped true skipped cs)
 unescaped_small [] skipped h = none
 unescaped_small (c ∷ cs) zero h =
     let tail = All-tail (λ c. c < 256) c cs h in
     either Holds (c == 92) (option_and_then (λ (e : Written). option_map (λ text. e.0 ++ text) (unescaped true e.1 cs)) (escape true cs)) (option_map (λ text. c ∷ text) (unescaped true 0 cs))
-    (λ e. behind_escape (escape true cs) cs (escape_small cs tail) (λ k. unescaped_small cs k tail))
+    (λ e. after_escape (escape true cs) cs (escape_small cs tail) (λ k. unescaped_small cs k tail))
     (λ e. preceded c (unescaped true 0 cs) (All-head (λ c. c < 256) c cs h) (unescaped_small cs 0 tail))
 unescaped_small (c ∷ cs) (suc skipped) h = unescaped_small cs skipped (All-tail (λ c. c < 256) c cs h)
 

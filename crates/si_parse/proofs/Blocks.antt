@@ -1,12 +1,12 @@
 -- Compound statements: what is read is in the grammar, and what is in the grammar is read.
 use Rattle.std.proofs.Common.{◌≡◌, ℕ, zero, suc, ◌<◌, List, [], ◌∷◌, ◌++◌, ◌⊎◌, inl, inr, length, Option, Some, None, true, false, refl, sym, ap, ◌∙◌, subst, ⊎_elim, arith, append_assoc, length-append}
-use Rattle.std.specs.Prelude.{option_map, flat_map, if◌then◌else◌}
+use Rattle.std.specs.Prelude.{flat_map, if◌then◌else◌}
 use Rattle.std.proofs.lemmas.List.{append-nil}
 use Rattle.si_semantics.specs.Value.{Text}
 use Rattle.si_semantics.specs.Tree as tree
 use Rattle.si_semantics.specs.Tree.{Expr, Stmt, Target, Stmts}
 use Rattle.si_semantics.specs.Tokens as token
-use Rattle.si_semantics.specs.Grammar.{Terminal, NAME, Sign, Word, NEWLINE, INDENT, DEDENT, Many, Behind, Spells, max_depth, IsExpression, Simple, stmts_of, Lines, Block, Suite, Branch, Tested, Over, Otherwise, elifs_of, Compound, Nests}
+use Rattle.si_semantics.specs.Grammar.{Terminal, NAME, Sign, Word, NEWLINE, INDENT, DEDENT, Many, After, max_depth, IsExpression, Simple, stmts_of, Lines, Block, Suite, Branch, Tested, Over, Otherwise, elifs_of, Compound, Nests}
 use Rattle.si_parse.specs.inner.Lookahead.{rest_of, Header, if_header, while_header, for_header, try_header, def_header, header_at, after}
 use Rattle.si_parse.specs.inner.Lists.{then_read, many_by, is_none}
 use Rattle.si_parse.specs.inner.Names.{name_at, parameters_by}
@@ -127,7 +127,7 @@ module _ (L : Lines) (line : LineParser) (sound : LineSound L line) where
       subst P (some_inj ((t.0.0, stmts_of b.0.0), b.0.1) r b.2) (a.0 ++ s.0, a.1 ∙ ap (λ t. a.0 ++ t) s.1 ∙ sym (append_assoc a.0 s.0 b.0.1), (a.0, s.0, refl, a.2, s.2))
 
   abbrev Elif : Branch → List Terminal → Type 0
-  Elif = Behind (Word token.ElifWord) (Tested L)
+  Elif = After (Word token.ElifWord) (Tested L)
 
   elif_reads : (bs : List Branch) (ts : List Terminal) (r : List Branch × List Terminal) → elif_by line bs ts ≡ Some r → (x : Branch) × (f : List Terminal) × (r.0 ≡ and_branch bs x) × (ts ≡ f ++ r.1) × Elif x f
   elif_reads bs ts r h =
@@ -189,11 +189,11 @@ module _ (L : Lines) (line : LineParser) (sound : LineSound L line) where
       let e = target_reads ts x.0 x.1 in
       let f = over_reads x.0.1 b.0 b.1 in
       let g = otherwise_reads b.0.1 (after (Word token.ElseWord) b.0.1) refl o.0 o.1 in
-      let behind : x.0.1 ≡ (f.0 ++ g.0) ++ o.0.1 = f.1 ∙ ap (λ t. f.0 ++ t) g.1 ∙ sym (append_assoc f.0 g.0 o.0.1) in
+      let rest : x.0.1 ≡ (f.0 ++ g.0) ++ o.0.1 = f.1 ∙ ap (λ t. f.0 ++ t) g.1 ∙ sym (append_assoc f.0 g.0 o.0.1) in
       let P : Stmt × List Terminal → Type 0 = CompoundRead (Word token.ForWord ∷ ts) in
       subst P (some_inj (tree.For x.0.0 b.0.0.0 b.0.0.1 (stmts_of o.0.0), o.0.1) r o.2) (
         Word token.ForWord ∷ (e.0 ++ Word token.InWord ∷ (f.0 ++ g.0)),
-        ap (λ t. Word token.ForWord ∷ t) (e.1 ∙ ap (λ t. e.0 ++ Word token.InWord ∷ t) behind ∙ sym (append_assoc e.0 (Word token.InWord ∷ (f.0 ++ g.0)) o.0.1)),
+        ap (λ t. Word token.ForWord ∷ t) (e.1 ∙ ap (λ t. e.0 ++ Word token.InWord ∷ t) rest ∙ sym (append_assoc e.0 (Word token.InWord ∷ (f.0 ++ g.0)) o.0.1)),
         (e.0, f.0, g.0, refl, e.2, f.2, g.2),
       )
 
@@ -375,7 +375,7 @@ module _ (L : Lines) (line : LineParser) (complete : LineComplete L line) (begin
       ∙ ap (λ ss. Some ((b.0, ss), more)) (sym s.1)
 
   abbrev ElifOf : Branch → List Terminal → Type 0
-  ElifOf = Behind (Word token.ElifWord) (Tested L)
+  ElifOf = After (Word token.ElifWord) (Tested L)
 
   abbrev Any : List Terminal → Type 0
   Any ts = Unit {0}

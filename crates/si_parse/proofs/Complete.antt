@@ -6,10 +6,10 @@ use Rattle.std.proofs.lemmas.List.{append-nil}
 use Rattle.si_semantics.specs.Value.{Nothing, Truth, Int, Str, Bytes, Provided, Function, Range, Tuple, Class, Module, Queue, Interpreter, Exec, Address}
 use Rattle.si_semantics.specs.Tree.{BinaryOperator, UnaryOperator, ComparisonOperator, BooleanOperator, Expr, Exprs, callee_of}
 use Rattle.si_semantics.specs.Tree as tree
-use Rattle.si_semantics.specs.Tokens.{Symbol, Keyword}
+use Rattle.si_semantics.specs.Tokens.{Keyword}
 use Rattle.si_semantics.specs.Tokens as token
 use Rattle.si_semantics.specs.Text.{max_length}
-use Rattle.si_semantics.specs.Grammar.{Terminal, NAME, NUMBER, STRING, Sign, Word, level_of, left_level, right_level, symbol_of, prefix_level, prefix_of, boolean_level, item_level, word_of, comparison_of, is_identity, Many, Behind, Separated, Ended, Argument, Positional, ByName, Passes, IsPassed, exprs_of, items_of, Link, links_of, chain_of, Compares, PairsOf, Strings, Spells, BYTES, Octets}
+use Rattle.si_semantics.specs.Grammar.{Terminal, NAME, NUMBER, STRING, Sign, Word, level_of, left_level, right_level, symbol_of, prefix_level, prefix_of, boolean_level, item_level, word_of, comparison_of, is_identity, Many, After, Separated, Ended, Argument, Positional, ByName, Passes, IsPassed, exprs_of, items_of, Link, links_of, chain_of, Compares, PairsOf, Strings, Spells, BYTES, Octets}
 use Rattle.si_parse.specs.inner.Lookahead.{comparison, boolean, continuation_at, strength_of, strength_at, after_boolean, after, begins_literal}
 use Rattle.si_parse.specs.inner.Lists.{then_read, Found, Parsed, alone}
 use Rattle.si_parse.specs.inner.Expressions.{short, named_at, argument_from, argument_by, call_of, called, with_word, comparison_at, identity_from, Parser, arguments_from, arguments_by, within, call_by, indexed, subscript_by, is_singleton, compared_to, compared_by, other_by, conditional_by, extended_by, continued_by, items_from, tupled, grouped, bracketed_from, strings_by, bracketed_by, operand_from, operand_by, expression_at, octets_by, listed, list_by, Pair, both, paired, value_of_key, pair_by, pairs_from, in_dict, dict_by}
@@ -181,7 +181,7 @@ module _ (n : ℕ) (sub : Parser) (complete : IsComplete n sub) where
     item_read : (e : Expr) (f more : List Terminal) → Spells m 1 e f → Stops more → (d : ℕ) × (d ≤ m) × (sub 1 (f ++ more) ≡ Some (e, d, more))
     item_read e f more h ends = let c = complete m 1 e f more le (omega arith) h ends.0 ends.1 in (c.0, c.1, c.3)
 
-    -- a first item, and what stands behind it
+    -- a first item, and what stands after it
     first_read : (e : Expr) (f more : List Terminal) → Spells m 1 e f → Stops more → (d : ℕ) × (d ≤ m) × (bracketed_by sub (f ++ more) ≡ grouped sub (e, d, more))
     first_read e f more h ends =
         let c = item_read e f more h ends in
@@ -236,15 +236,15 @@ module _ (n : ℕ) (sub : Parser) (complete : IsComplete n sub) where
 
     pair_read : (p : Pair) (f more : List Terminal) → PairsOf (Spells m) p f → Stops more → (d : ℕ) × (d ≤ m) × (pair_by sub (f ++ more) ≡ Some (p, d, more))
     pair_read p f more h ends =
-        let behind = Sign token.Colon ∷ (h.1 ++ more) in
-        let split : f ++ more ≡ h.0 ++ behind = ap (λ t. t ++ more) h.2 ∙ append_assoc h.0 (Sign token.Colon ∷ h.1) more in
-        let k = complete m 1 p.0 h.0 behind le (omega arith) h.3 (omega arith) refl in
+        let rest = Sign token.Colon ∷ (h.1 ++ more) in
+        let split : f ++ more ≡ h.0 ++ rest = ap (λ t. t ++ more) h.2 ∙ append_assoc h.0 (Sign token.Colon ∷ h.1) more in
+        let k = complete m 1 p.0 h.0 rest le (omega arith) h.3 (omega arith) refl in
         let v = complete m 1 p.1 h.1 more le (omega arith) h.4 ends.0 ends.1 in (
           max k.0 v.0,
           omega (arith, k.1, v.1),
           ap (pair_by sub) split
               ∙ ap (λ o. then_read o (λ k. then_read (after (Sign token.Colon) k.2) (value_of_key sub k))) k.3
-              ∙ ap (λ o. then_read o (paired (p.0, k.0, behind))) v.3,
+              ∙ ap (λ o. then_read o (paired (p.0, k.0, rest))) v.3,
         )
 
     pair_open : (p : Pair) (f more : List Terminal) → PairsOf (Spells m) p f → after (Sign token.RightBrace) (f ++ more) ≡ None
@@ -266,7 +266,7 @@ module _ (n : ℕ) (sub : Parser) (complete : IsComplete n sub) where
   -- ---- operands of chains
 
   abbrev Item : ℕ → BooleanOperator → Expr → List Terminal → Type 0
-  Item m op = Behind (Word (word_of op)) (Spells m (item_level op))
+  Item m op = After (Word (word_of op)) (Spells m (item_level op))
 
   item_begin : (m : ℕ) (op : BooleanOperator) (x : Expr) (f more : List Terminal) → Item m op x f → (continuation_at (f ++ more) ≡ boolean op) × (begins_literal (f ++ more) ≡ false)
   item_begin m op x f more h = (ap (λ t. continuation_at (t ++ more)) h.1 ∙ role_of_word op (h.0 ++ more), ap (λ t. begins_literal (t ++ more)) h.1)

@@ -116,21 +116,21 @@ module _ {A X : Type 0} (parts : A → List X) (item : List Terminal → Option 
     pub enclosed_fails : (f : ParseFault) → Fails f (item ts) → Fails f (enclosed_by parts item bracket k b ts)
     enclosed_fails f h = separated_fails (with_item parts) (λ r. r.2) item (after (Sign token.Comma)) (after (Sign bracket)) k j b ts one f h
 
-    module _ (x : A) (d : ℕ) (behind : List Terminal) (read : item ts ≡ Some (x, d, behind)) where
-      pub enclosed_stuck : closing (after (Sign token.Comma)) (after (Sign bracket)) behind ≡ None → after (Sign token.Comma) behind ≡ None → enclosed_by parts item bracket k b ts ≡ None
-      enclosed_stuck h i = separated_stuck (with_item parts) (λ r. r.2) item (after (Sign token.Comma)) (after (Sign bracket)) k j b ts one (x, d, behind) read h i
+    module _ (x : A) (d : ℕ) (rest : List Terminal) (read : item ts ≡ Some (x, d, rest)) where
+      pub enclosed_stuck : closing (after (Sign token.Comma)) (after (Sign bracket)) rest ≡ None → after (Sign token.Comma) rest ≡ None → enclosed_by parts item bracket k b ts ≡ None
+      enclosed_stuck h i = separated_stuck (with_item parts) (λ r. r.2) item (after (Sign token.Comma)) (after (Sign bracket)) k j b ts one (x, d, rest) read h i
 
       -- the items with this one, and the greatest depth
       module _ (items : List X) (top : ℕ) (pushed : items ≡ b.0 ++ parts x) (greatest : top ≡ max b.1 d) where
-        with_this : (items, top) ≡ with_item parts b (x, d, behind)
+        with_this : (items, top) ≡ with_item parts b (x, d, rest)
         with_this = ap (λ l. (l, top)) pushed ∙ ap (λ t. (b.0 ++ parts x, t)) greatest
 
-        pub enclosed_last : (end : List Terminal) → closing (after (Sign token.Comma)) (after (Sign bracket)) behind ≡ Some end → enclosed_by parts item bracket k b ts ≡ Some ((items, top), end)
+        pub enclosed_last : (end : List Terminal) → closing (after (Sign token.Comma)) (after (Sign bracket)) rest ≡ Some end → enclosed_by parts item bracket k b ts ≡ Some ((items, top), end)
         enclosed_last end h =
-            separated_last (with_item parts) (λ r. r.2) item (after (Sign token.Comma)) (after (Sign bracket)) k j b ts one (x, d, behind) read end h ∙ ap (λ c. Some (c, end)) (sym with_this)
+            separated_last (with_item parts) (λ r. r.2) item (after (Sign token.Comma)) (after (Sign bracket)) k j b ts one (x, d, rest) read end h ∙ ap (λ c. Some (c, end)) (sym with_this)
 
-        pub enclosed_on : (more : List Terminal) → closing (after (Sign token.Comma)) (after (Sign bracket)) behind ≡ None → after (Sign token.Comma) behind ≡ Some more
+        pub enclosed_on : (more : List Terminal) → closing (after (Sign token.Comma)) (after (Sign bracket)) rest ≡ None → after (Sign token.Comma) rest ≡ Some more
             → enclosed_by parts item bracket j (items, top) more ≡ enclosed_by parts item bracket k b ts
         enclosed_on more h i =
             ap (λ c. enclosed_by parts item bracket j c more) with_this
-            ∙ sym (separated_on (with_item parts) (λ r. r.2) item (after (Sign token.Comma)) (after (Sign bracket)) k j b ts one (x, d, behind) read more h i)
+            ∙ sym (separated_on (with_item parts) (λ r. r.2) item (after (Sign token.Comma)) (after (Sign bracket)) k j b ts one (x, d, rest) read more h i)

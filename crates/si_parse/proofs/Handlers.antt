@@ -6,7 +6,7 @@ use Rattle.si_semantics.specs.Value.{Text}
 use Rattle.si_semantics.specs.Tree as tree
 use Rattle.si_semantics.specs.Tree.{Expr, Stmt, Stmts, Clauses}
 use Rattle.si_semantics.specs.Tokens as token
-use Rattle.si_semantics.specs.Grammar.{Terminal, NAME, Sign, Word, Many, Behind, max_depth, IsExpression, stmts_of, Lines, Suite, Otherwise, Clause, clauses_of, clause_list, Excepts, bare_is_last, Handlers, Compound}
+use Rattle.si_semantics.specs.Grammar.{Terminal, NAME, Sign, Word, Many, After, max_depth, IsExpression, stmts_of, Lines, Suite, Otherwise, Clause, clauses_of, clause_list, Excepts, bare_is_last, Handlers, Compound}
 use Rattle.si_parse.specs.inner.Lookahead.{after}
 use Rattle.si_parse.specs.inner.Lists.{then_read, is_none}
 use Rattle.si_parse.specs.inner.Names.{name_at}
@@ -72,9 +72,9 @@ module _ (L : Lines) where
   bare_last ((Some e, y, b) ∷ []) f c h = refl
   bare_last ((Some e, y, b) ∷ (x ∷ xs)) f c h = bare_last (x ∷ xs) h.1 c h.4
 
-  bare_behind : (e : Expr) (y : Option Text) (b : Stmts) (cs : List Clause) → bare_is_last ((Some e, y, b) ∷ cs) ≡ true → bare_is_last cs ≡ true
-  bare_behind e y b [] h = refl
-  bare_behind e y b (c ∷ cs) h = h
+  bare_after : (e : Expr) (y : Option Text) (b : Stmts) (cs : List Clause) → bare_is_last ((Some e, y, b) ∷ cs) ≡ true → bare_is_last cs ≡ true
+  bare_after e y b [] h = refl
+  bare_after e y b (c ∷ cs) h = h
 
   clause_spelled : (e : Expr) (y : Option Text) (b : Stmts) (f g k : List Terminal) → IsExpression e f → Binds y g → Suite L b k → Excepts L (Some e, y, b) (Word token.ExceptWord ∷ (f ++ (g ++ k)))
   clause_spelled e None b f g k he hy hb = (f ++ (g ++ k), refl, (f, k, ap (λ t. f ++ (t ++ k)) hy, he, hb))
@@ -92,7 +92,7 @@ module _ (L : Lines) where
   -- the bare clause at the end, where there is one
   abbrev Last : Option Stmts → List Terminal → Type 0
   Last None k = k ≡ []
-  Last (Some b) k = Behind (Word token.ExceptWord) (Suite L) b k
+  Last (Some b) k = After (Word token.ExceptWord) (Suite L) b k
 
   abbrev bare_list : Option Stmts → List Clause
   bare_list None = []
@@ -109,7 +109,7 @@ module _ (L : Lines) where
   clauses_parted ((None, None, b) ∷ (c ∷ cs)) ts h last = let bad : false ≡ true = last in cc
   clauses_parted ((None, Some y, b) ∷ cs) ts h last = absurd h.3
   clauses_parted ((Some e, y, b) ∷ cs) ts h last =
-      let p = clauses_parted cs h.1 h.4 (bare_behind e y b cs last) in (
+      let p = clauses_parted cs h.1 h.4 (bare_after e y b cs last) in (
         (Some e, y, b) ∷ p.0,
         p.1,
         h.0 ++ p.2,
@@ -285,8 +285,8 @@ module _ (L : Lines) (line : LineParser) (suite_reads : SuiteSound L line) where
 catch_is : (rest : List Terminal) → after (Sign token.Colon) rest ≡ None → after_catch (Word token.ExceptWord ∷ rest) ≡ Some rest
 catch_is rest h = ap (λ o. if is_none o then Some rest else None) h
 
-colon_behind : (rest more : List Terminal) → after (Sign token.Colon) rest ≡ Some more → after_catch (Word token.ExceptWord ∷ rest) ≡ None
-colon_behind rest more h = ap (λ o. if is_none o then Some rest else None) h
+colon_after : (rest more : List Terminal) → after (Sign token.Colon) rest ≡ Some more → after_catch (Word token.ExceptWord ∷ rest) ≡ None
+colon_after rest more h = ap (λ o. if is_none o then Some rest else None) h
 
 uncatching : (ts : List Terminal) → after (Word token.ExceptWord) ts ≡ None → no_catch ts ≡ true
 uncatching ts h = ap (λ o. is_none (then_read o (λ rest. if is_none (after (Sign token.Colon) rest) then Some rest else None))) h
@@ -356,7 +356,7 @@ module _ (L : Lines) (line : LineParser) (suite_complete : SuiteComplete L line)
   bare_begins None k more h not_except = ap (λ t. no_catch (t ++ more)) h ∙ uncatching more not_except
   bare_begins (Some b) k more h not_except =
       let colon = suite_front L b h.0 h.2 in
-      ap (λ t. no_catch (t ++ more)) h.1 ∙ ap is_none (colon_behind (h.0 ++ more) (colon.0 ++ more) (ap (λ t. after (Sign token.Colon) (t ++ more)) colon.1))
+      ap (λ t. no_catch (t ++ more)) h.1 ∙ ap is_none (colon_after (h.0 ++ more) (colon.0 ++ more) (ap (λ t. after (Sign token.Colon) (t ++ more)) colon.1))
 
   bare_complete : (xs : List Clause) (o : Option Stmts) (k more : List Terminal) → Last L o k → after (Word token.ExceptWord) more ≡ None → bare_by line xs (k ++ more) ≡ Some (xs ++ bare_list L o, more)
   bare_complete xs None k more h not_except =

@@ -6,7 +6,7 @@ use Rattle.si_semantics.specs.Tree.{UnaryOperator, ComparisonOperator, BooleanOp
 use Rattle.si_semantics.specs.Tree as tree
 use Rattle.si_semantics.specs.Tokens.{Symbol, Keyword}
 use Rattle.si_semantics.specs.Tokens as token
-use Rattle.si_semantics.specs.Grammar.{Terminal, NAME, Sign, Word, NEWLINE, INDENT, Language, prefix_level, prefix_of, item_level, word_of, comparison_of, Many, Behind, Following, Separated, Ended, Argument, Positional, ByName, Passes, items_of, exprs_of, Link, links_of, chain_of, Compares, PairsOf, Produces, Spells}
+use Rattle.si_semantics.specs.Grammar.{Terminal, NAME, Sign, Word, NEWLINE, INDENT, Language, prefix_level, prefix_of, item_level, word_of, comparison_of, Many, After, Following, Separated, Ended, Argument, Positional, ByName, Passes, items_of, exprs_of, Link, links_of, chain_of, Compares, PairsOf, Produces, Spells}
 use Rattle.si_parse.specs.inner.Lookahead.{rest_of, Header, if_header, while_header, for_header, try_header, def_header, header_at, after_boolean, after}
 use Rattle.si_parse.specs.inner.Lists.{then_read}
 use Rattle.si_parse.specs.inner.Names.{name_at}
@@ -48,8 +48,8 @@ pub passes_mono : (E F : Language) → Within E F → (a : Argument) (ts : List 
 passes_mono E F w (Positional e) ts h = w 1 e ts h
 passes_mono E F w (ByName x e) ts h = (h.0, h.1, w 1 e h.0 h.2)
 
-pub behind_mono : (E F : Language) (t : Terminal) (l : ℕ) → Within E F → (e : Expr) (ts : List Terminal) → Behind t (E l) e ts → Behind t (F l) e ts
-behind_mono E F t l w e ts h = (h.0, h.1, w l e h.0 h.2)
+pub after_mono : (E F : Language) (t : Terminal) (l : ℕ) → Within E F → (e : Expr) (ts : List Terminal) → After t (E l) e ts → After t (F l) e ts
+after_mono E F t l w e ts h = (h.0, h.1, w l e h.0 h.2)
 
 pairs_mono : (E F : Language) → Within E F → (p : Expr × Expr) (ts : List Terminal) → PairsOf E p ts → PairsOf F p ts
 pairs_mono E F w p ts h = (h.0, h.1, h.2, w 1 p.0 h.0 h.3, w 1 p.1 h.1 h.4)
@@ -87,7 +87,7 @@ produces_mono E F w l (tree.Boolean op a others) ts h = (
   h.3,
   w (item_level op) a h.0 h.4,
   h.5,
-  many_mono (Behind (Word (word_of op)) (E (item_level op))) (Behind (Word (word_of op)) (F (item_level op))) (behind_mono E F (Word (word_of op)) (item_level op) w) (items_of others) h.1 h.6,
+  many_mono (After (Word (word_of op)) (E (item_level op))) (After (Word (word_of op)) (F (item_level op))) (after_mono E F (Word (word_of op)) (item_level op) w) (items_of others) h.1 h.6,
 )
 produces_mono E F w l (tree.Conditional test value other) ts h = (h.0, h.1, h.2, h.3, h.4, w 3 value h.0 h.5, w 3 test h.1 h.6, w 1 other h.2 h.7)
 

@@ -6,7 +6,7 @@ use Rattle.si_semantics.specs.Tree as tree
 use Rattle.si_semantics.specs.Tree.{BooleanOperator, Expr, Exprs, Comparisons, Target, Targets, Stmt, Stmts, Clauses, callee_of}
 use Rattle.si_semantics.specs.Tokens as token
 use Rattle.si_semantics.specs.Text.{max_length}
-use Rattle.si_semantics.specs.Grammar.{Terminal, Word, left_level, right_level, prefix_level, item_level, word_of, Many, Behind, Following, Separated, Ended, Argument, Positional, ByName, Passes, IsPassed, items_of, exprs_of, links_of, Compares, PairsOf, Spells, unpack_of, target_of, targets_of, IsTarget, IsForTarget, Targeted, max_depth, max_item_depth, IsExpressions, max_parameters, Small, Simple, stmts_of, Lines, Suite, Branch, Tested, Otherwise, elifs_of, clause_list, Excepts, Handlers, Compound, Nests, max_nesting, Derives}
+use Rattle.si_semantics.specs.Grammar.{Terminal, Word, left_level, right_level, prefix_level, item_level, word_of, Many, After, Following, Separated, Ended, Argument, Positional, ByName, Passes, IsPassed, items_of, exprs_of, links_of, Compares, PairsOf, Spells, unpack_of, target_of, targets_of, IsTarget, IsForTarget, Targeted, max_depth, max_item_depth, IsExpressions, max_parameters, Small, Simple, stmts_of, Lines, Suite, Branch, Tested, Otherwise, elifs_of, clause_list, Excepts, Handlers, Compound, Nests, max_nesting, Derives}
 use Rattle.si_semantics.specs.Limits.{depth_called, depth_of, depth_of_all, depth_of_chain, longest_literal, longest_literal_of_all, longest_literal_of_chain, greatest_of_target, greatest_of_targets, greatest_of, greatest_in, greatest_in_clauses, most_parameters_of, most_parameters_in, most_parameters_in_clauses, is_elif, nesting_of, nesting_in, nesting_in_clauses, IsWithinLimits}
 use Rattle.si_parse.proofs.Laws.{some_inj, exprs_of_items, items_of_exprs}
 use Rattle.si_parse.proofs.Unbracketed.{AreExpressions}
@@ -103,7 +103,7 @@ chain_bounded n b (tree.MoreComparisons op e cs) g h =
     let x = b 10 e h.3.0 h.3.2 in
     let y = chain_bounded n b cs h.1 h.4 in record { depth = omega (arith, x.depth, y.depth); literals = omega (arith, x.literals, y.literals) }
 
-operands_bounded : (n : ℕ) → Bounded n → (op : BooleanOperator) (es : Exprs) (g : List Terminal) → Many (Behind (Word (word_of op)) (Spells n (item_level op))) (items_of es) g → AreLow n es
+operands_bounded : (n : ℕ) → Bounded n → (op : BooleanOperator) (es : Exprs) (g : List Terminal) → Many (After (Word (word_of op)) (Spells n (item_level op))) (items_of es) g → AreLow n es
 operands_bounded n b op tree.NoExprs g h = none_low n
 operands_bounded n b op (tree.MoreExprs e es) g h = more_low n e es (b (item_level op) e h.3.0 h.3.2) (operands_bounded n b op es h.1 h.4)
 
@@ -478,7 +478,7 @@ module _ (n : ℕ) (L : Lines) (kept : Kept n L) where
   last_keeps last f (inl h) = subst (AllKeep n) (sym h.0) (none_keep n)
   last_keeps last f (inr h) = suite_keeps last h.0 h.2
 
-  elifs_keep : (elifs : List Branch) (last : Stmts) (f : List Terminal) → Many (Behind (Word token.ElifWord) (Tested L)) elifs f → AllKeep n last → OtherKeeps n (elifs_of elifs last)
+  elifs_keep : (elifs : List Branch) (last : Stmts) (f : List Terminal) → Many (After (Word token.ElifWord) (Tested L)) elifs f → AllKeep n last → OtherKeeps n (elifs_of elifs last)
   elifs_keep [] last f h low = plain_keeps n last low
   elifs_keep (b ∷ elifs) last f h low =
       elif_keeps n b.0 b.1 (elifs_of elifs last)

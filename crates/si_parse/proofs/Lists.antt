@@ -5,7 +5,7 @@ use Rattle.std.proofs.lemmas.Bool.Decides.{nat_tests}
 use Rattle.si_semantics.specs.Tokens.{Symbol}
 use Rattle.si_semantics.specs.Grammar.{Terminal, Sign, Many, Following, Separated}
 use Rattle.si_parse.specs.inner.Lookahead.{Step}
-use Rattle.si_parse.specs.inner.Lists.{then_read, closing_from, closing, behind_item, separated_by, many_by}
+use Rattle.si_parse.specs.inner.Lists.{then_read, closing_from, closing, after_item, separated_by, many_by}
 use Rattle.si_parse.proofs.Laws.{then_read_some, some_inj, Items}
 
 -- which way a test went
@@ -55,11 +55,11 @@ module _ {R B : Type 0} (add : B → R → B) (rest : R → List Terminal) (item
     to_following [] f some h = absurd (omega arith)
     to_following (x ∷ xs) f some h = (h.0, h.1, ap (λ l. Sign s ∷ l) h.2, h.3, h.4)
 
-    behind_sound : (go : B → List Terminal → Option (B × List Terminal)) → ((b : B) (ts : List Terminal) (r : B × List Terminal) → go b ts ≡ Some r → Spelled b ts r)
+    after_sound : (go : B → List Terminal → Option (B × List Terminal)) → ((b : B) (ts : List Terminal) (r : B × List Terminal) → go b ts ≡ Some r → Spelled b ts r)
         → (b : B) (x : R) (f ts : List Terminal) → J x f
         → (o p : Option (List Terminal)) → closing separator close ts ≡ o → separator ts ≡ p
-        → (r : B × List Terminal) → behind_item go (add b x) o p ≡ Some r → Spelled b (f ++ ts) r
-    behind_sound go sound b x f ts j (Some after) p is with r h =
+        → (r : B × List Terminal) → after_item go (add b x) o p ≡ Some r → Spelled b (f ++ ts) r
+    after_sound go sound b x f ts j (Some after) p is with r h =
         let t = closing_sound ts (separator ts) refl after is in
         let P : B × List Terminal → Type 0 = Spelled b (f ++ ts) in
         subst P (some_inj (add b x, after) r h) (
@@ -70,7 +70,7 @@ module _ {R B : Type 0} (add : B → R → B) (rest : R → List Terminal) (item
           ap (λ l. f ++ l) t.1 ∙ sym (append_assoc f t.0 (closer ∷ after)),
           (f, t.0, refl, j, t.2),
         )
-    behind_sound go sound b x f ts j None (Some more) is with r h =
+    after_sound go sound b x f ts j None (Some more) is with r h =
         let y = sound (add b x) more r h in (
           x ∷ y.0,
           f ++ Sign s ∷ y.1,
@@ -79,16 +79,16 @@ module _ {R B : Type 0} (add : B → R → B) (rest : R → List Terminal) (item
           ap (λ l. f ++ l) (separator_sound ts more with ∙ ap (λ l. Sign s ∷ l) y.4) ∙ sym (append_assoc f (Sign s ∷ y.1) (closer ∷ r.1)),
           (f, Sign s ∷ y.1, refl, j, to_following y.0 y.1 y.3 y.5),
         )
-    behind_sound go sound b x f ts j None None is with r h = cc
+    after_sound go sound b x f ts j None None is with r h = cc
 
     pub separated_sound : (k : ℕ) (b : B) (ts : List Terminal) (r : B × List Terminal) → separated_by add rest item separator close k b ts ≡ Some r → Spelled b ts r
     unfolding separated_by
     separated_sound zero b ts r h = cc
     separated_sound (suc k) b ts r h =
-        let x = then_read_some (item ts) (λ r. behind_item (Go k) (add b r) (closing separator close (rest r)) (separator (rest r))) r h in
+        let x = then_read_some (item ts) (λ r. after_item (Go k) (add b r) (closing separator close (rest r)) (separator (rest r))) r h in
         let f = item_sound ts x.0 x.1 in
         let P : List Terminal → Type 0 = λ l. Spelled b l r in
-        subst P (sym f.1) (behind_sound (Go k) (separated_sound k) b x.0 f.0 (rest x.0) f.2 (closing separator close (rest x.0)) (separator (rest x.0)) refl refl r x.2)
+        subst P (sym f.1) (after_sound (Go k) (separated_sound k) b x.0 f.0 (rest x.0) f.2 (closing separator close (rest x.0)) (separator (rest x.0)) refl refl r x.2)
 
   module _ {A : Type 0} (I : Items A) (P : A → R → Type 0) (Ends : List Terminal → Type 0)
       (item_complete : (x : A) (f more : List Terminal) → I x f → Ends more → (r : R) × (item (f ++ more) ≡ Some r) × (rest r ≡ more) × P x r)
@@ -103,11 +103,11 @@ module _ {R B : Type 0} (add : B → R → B) (rest : R → List Terminal) (item
     ends_following [] g more (inr h) = subst (λ l. Ends (l ++ closer ∷ more)) (sym h) (ends_separator (closer ∷ more))
     ends_following (x ∷ xs) g more h = subst (λ l. Ends (l ++ closer ∷ more)) (sym h.2) (ends_separator ((h.0 ++ h.1) ++ closer ∷ more))
 
-    abbrev Behind : ℕ → B → List Terminal → Option (B × List Terminal)
-    Behind k b ts = behind_item (Go k) b (closing separator close ts) (separator ts)
+    abbrev After : ℕ → B → List Terminal → Option (B × List Terminal)
+    After k b ts = after_item (Go k) b (closing separator close ts) (separator ts)
 
     -- one item is read
-    one_read : (k j : ℕ) (b : B) (x : A) (f more : List Terminal) → k ≡ suc j → I x f → Ends more → (r : R) × P x r × (Go k b (f ++ more) ≡ Behind j (add b r) more)
+    one_read : (k j : ℕ) (b : B) (x : A) (f more : List Terminal) → k ≡ suc j → I x f → Ends more → (r : R) × P x r × (Go k b (f ++ more) ≡ After j (add b r) more)
     unfolding separated_by
     one_read zero j b x f more one h e = absurd (omega arith)
     one_read (suc k) j b x f more one h e =
@@ -115,41 +115,41 @@ module _ {R B : Type 0} (add : B → R → B) (rest : R → List Terminal) (item
         let same : k ≡ j = omega arith in (
           c.0,
           c.3,
-          ap (λ o. then_read o (λ r. behind_item (Go k) (add b r) (closing separator close (rest r)) (separator (rest r)))) c.1
-              ∙ ap (λ l. Behind k (add b c.0) l) c.2
-              ∙ ap (λ i. Behind i (add b c.0) more) same,
+          ap (λ o. then_read o (λ r. after_item (Go k) (add b r) (closing separator close (rest r)) (separator (rest r)))) c.1
+              ∙ ap (λ l. After k (add b c.0) l) c.2
+              ∙ ap (λ i. After i (add b c.0) more) same,
         )
 
     following_complete : (k : ℕ) (b : B) (xs : List A) (g more : List Terminal) → length g ≤ k → Following I s xs g
-        → (rs : List R) × Pairwise P xs rs × (Behind k b (g ++ closer ∷ more) ≡ Some (added add b rs, more))
+        → (rs : List R) × Pairwise P xs rs × (After k b (g ++ closer ∷ more) ≡ Some (added add b rs, more))
     following_complete k b [] g more fuel (inl h) = (
       [],
       tt,
-      ap (λ l. Behind k b (l ++ closer ∷ more)) h
-          ∙ ap (λ o. behind_item (Go k) b (closing_from close (closer ∷ more) o) (separator (closer ∷ more))) (separator_not more)
-          ∙ ap (λ o. behind_item (Go k) b o (separator (closer ∷ more))) (close_is more),
+      ap (λ l. After k b (l ++ closer ∷ more)) h
+          ∙ ap (λ o. after_item (Go k) b (closing_from close (closer ∷ more) o) (separator (closer ∷ more))) (separator_not more)
+          ∙ ap (λ o. after_item (Go k) b o (separator (closer ∷ more))) (close_is more),
     )
     following_complete k b [] g more fuel (inr h) = (
       [],
       tt,
-      ap (λ l. Behind k b (l ++ closer ∷ more)) h
-          ∙ ap (λ o. behind_item (Go k) b (closing_from close (Sign s ∷ (closer ∷ more)) o) (separator (Sign s ∷ (closer ∷ more)))) (separator_is (closer ∷ more))
-          ∙ ap (λ o. behind_item (Go k) b o (separator (Sign s ∷ (closer ∷ more)))) (close_is more),
+      ap (λ l. After k b (l ++ closer ∷ more)) h
+          ∙ ap (λ o. after_item (Go k) b (closing_from close (Sign s ∷ (closer ∷ more)) o) (separator (Sign s ∷ (closer ∷ more)))) (separator_is (closer ∷ more))
+          ∙ ap (λ o. after_item (Go k) b o (separator (Sign s ∷ (closer ∷ more)))) (close_is more),
     )
     following_complete zero b (x ∷ xs) g more fuel h = let long = ap length h.2 in absurd (omega arith)
     following_complete (suc k) b (x ∷ xs) g more fuel h =
         let long : length g ≡ length (h.0 ++ h.1) + 1 = omega (arith, ap length h.2) in
         let parts : length (h.0 ++ h.1) ≡ length h.0 + length h.1 = length-append h.0 h.1 in
-        let behind = h.0 ++ (h.1 ++ closer ∷ more) in
-        let split : g ++ closer ∷ more ≡ Sign s ∷ behind = ap (λ l. l ++ closer ∷ more) h.2 ∙ ap (λ l. Sign s ∷ l) (append_assoc h.0 h.1 (closer ∷ more)) in
+        let rest = h.0 ++ (h.1 ++ closer ∷ more) in
+        let split : g ++ closer ∷ more ≡ Sign s ∷ rest = ap (λ l. l ++ closer ∷ more) h.2 ∙ ap (λ l. Sign s ∷ l) (append_assoc h.0 h.1 (closer ∷ more)) in
         let one = one_read (suc k) k b x h.0 (h.1 ++ closer ∷ more) refl h.3 (ends_following xs h.1 more h.4) in
         let next = following_complete k (add b one.0) xs h.1 more (omega arith) h.4 in (
           one.0 ∷ next.0,
           (one.1, next.1),
-          ap (Behind (suc k) b) split
-              ∙ ap (λ o. behind_item (Go (suc k)) b (closing_from close (Sign s ∷ behind) o) (separator (Sign s ∷ behind))) (separator_is behind)
-              ∙ ap (λ o. behind_item (Go (suc k)) b o (separator (Sign s ∷ behind))) (begins x h.0 (h.1 ++ closer ∷ more) h.3)
-              ∙ ap (λ o. behind_item (Go (suc k)) b None o) (separator_is behind)
+          ap (After (suc k) b) split
+              ∙ ap (λ o. after_item (Go (suc k)) b (closing_from close (Sign s ∷ rest) o) (separator (Sign s ∷ rest))) (separator_is rest)
+              ∙ ap (λ o. after_item (Go (suc k)) b o (separator (Sign s ∷ rest))) (begins x h.0 (h.1 ++ closer ∷ more) h.3)
+              ∙ ap (λ o. after_item (Go (suc k)) b None o) (separator_is rest)
               ∙ one.2
               ∙ next.2,
         )

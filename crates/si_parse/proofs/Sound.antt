@@ -10,12 +10,12 @@ use Rattle.si_semantics.specs.Tree as tree
 use Rattle.si_semantics.specs.Tokens.{Symbol, Keyword}
 use Rattle.si_semantics.specs.Tokens as token
 use Rattle.si_semantics.specs.Text.{max_length}
-use Rattle.si_semantics.specs.Grammar.{Terminal, NAME, NUMBER, STRING, Sign, Word, value_of_int, value_of_str, level_of, left_level, right_level, symbol_of, prefix_level, prefix_of, boolean_level, item_level, word_of, comparison_of, is_identity, Many, Behind, Separated, Ended, Argument, Positional, ByName, Passes, IsPassed, exprs_of, items_of, links_of, chain_of, Compares, PairsOf, Strings, Spells, BYTES, value_of_bytes, Octets}
+use Rattle.si_semantics.specs.Grammar.{Terminal, NAME, NUMBER, STRING, Sign, Word, value_of_int, value_of_str, level_of, left_level, right_level, symbol_of, prefix_level, prefix_of, boolean_level, item_level, word_of, comparison_of, is_identity, Many, After, Separated, Ended, Argument, Positional, ByName, Passes, IsPassed, exprs_of, items_of, links_of, chain_of, Compares, PairsOf, Strings, Spells, BYTES, value_of_bytes, Octets}
 use Rattle.si_parse.specs.inner.Lookahead.{boolean, continuation_at, strength_of, strength_at, rest_of, after_boolean, after}
 use Rattle.si_parse.specs.inner.Lists.{then_read, Found, Measured, alone}
 use Rattle.si_parse.specs.inner.Names.{name_at}
 use Rattle.si_parse.specs.inner.Expressions.{short, str_by, Argued, named_at, argument_from, argument_by, passed_from, attributed, attribute_by, call_of, called, with_word, comparison_at, Parser, arguments_from, arguments_by, within, binary_by, call_by, indexed, subscript_by, operands_by, boolean_by, is_singleton, compared_to, compared_by, links_by, compare_by, other_by, conditional_by, extended_by, identity_from, continued_by, items_from, items_by, tupled, closed, grouped, bracketed_from, strings_by, prefix_at, unary_by, bracketed_by, atom_by, operand_from, operand_by, expression_at, octets_by, bytes_by, listed, list_by, Pair, both, paired, value_of_key, pair_by, pairs_from, pairs_by, in_dict, dict_by}
-use Rattle.si_parse.proofs.Laws.{Items, named_at_some, passes_mono, spells_looser, spells_deeper, node, bracketed, then_read_some, some_inj, name_at_some, after_close_some, after_bracket_some, after_comma_some, after_colon_some, after_brace_some, after_else_some, with_word_some, with_word_none, prefix_at_some, comparison_at_some, links_of_chain, items_of_exprs, separated_mono, many_mono, compares_mono, behind_mono}
+use Rattle.si_parse.proofs.Laws.{Items, named_at_some, passes_mono, spells_looser, spells_deeper, node, bracketed, then_read_some, some_inj, name_at_some, after_close_some, after_bracket_some, after_comma_some, after_colon_some, after_brace_some, after_else_some, with_word_some, with_word_none, prefix_at_some, comparison_at_some, links_of_chain, items_of_exprs, separated_mono, many_mono, compares_mono, after_mono}
 use Rattle.si_parse.proofs.Levels.{strength_at_most, right_stops, right_bound, level_reached, Apart, high, at_condition, at_disjunction, at_comparison, right_apart, level_apart, prefix_apart, prefix_bound, boolean_apart, item_apart, item_bound, condition_up, condition_down, comparison_up, comparison_down, boolean_up, boolean_down, boolean_strength, after_word, boolean_ends, comparison_ends}
 use Rattle.si_parse.proofs.Lists.{le_from, chosen}
 use Rattle.si_parse.proofs.Enclosed.{alone_are, enclosed_sound}
@@ -168,7 +168,7 @@ module _ (n : ℕ) (sub : Parser) (sound : IsSound n sub) where
         ((a.0.front, b.0.front, refl, key, value), omega (arith, a.1, b.1)),
       )
 
-  -- one item with others behind it
+  -- one item with others after it
   ended_by : {A : Type 0} (I : Items A) (x : A) (xs : List A) (f g : List Terminal) → I x f → 0 < length xs → Separated I token.Comma xs g → Ended I token.Comma (x ∷ xs) (f ++ Sign token.Comma ∷ g)
   ended_by I x [] f g h some s = absurd (omega arith)
   ended_by I x (y ∷ ys) f g h some s = (f, Sign token.Comma ∷ g, refl, h, (s.0, s.1, ap (λ l. Sign token.Comma ∷ l) s.2, s.3, s.4))
@@ -203,7 +203,7 @@ module _ (n : ℕ) (sub : Parser) (sound : IsSound n sub) where
         let P : List Expr → Type 0 = λ xs. Ended (Spells d 1) token.Comma xs f in
         node d 18 (tree.Tuple (exprs_of es)) (Sign token.LeftParenthesis ∷ (f ++ Sign token.RightParenthesis ∷ [])) (f, refl, subst P (sym (items_of_exprs es)) h)
 
-    -- the items of a tuple behind a first one and its comma
+    -- the items of a tuple after a first one and its comma
     abbrev ItemsRead : Expr → ℕ → List Terminal → List Terminal → (List Expr × ℕ) × List Terminal → Type 0
     ItemsRead e d front ts r =
         (f : List Terminal) × (front ++ Sign token.Comma ∷ ts ≡ f ++ Sign token.RightParenthesis ∷ r.1) × Ended (Spells r.0.1 1) token.Comma r.0.0 f × (r.0.1 ≤ n)
@@ -548,7 +548,7 @@ module _ (n : ℕ) (sub : Parser) (sound : IsSound n sub) where
 
   module _ (op : BooleanOperator) where
     abbrev Item : ℕ → Expr → List Terminal → Type 0
-    Item d = Behind (Word (word_of op)) (Spells d (item_level op))
+    Item d = After (Word (word_of op)) (Spells d (item_level op))
 
     item_read : (ts : List Terminal) (o : BooleanOperator) (rest : List Terminal) (r : Found) → with_word op (after_boolean op ts) ≡ Some (o, rest) → sub (item_level o) rest ≡ Some r
         → (f : List Terminal) × (ts ≡ f ++ r.2) × Item r.1 r.0 f × (r.1 ≤ n) × (strength_at r.2 < item_level op)
@@ -562,11 +562,11 @@ module _ (n : ℕ) (sub : Parser) (sound : IsSound n sub) where
     boolean_reads front e d m ts l r spelled low high o is weak h =
         let s = then_read_some (operands_by sub op ts) (λ r. within (n + 1) (tree.Boolean op e (exprs_of r.0.0)) (max d r.0.1 + 1) r.1) r h in
         let c = chain_sound (λ o e. e) (λ ts. with_word op (after_boolean op ts)) (λ o. sub (item_level o)) Item n (item_level op)
-        (λ c d le x f h. behind_mono (Spells c) (Spells d) (Word (word_of op)) (item_level op) (spells_deeper c d le) x f h) item_read (length ts) ([], 0) ts s.0 (omega arith) weak s.1 in
+        (λ c d le x f h. after_mono (Spells c) (Spells d) (Word (word_of op)) (item_level op) (spells_deeper c d le) x f h) item_read (length ts) ([], 0) ts s.0 (omega arith) weak s.1 in
         let w = within_some (n + 1) (tree.Boolean op e (exprs_of s.0.0.0)) (max d s.0.0.1 + 1) s.0.1 r s.2 in
         let P : Found → Type 0 = Longer front ts l in
         let top = max d s.0.0.1 in
-        let others = many_mono (Item s.0.0.1) (Item top) (behind_mono (Spells s.0.0.1) (Spells top) (Word (word_of op)) (item_level op) (spells_deeper s.0.0.1 top (omega arith))) c.0 c.1 c.6 in
+        let others = many_mono (Item s.0.0.1) (Item top) (after_mono (Spells s.0.0.1) (Spells top) (Word (word_of op)) (item_level op) (spells_deeper s.0.0.1 top (omega arith))) c.0 c.1 c.6 in
         let same : c.0 ≡ items_of (exprs_of s.0.0.0) = sym (items_of_exprs s.0.0.0 ∙ c.2) in
         let some = some_items (λ ts. with_word op (after_boolean op ts)) (Item s.0.0.1) c.0 c.1 ts s.0.1 o is c.3 c.6 c.8 in
         let both = subst (λ xs. (0 < length xs) × Many (Item top) xs c.1) same (some, others) in

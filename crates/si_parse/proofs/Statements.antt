@@ -112,9 +112,9 @@ augmented_small (tree.Boolean o e others) op v f g s is h i = cc
 augmented_small (tree.Compare e cs) op v f g s is h i = cc
 augmented_small (tree.Conditional e d c) op v f g s is h i = cc
 
-behind_some : (o : Option Stmt) (ts : List Terminal) (r : Stmt × List Terminal) → option_map {U = Stmt × List Terminal} (λ s. (s, ts)) o ≡ Some r → (s : Stmt) × (o ≡ Some s) × ((s, ts) ≡ r)
-behind_some None ts r h = cc
-behind_some (Some s) ts r h = (s, refl, some_inj (s, ts) r h)
+after_some : (o : Option Stmt) (ts : List Terminal) (r : Stmt × List Terminal) → option_map {U = Stmt × List Terminal} (λ s. (s, ts)) o ≡ Some r → (s : Stmt) × (o ≡ Some s) × ((s, ts) ≡ r)
+after_some None ts r h = cc
+after_some (Some s) ts r h = (s, refl, some_inj (s, ts) r h)
 
 from_reads : (f ts : List Terminal) (e : Expr) (o : Option (Option BinaryOperator × List Terminal)) → assignment_at ts ≡ o → IsExpressions e f → (r : Stmt × List Terminal) → statement_from (expression_at max_depth) ts e o ≡ Some r → SmallRead (f ++ ts) r
 from_reads f ts e None is spelled r h =
@@ -123,7 +123,7 @@ from_reads f ts e (Some (None, rest)) is spelled r h = assigned_reads f e ts res
 from_reads f ts e (Some (Some op, rest)) is spelled r h =
     let s = then_read_some (expressions_by (expression_at max_depth) 1 rest) (augmented e op) r h in
     let b = expressions_reads rest s.0 s.1 in
-    let m = behind_some (augment e op s.0.0) s.0.2 r s.2 in
+    let m = after_some (augment e op s.0.0) s.0.2 r s.2 in
     let P : Stmt × List Terminal → Type 0 = SmallRead (f ++ ts) in
     subst P m.2 (
       f ++ Sign (augmented_of op) ∷ b.0,
@@ -230,24 +230,24 @@ name_reads x ts rest h =
     let c = cond_some (same_text n.0.0 x) n.0.1 rest n.2 in
     name_at_some ts n.0 n.1 ∙ ap (λ y. NAME y ∷ n.0.1) (same_is n.0.0 x c.0) ∙ ap (λ l. NAME x ∷ l) c.1
 
-behind_import : (x : Text) (ts rest : List Terminal) → after_import x ts ≡ Some rest → ts ≡ Word token.ImportWord ∷ (NAME x ∷ rest)
-behind_import x ts rest h =
+import_reads : (x : Text) (ts rest : List Terminal) → after_import x ts ≡ Some rest → ts ≡ Word token.ImportWord ∷ (NAME x ∷ rest)
+import_reads x ts rest h =
     let s = then_read_some (after (Word token.ImportWord) ts) (after_name x) rest h in after_import_some ts s.0 s.1 ∙ ap (λ l. Word token.ImportWord ∷ l) (name_reads x s.0 rest s.2)
 
-behind_from : (x : Text) (ts rest : List Terminal) → after_from x ts ≡ Some rest → ts ≡ Word token.FromWord ∷ (NAME x ∷ rest)
-behind_from x ts rest h =
+from_reads : (x : Text) (ts rest : List Terminal) → after_from x ts ≡ Some rest → ts ≡ Word token.FromWord ∷ (NAME x ∷ rest)
+from_reads x ts rest h =
     let s = then_read_some (after (Word token.FromWord) ts) (after_name x) rest h in after_from_some ts s.0 s.1 ∙ ap (λ l. Word token.FromWord ∷ l) (name_reads x s.0 rest s.2)
 
 imported_reads : (ts : List Terminal) (o p : Option (List Terminal)) → after_import (codes "threading") ts ≡ o → after_interpreters ts ≡ p → (i : ModuleName × List Terminal) → imported o p ≡ Some i → SmallRead ts (tree.Import i.0, i.1)
 imported_reads ts (Some rest) p is also i h =
     let P : ModuleName × List Terminal → Type 0 = λ i. SmallRead ts (tree.Import i.0, i.1) in
-    subst P (some_inj (Threading, rest) i h) (import_of Threading, behind_import (codes "threading") ts rest is, refl)
+    subst P (some_inj (Threading, rest) i h) (import_of Threading, import_reads (codes "threading") ts rest is, refl)
 imported_reads ts None (Some rest) is also i h =
     let P : ModuleName × List Terminal → Type 0 = λ i. SmallRead ts (tree.Import i.0, i.1) in
     let s = then_read_some (after_from (codes "concurrent") ts) (after_import (codes "interpreters")) rest also in
     subst P (some_inj (Interpreters, rest) i h) (
       import_of Interpreters,
-      behind_from (codes "concurrent") ts s.0 s.1 ∙ ap (λ l. Word token.FromWord ∷ (NAME (codes "concurrent") ∷ l)) (behind_import (codes "interpreters") s.0 rest s.2),
+      from_reads (codes "concurrent") ts s.0 s.1 ∙ ap (λ l. Word token.FromWord ∷ (NAME (codes "concurrent") ∷ l)) (import_reads (codes "interpreters") s.0 rest s.2),
       refl,
     )
 imported_reads ts None None is also i h = cc
@@ -283,19 +283,19 @@ no_item (NEWLINE ∷ ts) h = (refl, refl)
 no_item (Sign token.Semicolon ∷ ts) h = (refl, refl)
 no_item (_ ∷ ts) h = cc
 
-sign_behind : (a : Option BinaryOperator) (ts : List Terminal) → after (Sign token.Comma) (Sign (sign_of a) ∷ ts) ≡ None
-sign_behind None ts = refl
-sign_behind (Some tree.BitOr) ts = refl
-sign_behind (Some tree.BitXor) ts = refl
-sign_behind (Some tree.BitAnd) ts = refl
-sign_behind (Some tree.ShiftLeft) ts = refl
-sign_behind (Some tree.ShiftRight) ts = refl
-sign_behind (Some tree.Add) ts = refl
-sign_behind (Some tree.Subtract) ts = refl
-sign_behind (Some tree.Multiply) ts = refl
-sign_behind (Some tree.FloorDivide) ts = refl
-sign_behind (Some tree.Modulo) ts = refl
-sign_behind (Some tree.Power) ts = refl
+sign_after : (a : Option BinaryOperator) (ts : List Terminal) → after (Sign token.Comma) (Sign (sign_of a) ∷ ts) ≡ None
+sign_after None ts = refl
+sign_after (Some tree.BitOr) ts = refl
+sign_after (Some tree.BitXor) ts = refl
+sign_after (Some tree.BitAnd) ts = refl
+sign_after (Some tree.ShiftLeft) ts = refl
+sign_after (Some tree.ShiftRight) ts = refl
+sign_after (Some tree.Add) ts = refl
+sign_after (Some tree.Subtract) ts = refl
+sign_after (Some tree.Multiply) ts = refl
+sign_after (Some tree.FloorDivide) ts = refl
+sign_after (Some tree.Modulo) ts = refl
+sign_after (Some tree.Power) ts = refl
 
 -- all that a statement reads in front of its end
 whole_read : (e : Expr) (f more : List Terminal) → IsExpressions e f → Follows more → (d : ℕ) × (expressions_by (expression_at max_depth) 1 (f ++ more) ≡ Some (e, d, more))
@@ -353,15 +353,15 @@ stands_alone e f other h = ⊎_elim (λ e. e) (λ t. absurd (other t.0 t.1)) h
 augmented_complete : (e : Expr) (op : BinaryOperator) (v : Expr) (s : Stmt) (f g whole more : List Terminal) → whole ≡ f ++ Sign (augmented_of op) ∷ g → IsExpression e f → IsExpressions v g → augment e op v ≡ Some s → Follows more
     → statement_by (expression_at max_depth) (whole ++ more) ≡ Some (s, more)
 augmented_complete e op v s f g whole more is he hv made ends =
-    let behind = g ++ more in
-    let weak = sign_weak (Some op) behind in
-    let c = expression_alone e f (Sign (augmented_of op) ∷ behind) he weak (sign_behind (Some op) behind) in
+    let rest = g ++ more in
+    let weak = sign_weak (Some op) rest in
+    let c = expression_alone e f (Sign (augmented_of op) ∷ rest) he weak (sign_after (Some op) rest) in
     let d = whole_read v g more hv ends in
-    let split : whole ++ more ≡ f ++ Sign (augmented_of op) ∷ behind = ap (λ t. t ++ more) is ∙ append_assoc f (Sign (augmented_of op) ∷ g) more in
+    let split : whole ++ more ≡ f ++ Sign (augmented_of op) ∷ rest = ap (λ t. t ++ more) is ∙ append_assoc f (Sign (augmented_of op) ∷ g) more in
     ap (statement_by (expression_at max_depth)) split
-    ∙ by_expression (f ++ Sign (augmented_of op) ∷ behind) (expression_begins max_depth 1 e f he (Sign (augmented_of op) ∷ behind))
+    ∙ by_expression (f ++ Sign (augmented_of op) ∷ rest) (expression_begins max_depth 1 e f he (Sign (augmented_of op) ∷ rest))
     ∙ ap (λ r. then_read r (λ r. statement_from (expression_at max_depth) r.2 r.0 (assignment_at r.2))) c.1
-    ∙ ap (statement_from (expression_at max_depth) (Sign (augmented_of op) ∷ behind) e) (assignment_is (Some op) behind)
+    ∙ ap (statement_from (expression_at max_depth) (Sign (augmented_of op) ∷ rest) e) (assignment_is (Some op) rest)
     ∙ ap (λ r. then_read r (augmented e op)) d.1
     ∙ ap (λ o. option_map (λ s. (s, more)) o) made
 

@@ -4,7 +4,7 @@ use Rattle.std.specs.Prelude.{nat_lt, if◌then◌else◌}
 use Rattle.si_semantics.specs.Tree.{Expr, Stmt}
 use Rattle.si_semantics.specs.Grammar.{Terminal}
 use Rattle.si_parse.specs.inner.Lookahead.{Step, strength_at, continuation_at, header_at}
-use Rattle.si_parse.specs.inner.Lists.{then_read, closing, behind_item, separated_by, chain_from, chain_by, Parsed, many_by}
+use Rattle.si_parse.specs.inner.Lists.{then_read, closing, after_item, separated_by, chain_from, chain_by, Parsed, many_by}
 use Rattle.si_parse.specs.inner.Expressions.{Parser, extended_by, continued_by, expression_by, expression_at}
 use Rattle.si_parse.specs.inner.Statements.{simple_line}
 use Rattle.si_parse.specs.inner.Lines.{block_from, block_at}
@@ -39,12 +39,12 @@ module _ {R B : Type 0} (add : B → R → B) (rest : R → List Terminal) (item
   separated_by_zero (suc k) b ts h = absurd (omega arith)
 
   pub separated_by_step : (k : ℕ) (b : B) (ts : List Terminal) → 0 < k → separated_by add rest item separator close k b ts
-      ≡ then_read (item ts) (λ r. behind_item (separated_by add rest item separator close (k - 1)) (add b r) (closing separator close (rest r)) (separator (rest r)))
+      ≡ then_read (item ts) (λ r. after_item (separated_by add rest item separator close (k - 1)) (add b r) (closing separator close (rest r)) (separator (rest r)))
   unfolding separated_by
   separated_by_step zero b ts h = absurd (omega arith)
   separated_by_step (suc k) b ts h =
       let same : k ≡ suc k - 1 = omega arith in
-      ap (λ j. then_read (item ts) (λ r. behind_item (separated_by add rest item separator close j) (add b r) (closing separator close (rest r)) (separator (rest r)))) same
+      ap (λ j. then_read (item ts) (λ r. after_item (separated_by add rest item separator close j) (add b r) (closing separator close (rest r)) (separator (rest r)))) same
 
 module _ {O X : Type 0} (make : O → Expr → X) (operator : List Terminal → Option (O × List Terminal)) (item : O → List Terminal → Parsed) where
   pub chain_by_zero : (k : ℕ) (b : List X × ℕ) (ts : List Terminal) → k ≡ 0 → chain_by make operator item k b ts ≡ None

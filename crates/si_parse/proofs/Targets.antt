@@ -111,10 +111,10 @@ are_tighter k l e t f le is (inr h) =
 abbrev pub TargetRead : List Terminal → Target × List Terminal → Type 0
 TargetRead ts x = (f : List Terminal) × (ts ≡ f ++ Word token.InWord ∷ x.1) × IsForTarget x.0 f
 
-behind_reads : (t : Target) (ts : List Terminal) (o : Option (List Terminal)) → after (Word token.InWord) ts ≡ o → (x : Target × List Terminal) → option_map {U = Target × List Terminal} (λ rest. (t, rest)) o ≡ Some x
+after_reads : (t : Target) (ts : List Terminal) (o : Option (List Terminal)) → after (Word token.InWord) ts ≡ o → (x : Target × List Terminal) → option_map {U = Target × List Terminal} (λ rest. (t, rest)) o ≡ Some x
     → (ts ≡ Word token.InWord ∷ x.1) × (t ≡ x.0)
-behind_reads t ts None is x h = cc
-behind_reads t ts (Some rest) is x h =
+after_reads t ts None is x h = cc
+after_reads t ts (Some rest) is x h =
     let e = some_inj (t, rest) x h in (after_in_some ts rest is ∙ ap (λ p. Word token.InWord ∷ p.1) e, ap (λ p. p.0) e)
 
 pub target_reads : (ts : List Terminal) (x : Target × List Terminal) → target_by ts ≡ Some x → TargetRead ts x
@@ -122,7 +122,7 @@ target_reads ts x h =
     let s = then_read_some (expressions_by (expression_at max_depth) 16 ts) (λ r. target_from r.0 (after (Word token.InWord) r.2)) x h in
     let a = read_of 16 (omega arith) (omega arith) (high 16 (omega arith)) ts s.0 s.1 in
     let m = then_read_some (target_of s.0.0) (λ t. option_map (λ rest. (t, rest)) (after (Word token.InWord) s.0.2)) x s.2 in
-    let b = behind_reads m.0 s.0.2 (after (Word token.InWord) s.0.2) refl x m.2 in
+    let b = after_reads m.0 s.0.2 (after (Word token.InWord) s.0.2) refl x m.2 in
     (a.0, a.1 ∙ ap (λ t. a.0 ++ t) b.0, (s.0.0, m.1 ∙ ap Some b.1, are_tighter 16 18 s.0.0 m.0 a.0 (omega arith) m.1 a.2))
 
 pub target_complete : (t : Target) (f more : List Terminal) → IsForTarget t f → target_by (f ++ Word token.InWord ∷ more) ≡ Some (t, more)

@@ -10,7 +10,7 @@ use Rattle.si_semantics.specs.Grammar.{Terminal, DEDENT, Branch, stmts_of, Claus
 use Rattle.si_parse.specs.declared.fault.ParseFault.{ParseFault}
 use Rattle.si_parse.specs.declared.fault.ParseFault.TheVariants.{Syntax, NoMemory}
 use Rattle.si_parse.specs.inner.Lookahead.{Step, Continuation, strength_of, strength_at, continuation_at, rest_of, Header, header_at, after}
-use Rattle.si_parse.specs.inner.Lists.{then_read, closing, behind_item, separated_by, chain_from, chain_by, Parsed, many_by}
+use Rattle.si_parse.specs.inner.Lists.{then_read, closing, after_item, separated_by, chain_from, chain_by, Parsed, many_by}
 use Rattle.si_parse.specs.inner.Names.{name_at, and_name, next_name_by, parameters_by}
 use Rattle.si_parse.specs.inner.Expressions.{Parser, extended_by, continued_by}
 use Rattle.si_parse.specs.inner.Unbracketed.{expressions_by}
@@ -78,35 +78,35 @@ module _ {O X : Type 0} (make : O → Expr → X) (operator : List Terminal → 
 
 module _ {R B : Type 0} (add : B → R → B) (rest : R → List Terminal) (item : List Terminal → Option R) (separator close : Step) (k j : ℕ) (b : B) (ts : List Terminal) (one : k ≡ j + 1) where
   pub separated_turn : separated_by add rest item separator close k b ts
-      ≡ then_read (item ts) (λ r. behind_item (separated_by add rest item separator close j) (add b r) (closing separator close (rest r)) (separator (rest r)))
+      ≡ then_read (item ts) (λ r. after_item (separated_by add rest item separator close j) (add b r) (closing separator close (rest r)) (separator (rest r)))
   separated_turn =
       let same : k - 1 ≡ j = omega arith in
       separated_by_step add rest item separator close k b ts (omega arith)
-      ∙ ap (λ i. then_read (item ts) (λ r. behind_item (separated_by add rest item separator close i) (add b r) (closing separator close (rest r)) (separator (rest r)))) same
+      ∙ ap (λ i. then_read (item ts) (λ r. after_item (separated_by add rest item separator close i) (add b r) (closing separator close (rest r)) (separator (rest r)))) same
 
   pub separated_fails : (f : ParseFault) → Fails f (item ts) → Fails f (separated_by add rest item separator close k b ts)
   separated_fails NoMemory h = tt
   separated_fails (Syntax line) h =
-      separated_turn ∙ ap (λ o. then_read o (λ r. behind_item (separated_by add rest item separator close j) (add b r) (closing separator close (rest r)) (separator (rest r)))) h
+      separated_turn ∙ ap (λ o. then_read o (λ r. after_item (separated_by add rest item separator close j) (add b r) (closing separator close (rest r)) (separator (rest r)))) h
 
   module _ (r : R) (read : item ts ≡ Some r) where
-    pub separated_read : separated_by add rest item separator close k b ts ≡ behind_item (separated_by add rest item separator close j) (add b r) (closing separator close (rest r)) (separator (rest r))
-    separated_read = separated_turn ∙ ap (λ o. then_read o (λ r. behind_item (separated_by add rest item separator close j) (add b r) (closing separator close (rest r)) (separator (rest r)))) read
+    pub separated_read : separated_by add rest item separator close k b ts ≡ after_item (separated_by add rest item separator close j) (add b r) (closing separator close (rest r)) (separator (rest r))
+    separated_read = separated_turn ∙ ap (λ o. then_read o (λ r. after_item (separated_by add rest item separator close j) (add b r) (closing separator close (rest r)) (separator (rest r)))) read
 
     pub separated_last : (after : List Terminal) → closing separator close (rest r) ≡ Some after → separated_by add rest item separator close k b ts ≡ Some (add b r, after)
-    separated_last after h = separated_read ∙ ap (λ o. behind_item (separated_by add rest item separator close j) (add b r) o (separator (rest r))) h
+    separated_last after h = separated_read ∙ ap (λ o. after_item (separated_by add rest item separator close j) (add b r) o (separator (rest r))) h
 
     pub separated_on : (more : List Terminal) → closing separator close (rest r) ≡ None → separator (rest r) ≡ Some more → separated_by add rest item separator close k b ts ≡ separated_by add rest item separator close j (add b r) more
     separated_on more h i =
         separated_read
-        ∙ ap (λ o. behind_item (separated_by add rest item separator close j) (add b r) o (separator (rest r))) h
-        ∙ ap (λ o. behind_item (separated_by add rest item separator close j) (add b r) None o) i
+        ∙ ap (λ o. after_item (separated_by add rest item separator close j) (add b r) o (separator (rest r))) h
+        ∙ ap (λ o. after_item (separated_by add rest item separator close j) (add b r) None o) i
 
     pub separated_stuck : closing separator close (rest r) ≡ None → separator (rest r) ≡ None → separated_by add rest item separator close k b ts ≡ None
     separated_stuck h i =
         separated_read
-        ∙ ap (λ o. behind_item (separated_by add rest item separator close j) (add b r) o (separator (rest r))) h
-        ∙ ap (λ o. behind_item (separated_by add rest item separator close j) (add b r) None o) i
+        ∙ ap (λ o. after_item (separated_by add rest item separator close j) (add b r) o (separator (rest r))) h
+        ∙ ap (λ o. after_item (separated_by add rest item separator close j) (add b r) None o) i
 
 -- a compound statement after its word
 pub block_compound : (n : ℕ) (body : List Stmt) (ts rest : List Terminal) (word : Header) (s : Stmt) (more : List Terminal) → 0 < n → header_at ts ≡ Some (word, rest) → compound_by (block_at (n - 1)) word rest ≡ Some (s, more)
@@ -130,29 +130,29 @@ pub catch_read : (line : LineParser) (cs : List Clause) (ts rest : List Terminal
 catch_read line cs ts rest c more is h = ap (λ o. then_read o (λ rest. then_read (clause_by line rest) (with_clause cs))) is ∙ ap (λ o. then_read o (with_clause cs)) h
 
 -- the other compound statements after their words
-pub while_read : (line : LineParser) (ts : List Terminal) (b : Branch) (behind : List Terminal) (last : List Stmt) (more : List Terminal) → branch_by line ts ≡ Some (b, behind) → otherwise_by line behind ≡ Some (last, more)
+pub while_read : (line : LineParser) (ts : List Terminal) (b : Branch) (rest : List Terminal) (last : List Stmt) (more : List Terminal) → branch_by line ts ≡ Some (b, rest) → otherwise_by line rest ≡ Some (last, more)
     → while_by line ts ≡ Some (tree.While b.0 b.1 (stmts_of last), more)
-while_read line ts b behind last more h i = ap (λ o. then_read o (λ b. then_read (otherwise_by line b.1) (joined_while b.0))) h ∙ ap (λ o. then_read o (joined_while b)) i
+while_read line ts b rest last more h i = ap (λ o. then_read o (λ b. then_read (otherwise_by line b.1) (joined_while b.0))) h ∙ ap (λ o. then_read o (joined_while b)) i
 
-pub for_read : (line : LineParser) (ts : List Terminal) (t : Target) (first : List Terminal) (b : Branch) (behind : List Terminal) (last : List Stmt) (more : List Terminal) → target_by ts ≡ Some (t, first)
-    → over_by line first ≡ Some (b, behind) → otherwise_by line behind ≡ Some (last, more) → for_by line ts ≡ Some (tree.For t b.0 b.1 (stmts_of last), more)
-for_read line ts t first b behind last more h i j =
+pub for_read : (line : LineParser) (ts : List Terminal) (t : Target) (first : List Terminal) (b : Branch) (rest : List Terminal) (last : List Stmt) (more : List Terminal) → target_by ts ≡ Some (t, first)
+    → over_by line first ≡ Some (b, rest) → otherwise_by line rest ≡ Some (last, more) → for_by line ts ≡ Some (tree.For t b.0 b.1 (stmts_of last), more)
+for_read line ts t first b rest last more h i j =
     ap (λ o. then_read o (λ t. then_read (over_by line t.1) (λ b. then_read (otherwise_by line b.1) (joined_for t.0 b.0)))) h
     ∙ ap (λ o. then_read o (λ b. then_read (otherwise_by line b.1) (joined_for t b.0))) i
     ∙ ap (λ o. then_read o (joined_for t b)) j
 
-pub define_read : (line : LineParser) (ts : List Terminal) (x : Text) (opened first : List Terminal) (ps : List Text) (behind : List Terminal) (body : List Stmt) (more : List Terminal) → name_at ts ≡ Some (x, opened)
-    → after (Sign token.LeftParenthesis) opened ≡ Some first → parameters_by first ≡ Some (ps, behind) → suite_by line behind ≡ Some (body, more) → define_by line ts ≡ Some (tree.Define x ps (stmts_of body), more)
-define_read line ts x opened first ps behind body more h i j k =
+pub define_read : (line : LineParser) (ts : List Terminal) (x : Text) (opened first : List Terminal) (ps : List Text) (past : List Terminal) (body : List Stmt) (more : List Terminal) → name_at ts ≡ Some (x, opened)
+    → after (Sign token.LeftParenthesis) opened ≡ Some first → parameters_by first ≡ Some (ps, past) → suite_by line past ≡ Some (body, more) → define_by line ts ≡ Some (tree.Define x ps (stmts_of body), more)
+define_read line ts x opened first ps past body more h i j k =
     ap (λ o. then_read o (λ n. then_read (after (Sign token.LeftParenthesis) n.1) (λ rest. then_read (parameters_by rest) (defined_by line n.0)))) h
     ∙ ap (λ o. then_read o (λ rest. then_read (parameters_by rest) (defined_by line x))) i
     ∙ ap (λ o. then_read o (defined_by line x)) j
     ∙ ap (λ o. then_read o (λ b. Some (tree.Define x ps (stmts_of b.0), b.1))) k
 
-pub finally_read : (line : LineParser) (ts : List Terminal) (body : List Stmt) (behind : List Terminal) (cs : List Clause) (last : List Stmt) (more rest : List Terminal) (end : List Stmt) (done : List Terminal) → suite_by line ts ≡ Some (body, behind)
-    → handlers_by line behind ≡ Some ((cs, last), more) → after (Word token.FinallyWord) more ≡ Some rest → suite_by line rest ≡ Some (end, done)
+pub finally_read : (line : LineParser) (ts : List Terminal) (body : List Stmt) (past : List Terminal) (cs : List Clause) (last : List Stmt) (more rest : List Terminal) (end : List Stmt) (done : List Terminal) → suite_by line ts ≡ Some (body, past)
+    → handlers_by line past ≡ Some ((cs, last), more) → after (Word token.FinallyWord) more ≡ Some rest → suite_by line rest ≡ Some (end, done)
     → try_by line ts ≡ Some (tree.Finally (stmts_of body) (clauses_of cs) (stmts_of last) (stmts_of end), done)
-finally_read line ts body behind cs last more rest end done h i is j =
+finally_read line ts body past cs last more rest end done h i is j =
     ap (λ o. then_read o (λ b. then_read (handlers_by line b.1) (λ h. finally_from line (stmts_of b.0) h (after (Word token.FinallyWord) h.1)))) h
     ∙ ap (λ o. then_read o (λ h. finally_from line (stmts_of body) h (after (Word token.FinallyWord) h.1))) i
     ∙ ap (finally_from line (stmts_of body) ((cs, last), more)) is
@@ -175,9 +175,9 @@ pub tried_none : (body : Stmts) (cs : List Clause) (last : List Stmt) (ts : List
 tried_none body [] last ts none = refl
 tried_none body (c ∷ cs) last ts none = absurd (omega arith)
 
-pub try_read : (line : LineParser) (ts : List Terminal) (body : List Stmt) (behind : List Terminal) (cs : List Clause) (last : List Stmt) (more : List Terminal) → suite_by line ts ≡ Some (body, behind)
-    → handlers_by line behind ≡ Some ((cs, last), more) → after (Word token.FinallyWord) more ≡ None → 0 < length cs → try_by line ts ≡ Some (tree.Try (stmts_of body) (clauses_of cs) (stmts_of last), more)
-try_read line ts body behind cs last more h i not_finally some =
+pub try_read : (line : LineParser) (ts : List Terminal) (body : List Stmt) (rest : List Terminal) (cs : List Clause) (last : List Stmt) (more : List Terminal) → suite_by line ts ≡ Some (body, rest)
+    → handlers_by line rest ≡ Some ((cs, last), more) → after (Word token.FinallyWord) more ≡ None → 0 < length cs → try_by line ts ≡ Some (tree.Try (stmts_of body) (clauses_of cs) (stmts_of last), more)
+try_read line ts body rest cs last more h i not_finally some =
     ap (λ o. then_read o (λ b. then_read (handlers_by line b.1) (λ h. finally_from line (stmts_of b.0) h (after (Word token.FinallyWord) h.1)))) h
     ∙ ap (λ o. then_read o (λ h. finally_from line (stmts_of body) h (after (Word token.FinallyWord) h.1))) i
     ∙ ap (finally_from line (stmts_of body) ((cs, last), more)) not_finally

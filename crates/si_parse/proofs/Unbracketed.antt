@@ -4,12 +4,12 @@ use Rattle.std.specs.Prelude.{if◌then◌else◌}
 use Rattle.si_semantics.specs.Tree as tree
 use Rattle.si_semantics.specs.Tree.{Expr}
 use Rattle.si_semantics.specs.Tokens as token
-use Rattle.si_semantics.specs.Grammar.{Terminal, Sign, Many, Behind, Following, Ended, exprs_of, Spells, max_depth, max_item_depth, IsExpression, IsExpressions}
+use Rattle.si_semantics.specs.Grammar.{Terminal, Sign, Many, After, Following, Ended, exprs_of, Spells, max_depth, max_item_depth, IsExpression, IsExpressions}
 use Rattle.si_parse.specs.inner.Lookahead.{strength_at, begins_literal, after}
 use Rattle.si_parse.specs.inner.Lists.{Found, then_read}
 use Rattle.si_parse.specs.inner.Expressions.{Parser, expression_at, within}
 use Rattle.si_parse.specs.inner.Unbracketed.{ends_items, after_comma, item_follows, further_by, past_from, past_comma, unbracketed, expressions_from, expressions_by}
-use Rattle.si_parse.proofs.Laws.{then_read_some, some_inj, spells_deeper, behind_mono, many_mono, after_comma_some}
+use Rattle.si_parse.proofs.Laws.{then_read_some, some_inj, spells_deeper, after_mono, many_mono, after_comma_some}
 use Rattle.si_parse.proofs.Levels.{Apart, at_condition}
 use Rattle.si_parse.proofs.Lists.{chosen}
 use Rattle.si_parse.proofs.Chains.{chain_sound, chain_complete, many_long}
@@ -20,7 +20,7 @@ use Rattle.si_parse.proofs.Complete.{within_ok, expression_complete}
 abbrev sub : Parser
 sub = expression_at max_depth
 
--- what stands behind the last item
+-- what stands after the last item
 abbrev Last : List Terminal → Type 0
 Last ts = (ts ≡ []) ⊎ (ts ≡ Sign token.Comma ∷ [])
 
@@ -39,7 +39,7 @@ none_many I [] f h none = h
 none_many I (x ∷ xs) f h none = absurd (omega arith)
 
 abbrev PastRead : List Terminal → List Terminal → Type 0
-PastRead ts behind = (last : List Terminal) × (ts ≡ last ++ behind) × Last last × ((rest : List Terminal) → after (Sign token.Comma) ts ≡ Some rest → last ≡ Sign token.Comma ∷ [])
+PastRead ts past = (last : List Terminal) × (ts ≡ last ++ past) × Last last × ((rest : List Terminal) → after (Sign token.Comma) ts ≡ Some rest → last ≡ Sign token.Comma ∷ [])
 
 past_reads : (ts : List Terminal) (o : Option (List Terminal)) → after (Sign token.Comma) ts ≡ o → PastRead ts (past_from ts o)
 past_reads ts None is = ([], refl, inl refl, λ rest some. let bad : None ≡ Some rest = sym is ∙ some in cc)
@@ -61,9 +61,9 @@ AreExpressions l e ts =
     ⊎ ((items : List Expr) × (e ≡ tree.Tuple (exprs_of items)) × (0 < length items) × Ended (Spells max_item_depth l) token.Comma items ts)
 
 module _ (l : ℕ) (positive : 0 < l) (low : l ≤ 16) (apart : Apart l) where
-  -- an item of the level behind its comma
+  -- an item of the level after its comma
   abbrev Item : ℕ → Expr → List Terminal → Type 0
-  Item d = Behind (Sign token.Comma) (Spells d l)
+  Item d = After (Sign token.Comma) (Spells d l)
 
   -- ---- what is read is in the grammar
 
@@ -95,13 +95,13 @@ module _ (l : ℕ) (positive : 0 < l) (low : l ≤ 16) (apart : Apart l) where
   unbracketed_reads e d front ts rest is weak spelled le r h =
       let s = then_read_some (further_by sub l (e ∷ [], d) ts) (unbracketed max_depth) r h in
       let c = chain_sound (λ o e. e) (λ ts. item_follows (after_comma ts)) (λ o. sub l) Item max_depth l
-      (λ c d le x f h. behind_mono (Spells c) (Spells d) (Sign token.Comma) l (spells_deeper c d le) x f h) item_reads (length ts) (e ∷ [], d) ts s.0 le weak s.1 in
+      (λ c d le x f h. after_mono (Spells c) (Spells d) (Sign token.Comma) l (spells_deeper c d le) x f h) item_reads (length ts) (e ∷ [], d) ts s.0 le weak s.1 in
       let w = within_some max_depth (tree.Tuple (exprs_of s.0.0.0)) (s.0.0.1 + 1) (past_comma s.0.1) r s.2 in
       let p = past_reads s.0.1 (after (Sign token.Comma) s.0.1) refl in
       let only : length c.0 ≡ 0 → p.0 ≡ Sign token.Comma ∷ []
       = λ none. p.3 rest (ap (after (Sign token.Comma)) (sym (c.3 ∙ ap (λ t. t ++ s.0.1) (none_many (Item s.0.0.1) c.0 c.1 c.6 none))) ∙ is) in
       let first = spells_deeper d max_item_depth (omega (arith, c.4, w.0)) l e front spelled in
-      let others = many_mono (Item s.0.0.1) (Item max_item_depth) (behind_mono (Spells s.0.0.1) (Spells max_item_depth) (Sign token.Comma) l (spells_deeper s.0.0.1 max_item_depth (omega (arith, w.0)))) c.0 c.1 c.6 in
+      let others = many_mono (Item s.0.0.1) (Item max_item_depth) (after_mono (Spells s.0.0.1) (Spells max_item_depth) (Sign token.Comma) l (spells_deeper s.0.0.1 max_item_depth (omega (arith, w.0)))) c.0 c.1 c.6 in
       let whole = front ++ (c.1 ++ p.0) in
       let Q : List Expr → Type 0 = λ items. (0 < length items) × Ended (Spells max_item_depth l) token.Comma items whole in
       let q = subst Q (sym c.2) (omega arith, ended_items max_item_depth e c.0 front c.1 p.0 first others p.2 only) in
@@ -148,7 +148,7 @@ module _ (l : ℕ) (positive : 0 < l) (low : l ≤ 16) (apart : Apart l) where
         r.4,
       )
 
-  -- the first item, and what stands behind it, which begins with a comma
+  -- the first item, and what stands after it, which begins with a comma
   abbrev Opened : ℕ → Expr → List Expr → List Terminal → Type 0
   Opened d x xs ts = (front : List Terminal) × (g : List Terminal) × (rest : List Terminal) × (ts ≡ front ++ g) × (g ≡ Sign token.Comma ∷ rest) × Spells d l x front × Parted d xs g
 
@@ -182,19 +182,19 @@ module _ (l : ℕ) (positive : 0 < l) (low : l ≤ 16) (apart : Apart l) where
   unbracketed_complete (x ∷ xs) ts more some h weak none ends =
       let o = opened max_item_depth x xs ts h in
       let p = o.6 in
-      let behind = p.0 ++ (p.1 ++ more) in
-      let same : behind ≡ Sign token.Comma ∷ (o.2 ++ more) = sym (append_assoc p.0 p.1 more) ∙ ap (λ t. t ++ more) (sym p.2 ∙ o.4) in
-      let split : ts ++ more ≡ o.0 ++ behind = ap (λ t. t ++ more) (o.3 ∙ ap (λ t. o.0 ++ t) p.2) ∙ append_assoc o.0 (p.0 ++ p.1) more ∙ ap (λ t. o.0 ++ t) (append_assoc p.0 p.1 more) in
+      let rest = p.0 ++ (p.1 ++ more) in
+      let same : rest ≡ Sign token.Comma ∷ (o.2 ++ more) = sym (append_assoc p.0 p.1 more) ∙ ap (λ t. t ++ more) (sym p.2 ∙ o.4) in
+      let split : ts ++ more ≡ o.0 ++ rest = ap (λ t. t ++ more) (o.3 ∙ ap (λ t. o.0 ++ t) p.2) ∙ append_assoc o.0 (p.0 ++ p.1) more ∙ ap (λ t. o.0 ++ t) (append_assoc p.0 p.1 more) in
       let open_yet = subst Weak (sym same) (positive, refl) in
-      let first = expression_complete max_depth max_item_depth l x o.0 behind (omega arith) low o.5 open_yet.0 open_yet.1 in
-      let fuel : length xs < length behind = omega (arith, ap length same, length-append p.0 (p.1 ++ more), many_long (Item max_item_depth) item_long xs p.0 p.3) in
-      let chain = chain_complete (λ o e. e) (λ ts. item_follows (after_comma ts)) (λ o. sub l) (Item max_item_depth) max_item_depth l item_complete item_begins (length behind) (x ∷ [], first.0) xs p.0 (p.1 ++ more)
+      let first = expression_complete max_depth max_item_depth l x o.0 rest (omega arith) low o.5 open_yet.0 open_yet.1 in
+      let fuel : length xs < length rest = omega (arith, ap length same, length-append p.0 (p.1 ++ more), many_long (Item max_item_depth) item_long xs p.0 p.3) in
+      let chain = chain_complete (λ o e. e) (λ ts. item_follows (after_comma ts)) (λ o. sub l) (Item max_item_depth) max_item_depth l item_complete item_begins (length rest) (x ∷ [], first.0) xs p.0 (p.1 ++ more)
       fuel first.1 p.3 (last_weak p.1 more p.4 weak) (last_none p.1 more p.4 none ends) in
       let shallow : chain.0 + 1 ≤ max_depth = omega (arith, chain.1) in (
         chain.0 + 1,
         ap (expressions_by sub l) split
             ∙ ap (λ o. then_read o (λ r. expressions_from sub l max_depth r (after (Sign token.Comma) r.2))) first.3
-            ∙ ap (expressions_from sub l max_depth (x, first.0, behind)) (ap (after (Sign token.Comma)) same)
+            ∙ ap (expressions_from sub l max_depth (x, first.0, rest)) (ap (after (Sign token.Comma)) same)
             ∙ ap (λ o. then_read o (unbracketed max_depth)) chain.2
             ∙ ap (within max_depth (tree.Tuple (exprs_of (x ∷ xs))) (chain.0 + 1)) (last_past p.1 more p.4 none)
             ∙ within_ok max_depth (tree.Tuple (exprs_of (x ∷ xs))) (chain.0 + 1) more shallow,

@@ -28,8 +28,8 @@ pub(crate) fn named_at<'a>(tokens: &[Token<'a>], at: usize) -> Option<(&'a str, 
     let token = token_at(tokens, at)?;
     match token.kind {
         TokenKind::Name => {
-            let behind = after(tokens, at + 1, Symbol::Equal)?;
-            Some((token.text, behind))
+            let rest = after(tokens, at + 1, Symbol::Equal)?;
+            Some((token.text, rest))
         }
         _ => None,
     }

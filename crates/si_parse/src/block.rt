@@ -1,7 +1,7 @@
 // Compound statements and their suites.
 
-ghost use Rattle.std.specs.Prelude.{◌≡◌, ℕ, ◌+◌, ◌-◌, ◌*◌, ◌<◌, [], length, map, option_map, string_bytes};
-ghost use Rattle.si_syntax.specs.Trees.{expr_of, stmt_of, branch_of};
+ghost use Rattle.std.specs.Prelude.{◌-◌, ◌<◌, map};
+ghost use Rattle.si_syntax.specs.Trees.{stmt_of, branch_of};
 ghost use Rattle.si_parse.specs.inner.Blocks.{indented_by, suite_by, branch_by, over_by, elifs_by, otherwise_by, if_by, while_by, for_by, define_by};
 ghost use Rattle.si_parse.specs.inner.Lines.{compound_by, block_at};
 ghost use Rattle.si_parse.specs.inner.Gives.{Gives, from, header_view};
@@ -41,11 +41,11 @@ pub(crate) fn block(
     if nesting == 0 {
         return line(alloc, before, tokens, at);
     }
-    let Some((header, behind)) = header_at(tokens, at) else {
+    let Some((header, rest)) = header_at(tokens, at) else {
         return line(alloc, before, tokens, at);
     };
     let begin = line_at(tokens, at);
-    let (statement, end) = compound(alloc, nesting - 1, header, begin, tokens, behind)?;
+    let (statement, end) = compound(alloc, nesting - 1, header, begin, tokens, rest)?;
     let mut body = before;
     body.push(statement)?;
     Ok((body, end))
@@ -85,8 +85,8 @@ fn if_statement(
     requires { parts < 999 }
     ensures { Gives (λ x. (stmt_of x.0, from tokens.now x.1)) result (if_by (block_at parts) (from tokens.now start)) }
 {
-    let (first, behind) = branch(alloc, parts, tokens, start)?;
-    let (elifs, at) = elifs(alloc, parts, tokens, behind)?;
+    let (first, rest) = branch(alloc, parts, tokens, start)?;
+    let (elifs, at) = elifs(alloc, parts, tokens, rest)?;
     let (last, end) = otherwise(alloc, parts, tokens, at)?;
     Ok((Stmt::If(If { first, elifs, last }), end))
 }
@@ -119,8 +119,8 @@ fn for_statement(
     requires { parts < 999 }
     ensures { Gives (λ x. (stmt_of x.0, from tokens.now x.1)) result (for_by (block_at parts) (from tokens.now start)) }
 {
-    let (target, behind) = target(alloc, tokens, start)?;
-    let (first, at) = over(alloc, parts, tokens, behind)?;
+    let (target, rest) = target(alloc, tokens, start)?;
+    let (first, at) = over(alloc, parts, tokens, rest)?;
     let Branch { test: items, body } = first;
     let (last, end) = otherwise(alloc, parts, tokens, at)?;
     let statement = For {
@@ -144,9 +144,9 @@ fn definition(
     requires { parts < 999 }
     ensures { Gives (λ x. (stmt_of x.0, from tokens.now x.1)) result (define_by (block_at parts) (from tokens.now start)) }
 {
-    let (name, behind) = name(alloc, tokens, start)?;
-    let Some(first) = after(tokens, behind, Symbol::LeftParenthesis) else {
-        return Err(ParseFault::Syntax(line_at(tokens, behind)));
+    let (name, rest) = name(alloc, tokens, start)?;
+    let Some(first) = after(tokens, rest, Symbol::LeftParenthesis) else {
+        return Err(ParseFault::Syntax(line_at(tokens, rest)));
     };
     let (parameters, at) = parameters(alloc, tokens, first)?;
     let (body, end) = suite(alloc, parts, tokens, at)?;
@@ -206,10 +206,10 @@ fn elifs(
     let mut elifs = Vec::new(alloc);
     let mut at = start;
     for _turn in start..tokens.len() {
-        let Some(behind) = after_word(tokens, at, Keyword::Elif) else {
+        let Some(rest) = after_word(tokens, at, Keyword::Elif) else {
             return Ok((elifs, at));
         };
-        let (next, end) = branch(alloc, parts, tokens, behind)?;
+        let (next, end) = branch(alloc, parts, tokens, rest)?;
         elifs.push(next)?;
         at = end;
     }
@@ -223,7 +223,7 @@ pub(crate) fn otherwise(alloc: Global, parts: u32, tokens: &[Token], at: usize) 
     ensures { Gives (λ x. (map stmt_of x.0.items, from tokens.now x.1)) result (otherwise_by (block_at parts) (from tokens.now at)) }
 {
     match after_word(tokens, at, Keyword::Else) {
-        Some(behind) => suite(alloc, parts, tokens, behind),
+        Some(rest) => suite(alloc, parts, tokens, rest),
         None => Ok((Vec::new(alloc), at)),
     }
 }
@@ -234,11 +234,11 @@ pub(crate) fn suite(alloc: Global, parts: u32, tokens: &[Token], at: usize) -> S
     requires { parts < 999 }
     ensures { Gives (λ x. (map stmt_of x.0.items, from tokens.now x.1)) result (suite_by (block_at parts) (from tokens.now at)) }
 {
-    let Some(behind) = after(tokens, at, Symbol::Colon) else {
+    let Some(rest) = after(tokens, at, Symbol::Colon) else {
         return Err(ParseFault::Syntax(line_at(tokens, at)));
     };
-    let Some(next) = after_newline(tokens, behind) else {
-        return line(alloc, Vec::new(alloc), tokens, behind);
+    let Some(next) = after_newline(tokens, rest) else {
+        return line(alloc, Vec::new(alloc), tokens, rest);
     };
     match after_indent(tokens, next) {
         Some(first) => indented(alloc, parts, tokens, first),
@@ -262,9 +262,9 @@ fn indented(alloc: Global, parts: u32, tokens: &[Token], start: usize) -> Suite
         if let Some(end) = after_dedent(tokens, at) {
             return Ok((body, end));
         }
-        let (longer, behind) = block(alloc, parts, body, tokens, at)?;
+        let (longer, rest) = block(alloc, parts, body, tokens, at)?;
         body = longer;
-        at = behind;
+        at = rest;
     }
     Err(ParseFault::Syntax(line_at(tokens, at)))
 }

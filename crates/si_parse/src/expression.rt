@@ -1,7 +1,6 @@
 // Expressions, by precedence climbing with one token of look-ahead.
 
-ghost use Rattle.std.specs.Prelude.{◌≡◌, ℕ, ◌+◌, ◌-◌, ◌*◌, ◌<◌, ◌≤◌, [], map, length, option_map, string_bytes, IfOk};
-ghost use Rattle.si_semantics.specs.Grammar.{is_identity};
+ghost use Rattle.std.specs.Prelude.{◌≡◌, ◌+◌, ◌-◌, ◌<◌, ◌≤◌, [], map, string_bytes, IfOk};
 ghost use Rattle.si_token.specs.Views.{symbol_of};
 ghost use Rattle.si_syntax.specs.Trees.{expr_of, link_of};
 ghost use Rattle.si_parse.specs.inner.Lookahead.{rest_of};
@@ -97,7 +96,7 @@ fn operand(alloc: Global, parts: u32, level: u32, tokens: &[Token], at: usize) -
     ensures shallow { IfOk result (λ x. x.1 ≤ parts + 1) }
 {
     match prefix_at(tokens, at) {
-        Some((operator, behind)) => unary(alloc, parts, level, operator, tokens, behind),
+        Some((operator, rest)) => unary(alloc, parts, level, operator, tokens, rest),
         None => atom(alloc, parts, tokens, at),
     }
 }
@@ -168,20 +167,20 @@ fn bracketed(alloc: Global, parts: u32, tokens: &[Token], at: usize) -> Read
     ensures reads { Gives (λ x. (expr_of x.0, x.1, from tokens.now x.2)) result (bracketed_by (expression_at parts) (from tokens.now at)) }
     ensures shallow { IfOk result (λ x. x.1 ≤ parts + 1) }
 {
-    if let Some(behind) = after(tokens, at, Symbol::RightParenthesis) {
-        return Ok((Expr::Tuple(Vec::new(alloc)), 1, behind));
+    if let Some(rest) = after(tokens, at, Symbol::RightParenthesis) {
+        return Ok((Expr::Tuple(Vec::new(alloc)), 1, rest));
     }
     let (first, depth, at) = expression(alloc, parts, EXPRESSION, tokens, at)?;
-    if let Some(behind) = after(tokens, at, Symbol::RightParenthesis) {
-        return Ok((first, depth + 1, behind));
+    if let Some(rest) = after(tokens, at, Symbol::RightParenthesis) {
+        return Ok((first, depth + 1, rest));
     }
-    let Some(behind) = after(tokens, at, Symbol::Comma) else {
+    let Some(rest) = after(tokens, at, Symbol::Comma) else {
         return Err(ParseFault::Syntax(line_at(tokens, at)));
     };
     let mut before = Vec::new(alloc);
     before.push(first)?;
     let bracket = Symbol::RightParenthesis;
-    let (values, depth, at) = items(alloc, parts, bracket, before, depth, tokens, behind)?;
+    let (values, depth, at) = items(alloc, parts, bracket, before, depth, tokens, rest)?;
     Ok((Expr::Tuple(values), depth + 1, at))
 }
 
@@ -221,10 +220,10 @@ fn pair(
     ensures shallow { IfOk result (λ x. x.2 ≤ parts) }
 {
     let (key, key_depth, at) = expression(alloc, parts, EXPRESSION, tokens, at)?;
-    let Some(behind) = after(tokens, at, Symbol::Colon) else {
+    let Some(rest) = after(tokens, at, Symbol::Colon) else {
         return Err(ParseFault::Syntax(line_at(tokens, at)));
     };
-    let (value, value_depth, at) = expression(alloc, parts, EXPRESSION, tokens, behind)?;
+    let (value, value_depth, at) = expression(alloc, parts, EXPRESSION, tokens, rest)?;
     Ok((key, value, key_depth.max(value_depth), at))
 }
 
@@ -241,29 +240,29 @@ fn pairs(
     ensures reads { Gives (λ x. ((map expr_of x.0.items, x.1), from tokens.now x.2)) result (pairs_by (expression_at parts) (from tokens.now start)) }
     ensures shallow { IfOk result (λ x. x.1 ≤ parts) }
 {
-    if let Some(behind) = after(tokens, start, Symbol::RightBrace) {
-        return Ok((Vec::new(alloc), 0, behind));
+    if let Some(rest) = after(tokens, start, Symbol::RightBrace) {
+        return Ok((Vec::new(alloc), 0, rest));
     }
     let mut values = Vec::new(alloc);
     let mut depth: u32 = 0;
     let mut at = start;
     for _turn in start..tokens.len() {
-        let (key, value, pair_depth, behind) = pair(alloc, parts, tokens, at)?;
+        let (key, value, pair_depth, rest) = pair(alloc, parts, tokens, at)?;
         values.push(key)?;
         values.push(value)?;
         depth = depth.max(pair_depth);
-        if let Some(end) = after_items(tokens, behind, Symbol::RightBrace) {
+        if let Some(end) = after_items(tokens, rest, Symbol::RightBrace) {
             return Ok((values, depth, end));
         }
-        let Some(more) = after(tokens, behind, Symbol::Comma) else {
-            return Err(ParseFault::Syntax(line_at(tokens, behind)));
+        let Some(more) = after(tokens, rest, Symbol::Comma) else {
+            return Err(ParseFault::Syntax(line_at(tokens, rest)));
         };
         at = more;
     }
     Err(ParseFault::Syntax(line_at(tokens, at)))
 }
 
-// The items of a tuple or a list behind those before, up to the closed bracket, and the greatest depth among them.
+// The items of a tuple or a list after those before, up to the closed bracket, and the greatest depth among them.
 #[cycle(expressions)]
 #[tactic(auto, using(crate::proofs::Steps::separated_by_zero))]
 fn items(
@@ -280,21 +279,21 @@ fn items(
     ensures reads { Gives (λ x. ((map expr_of x.0.items, x.1), from tokens.now x.2)) result (items_by (expression_at parts) (symbol_of bracket) (map expr_of before.items, before_depth) (from tokens.now start)) }
     ensures shallow { IfOk result (λ x. x.1 ≤ parts) }
 {
-    if let Some(behind) = after(tokens, start, bracket) {
-        return Ok((before, before_depth, behind));
+    if let Some(rest) = after(tokens, start, bracket) {
+        return Ok((before, before_depth, rest));
     }
     let mut values = before;
     let mut depth = before_depth;
     let mut at = start;
     for _turn in start..tokens.len() {
-        let (next, next_depth, behind) = expression(alloc, parts, EXPRESSION, tokens, at)?;
+        let (next, next_depth, rest) = expression(alloc, parts, EXPRESSION, tokens, at)?;
         values.push(next)?;
         depth = depth.max(next_depth);
-        if let Some(end) = after_items(tokens, behind, bracket) {
+        if let Some(end) = after_items(tokens, rest, bracket) {
             return Ok((values, depth, end));
         }
-        let Some(more) = after(tokens, behind, Symbol::Comma) else {
-            return Err(ParseFault::Syntax(line_at(tokens, behind)));
+        let Some(more) = after(tokens, rest, Symbol::Comma) else {
+            return Err(ParseFault::Syntax(line_at(tokens, rest)));
         };
         at = more;
     }
@@ -326,17 +325,17 @@ fn continued(
         if strength(next) < level {
             return Ok((left, depth, at));
         }
-        let (longer, deeper, behind) = extended(
+        let (longer, deeper, rest) = extended(
             alloc, parts, left, depth, next, tokens, at, after_next,
         )?;
         left = longer;
         depth = deeper;
-        at = behind;
+        at = rest;
     }
     Err(ParseFault::Syntax(line_at(tokens, at)))
 }
 
-// The operand with what continues it; `at` is the place of the token that does, and `behind` the one after it.
+// The operand with what continues it; `at` is the place of the token that does, and `rest` the one after it.
 #[cycle(expressions)]
 fn extended(
     alloc: Global,
@@ -346,24 +345,24 @@ fn extended(
     continuation: Continuation,
     tokens: &[Token],
     at: usize,
-    behind: usize,
+    rest: usize,
 ) -> Read
     requires limit { parts < 999 }
     requires shallow { depth ≤ parts + 1 }
-    requires next { from tokens.now behind ≡ rest_of (from tokens.now at) }
+    requires next { from tokens.now rest ≡ rest_of (from tokens.now at) }
     ensures reads { Gives (λ x. (expr_of x.0, x.1, from tokens.now x.2)) result (extended_by (expression_at parts) (parts + 1) (expr_of left) depth (from tokens.now at) (continuation_view continuation)) }
     ensures shallow { IfOk result (λ x. x.1 ≤ parts + 1) }
 {
     match continuation {
         Continuation::Operator(operator) => binary(
-            alloc, parts, left, depth, operator, tokens, behind,
+            alloc, parts, left, depth, operator, tokens, rest,
         ),
-        Continuation::Attribute => attribute(alloc, parts, left, depth, tokens, behind),
-        Continuation::Arguments => call(alloc, parts, left, depth, tokens, behind),
-        Continuation::Index => subscript(alloc, parts, left, depth, tokens, behind),
+        Continuation::Attribute => attribute(alloc, parts, left, depth, tokens, rest),
+        Continuation::Arguments => call(alloc, parts, left, depth, tokens, rest),
+        Continuation::Index => subscript(alloc, parts, left, depth, tokens, rest),
         Continuation::Comparison => compare(alloc, parts, left, depth, tokens, at),
         Continuation::Boolean(operator) => boolean(alloc, parts, left, depth, operator, tokens, at),
-        Continuation::Condition => conditional(alloc, parts, left, depth, tokens, behind),
+        Continuation::Condition => conditional(alloc, parts, left, depth, tokens, rest),
         Continuation::Nothing => Err(ParseFault::Syntax(line_at(tokens, at))),
     }
 }
@@ -396,9 +395,9 @@ fn attribute(alloc: Global, parts: u32, left: Expr, depth: u32, tokens: &[Token]
     ensures reads { Gives (λ x. (expr_of x.0, x.1, from tokens.now x.2)) result (attribute_by (parts + 1) (expr_of left) depth (from tokens.now at)) }
     ensures shallow { IfOk result (λ x. x.1 ≤ parts + 1) }
 {
-    let (name, behind) = name(alloc, tokens, at)?;
+    let (name, rest) = name(alloc, tokens, at)?;
     let tree = Expr::Attribute(Box::new(alloc, left)?, name);
-    within(parts + 1, tree, depth + 1, tokens, behind)
+    within(parts + 1, tree, depth + 1, tokens, rest)
 }
 
 // The call of a tree with these arguments. Where it is an attribute, its object is the callee.
@@ -439,11 +438,11 @@ fn subscript(alloc: Global, parts: u32, left: Expr, depth: u32, tokens: &[Token]
     ensures shallow { IfOk result (λ x. x.1 ≤ parts + 1) }
 {
     let (index, index_depth, at) = expression(alloc, parts, EXPRESSION, tokens, at)?;
-    let Some(behind) = after(tokens, at, Symbol::RightBracket) else {
+    let Some(rest) = after(tokens, at, Symbol::RightBracket) else {
         return Err(ParseFault::Syntax(line_at(tokens, at)));
     };
     let tree = Expr::Subscript(Box::new(alloc, left)?, Box::new(alloc, index)?);
-    within(parts + 1, tree, depth.max(index_depth) + 1, tokens, behind)
+    within(parts + 1, tree, depth.max(index_depth) + 1, tokens, rest)
 }
 
 // The operand with a chain of comparisons, whose first operator stands at the place.
@@ -497,10 +496,10 @@ fn conditional(
     ensures shallow { IfOk result (λ x. x.1 ≤ parts + 1) }
 {
     let (test, test_depth, at) = expression(alloc, parts, DISJUNCTION, tokens, at)?;
-    let Some(behind) = after_word(tokens, at, Keyword::Else) else {
+    let Some(rest) = after_word(tokens, at, Keyword::Else) else {
         return Err(ParseFault::Syntax(line_at(tokens, at)));
     };
-    let (other, other_depth, at) = expression(alloc, parts, EXPRESSION, tokens, behind)?;
+    let (other, other_depth, at) = expression(alloc, parts, EXPRESSION, tokens, rest)?;
     let tree = Expr::Conditional(
         Box::new(alloc, test)?,
         Box::new(alloc, left)?,
@@ -528,8 +527,8 @@ fn argument(
     ensures shallow { IfOk result (λ x. x.1 ≤ parts) }
 {
     match named_at(tokens, at) {
-        Some((name, behind)) => {
-            let (value, depth, end) = expression(alloc, parts, EXPRESSION, tokens, behind)?;
+        Some((name, rest)) => {
+            let (value, depth, end) = expression(alloc, parts, EXPRESSION, tokens, rest)?;
             Ok((
                 Argument::ByName(String::from_str(alloc, name)?, value),
                 depth,
@@ -556,21 +555,21 @@ fn arguments(
     ensures reads { Gives (λ x. ((map argument_of x.0.items, x.1), from tokens.now x.2)) result (arguments_by (expression_at parts) (from tokens.now start)) }
     ensures shallow { IfOk result (λ x. x.1 ≤ parts) }
 {
-    if let Some(behind) = after(tokens, start, Symbol::RightParenthesis) {
-        return Ok((Vec::new(alloc), 0, behind));
+    if let Some(rest) = after(tokens, start, Symbol::RightParenthesis) {
+        return Ok((Vec::new(alloc), 0, rest));
     }
     let mut arguments = Vec::new(alloc);
     let mut depth: u32 = 0;
     let mut at = start;
     for _turn in start..tokens.len() {
-        let (next, next_depth, behind) = argument(alloc, parts, tokens, at)?;
+        let (next, next_depth, rest) = argument(alloc, parts, tokens, at)?;
         arguments.push(next)?;
         depth = depth.max(next_depth);
-        if let Some(end) = after_items(tokens, behind, Symbol::RightParenthesis) {
+        if let Some(end) = after_items(tokens, rest, Symbol::RightParenthesis) {
             return Ok((arguments, depth, end));
         }
-        let Some(more) = after(tokens, behind, Symbol::Comma) else {
-            return Err(ParseFault::Syntax(line_at(tokens, behind)));
+        let Some(more) = after(tokens, rest, Symbol::Comma) else {
+            return Err(ParseFault::Syntax(line_at(tokens, rest)));
         };
         at = more;
     }
@@ -595,7 +594,7 @@ fn operands(
     let mut depth: u32 = 0;
     let mut at = start;
     for _turn in start..tokens.len() {
-        let Some(behind) = after_boolean(operator, tokens, at) else {
+        let Some(rest) = after_boolean(operator, tokens, at) else {
             return Ok((others, depth, at));
         };
         let (other, other_depth, end) = expression(
@@ -603,7 +602,7 @@ fn operands(
             parts,
             item_level(operator),
             tokens,
-            behind,
+            rest,
         )?;
         others.push(other)?;
         depth = depth.max(other_depth);
@@ -660,10 +659,10 @@ fn links(
     let mut depth: u32 = 0;
     let mut at = start;
     for _turn in start..tokens.len() {
-        let Some((operator, behind)) = comparison_at(tokens, at) else {
+        let Some((operator, rest)) = comparison_at(tokens, at) else {
             return Ok((links, depth, at));
         };
-        let (operand, operand_depth, end) = compared(alloc, parts, operator, tokens, behind)?;
+        let (operand, operand_depth, end) = compared(alloc, parts, operator, tokens, rest)?;
         links.push((operator, operand))?;
         depth = depth.max(operand_depth);
         at = end;

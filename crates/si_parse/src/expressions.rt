@@ -1,6 +1,6 @@
 // An expression, or a tuple round which no brackets stand.
 
-ghost use Rattle.std.specs.Prelude.{◌≡◌, ◌-◌, ◌+◌, ◌≤◌, [], ◌∷◌, map, length, IfOk};
+ghost use Rattle.std.specs.Prelude.{◌-◌, ◌+◌, ◌≤◌, [], ◌∷◌, map, IfOk};
 ghost use Rattle.si_semantics.specs.Grammar.{max_depth};
 ghost use Rattle.si_syntax.specs.Trees.{expr_of};
 ghost use Rattle.si_parse.specs.inner.Expressions.{expression_at};
@@ -34,7 +34,7 @@ pub(crate) fn expressions(alloc: Global, level: u32, tokens: &[Token], start: us
     )
 }
 
-// The item with those after it, each behind its comma, and the greatest depth among them.
+// The item with those after it, each after its comma, and the greatest depth among them.
 #[tactic(auto, using(crate::proofs::Steps::chain_by_zero))]
 fn further(
     alloc: Global,
@@ -53,16 +53,10 @@ fn further(
     let mut depth = first_depth;
     let mut at = start;
     for _turn in start..tokens.len() {
-        let Some(behind) = after_comma(tokens, at) else {
+        let Some(rest) = after_comma(tokens, at) else {
             return Ok((items, depth, at));
         };
-        let (next, next_depth, end) = expression(
-            alloc,
-            MAX_EXPRESSION_DEPTH,
-            level,
-            tokens,
-            behind,
-        )?;
+        let (next, next_depth, end) = expression(alloc, MAX_EXPRESSION_DEPTH, level, tokens, rest)?;
         items.push(next)?;
         depth = depth.max(next_depth);
         at = end;

@@ -1,7 +1,6 @@
 // `try` statements: their except clauses, and the suites of `else` and `finally`.
 
-ghost use Rattle.std.specs.Prelude.{◌≡◌, ℕ, ◌+◌, ◌-◌, ◌*◌, ◌<◌, [], length, map, option_map, string_bytes};
-ghost use Rattle.si_semantics.specs.Grammar.{stmts_of};
+ghost use Rattle.std.specs.Prelude.{◌-◌, ◌<◌, map, option_map, string_bytes};
 ghost use Rattle.si_syntax.specs.Trees.{expr_of, stmt_of, clause_of};
 ghost use Rattle.si_parse.specs.inner.Handlers.{caught_by, clause_by, catches_by, bare_by, handlers_by, try_by};
 ghost use Rattle.si_parse.specs.inner.Lines.{block_at};
@@ -33,8 +32,8 @@ pub(crate) fn try_statement(
     requires { parts < 999 }
     ensures { Gives (λ x. (stmt_of x.0, from tokens.now x.1)) result (try_by (block_at parts) (from tokens.now start)) }
 {
-    let (body, behind) = suite(alloc, parts, tokens, start)?;
-    let (clauses, last, at) = handlers(alloc, parts, tokens, behind)?;
+    let (body, rest) = suite(alloc, parts, tokens, start)?;
+    let (clauses, last, at) = handlers(alloc, parts, tokens, rest)?;
     if let Some(cleanup) = after_word(tokens, at, Keyword::Finally) {
         let (cleanup, end) = suite(alloc, parts, tokens, cleanup)?;
         let tried = Try {
@@ -71,8 +70,8 @@ fn handlers(
     requires { parts < 999 }
     ensures { Gives (λ x. ((map clause_of x.0.items, map stmt_of x.1.items), from tokens.now x.2)) result (handlers_by (block_at parts) (from tokens.now start)) }
 {
-    let (caught, behind) = catches(alloc, parts, tokens, start)?;
-    let (clauses, at) = bare(alloc, parts, caught, tokens, behind)?;
+    let (caught, rest) = catches(alloc, parts, tokens, start)?;
+    let (clauses, at) = bare(alloc, parts, caught, tokens, rest)?;
     if clauses.is_empty() {
         return Ok((clauses, Vec::new(alloc), at));
     }
@@ -90,10 +89,10 @@ fn catches(alloc: Global, parts: u32, tokens: &[Token], start: usize) -> Clauses
     let mut clauses = Vec::new(alloc);
     let mut at = start;
     for _turn in start..tokens.len() {
-        let Some(behind) = after_catch(tokens, at) else {
+        let Some(rest) = after_catch(tokens, at) else {
             return Ok((clauses, at));
         };
-        let (next, end) = clause(alloc, parts, tokens, behind)?;
+        let (next, end) = clause(alloc, parts, tokens, rest)?;
         clauses.push(next)?;
         at = end;
     }
@@ -106,10 +105,10 @@ fn bare(alloc: Global, parts: u32, before: Vec<Clause>, tokens: &[Token], at: us
     requires { parts < 999 }
     ensures { Gives (λ x. (map clause_of x.0.items, from tokens.now x.1)) result (bare_by (block_at parts) (map clause_of before.items) (from tokens.now at)) }
 {
-    let Some(behind) = after_word(tokens, at, Keyword::Except) else {
+    let Some(rest) = after_word(tokens, at, Keyword::Except) else {
         return Ok((before, at));
     };
-    let (body, end) = suite(alloc, parts, tokens, behind)?;
+    let (body, end) = suite(alloc, parts, tokens, rest)?;
     let mut clauses = before;
     clauses.push(Clause {
         value: None,
@@ -149,9 +148,9 @@ fn caught(
     ensures { Gives (λ x. ((expr_of x.0, option_map string_bytes x.1), from tokens.now x.2)) result (caught_by (from tokens.now start)) }
 {
     let (value, _, at) = expression(alloc, MAX_EXPRESSION_DEPTH, EXPRESSION, tokens, start)?;
-    let Some(behind) = after_word(tokens, at, Keyword::As) else {
+    let Some(rest) = after_word(tokens, at, Keyword::As) else {
         return Ok((value, None, at));
     };
-    let (name, end) = name(alloc, tokens, behind)?;
+    let (name, end) = name(alloc, tokens, rest)?;
     Ok((value, Some(name), end))
 }

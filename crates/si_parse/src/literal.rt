@@ -66,14 +66,14 @@ fn written(alloc: Global, bytes: bool, literal: &str, line: usize) -> Result<Tex
     let mut text = Text::new(alloc);
     // how many of the next characters belong to the escape before
     let mut skipped = 0;
-    while let Some((character, behind)) = next_character(rest) {
-        rest = behind;
+    while let Some((character, after)) = next_character(rest) {
+        rest = after;
         if skipped > 0 {
             skipped -= 1;
         } else if is_plain(raw, character) {
             text.push(character)?;
         } else {
-            let Some((character, count)) = escape(bytes, behind) else {
+            let Some((character, count)) = escape(bytes, after) else {
                 return Err(ParseFault::Syntax(line));
             };
             keep(&mut text, character)?;

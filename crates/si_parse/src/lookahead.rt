@@ -1,6 +1,6 @@
 // One token of look-ahead: the token at a place, and the place after it.
 
-ghost use Rattle.std.specs.Prelude.{◌≡◌, ℕ, ◌+◌, ◌<◌, ◌≤◌, length, [], ◌∷◌, option_map, MatchOption, OnSome};
+ghost use Rattle.std.specs.Prelude.{◌≡◌, ◌+◌, ◌<◌, length, [], ◌∷◌, option_map, MatchOption, OnSome};
 ghost use Rattle.si_semantics.specs.Grammar.{terminal_of, Sign, Word, NEWLINE, INDENT, DEDENT};
 ghost use Rattle.si_semantics.specs.Tokens as token;
 ghost use Rattle.si_token.specs.Views.{keyword_of, symbol_of, token_of};
@@ -89,35 +89,35 @@ fn after_name(tokens: &[Token], at: usize, name: &str) -> Option<usize>
 fn after_import(tokens: &[Token], at: usize, name: &str) -> Option<usize>
     ensures { option_map (from tokens.now) result ≡ after_import name.now (from tokens.now at) }
 {
-    let behind = after_word(tokens, at, Keyword::Import)?;
-    after_name(tokens, behind, name)
+    let rest = after_word(tokens, at, Keyword::Import)?;
+    after_name(tokens, rest, name)
 }
 
 // The place after a `from` and the name, where they stand at the place.
 fn after_from(tokens: &[Token], at: usize, name: &str) -> Option<usize>
     ensures { option_map (from tokens.now) result ≡ after_from name.now (from tokens.now at) }
 {
-    let behind = after_word(tokens, at, Keyword::From)?;
-    after_name(tokens, behind, name)
+    let rest = after_word(tokens, at, Keyword::From)?;
+    after_name(tokens, rest, name)
 }
 
 // The place after the import of `concurrent.interpreters`, where it stands at the place.
 fn after_interpreters(tokens: &[Token], at: usize) -> Option<usize>
     ensures { option_map (from tokens.now) result ≡ after_interpreters (from tokens.now at) }
 {
-    let behind = after_from(tokens, at, "concurrent")?;
-    after_import(tokens, behind, "interpreters")
+    let rest = after_from(tokens, at, "concurrent")?;
+    after_import(tokens, rest, "interpreters")
 }
 
 // The module whose import stands at the place, and the place after it.
 pub(crate) fn import_at(tokens: &[Token], at: usize) -> Option<(ModuleName, usize)>
     ensures { option_map (λ x. (x.0, from tokens.now x.1)) result ≡ import_at (from tokens.now at) }
 {
-    if let Some(behind) = after_import(tokens, at, "threading") {
-        return Some((ModuleName::Threading, behind));
+    if let Some(rest) = after_import(tokens, at, "threading") {
+        return Some((ModuleName::Threading, rest));
     }
-    let behind = after_interpreters(tokens, at)?;
-    Some((ModuleName::Interpreters, behind))
+    let rest = after_interpreters(tokens, at)?;
+    Some((ModuleName::Interpreters, rest))
 }
 
 // The place after the end of a line, where it stands at the place.
@@ -168,7 +168,7 @@ pub(crate) fn after_items(tokens: &[Token], at: usize, bracket: Symbol) -> Optio
     ensures { option_map (from tokens.now) result ≡ closing (after (Sign token.Comma)) (after (Sign (symbol_of bracket))) (from tokens.now at) }
 {
     match after(tokens, at, Symbol::Comma) {
-        Some(behind) => after(tokens, behind, bracket),
+        Some(rest) => after(tokens, rest, bracket),
         None => after(tokens, at, bracket),
     }
 }
@@ -178,7 +178,7 @@ pub(crate) fn after_line(tokens: &[Token], at: usize) -> Option<usize>
     ensures { option_map (from tokens.now) result ≡ closing (after (Sign token.Semicolon)) (after NEWLINE) (from tokens.now at) }
 {
     match after(tokens, at, Symbol::Semicolon) {
-        Some(behind) => after_newline(tokens, behind),
+        Some(rest) => after_newline(tokens, rest),
         None => after_newline(tokens, at),
     }
 }
@@ -187,22 +187,22 @@ pub(crate) fn after_line(tokens: &[Token], at: usize) -> Option<usize>
 pub(crate) fn after_catch(tokens: &[Token], at: usize) -> Option<usize>
     ensures { option_map (from tokens.now) result ≡ after_catch (from tokens.now at) }
 {
-    let behind = after_word(tokens, at, Keyword::Except)?;
-    match after(tokens, behind, Symbol::Colon) {
+    let rest = after_word(tokens, at, Keyword::Except)?;
+    match after(tokens, rest, Symbol::Colon) {
         Some(_) => None,
-        None => Some(behind),
+        None => Some(rest),
     }
 }
 
-// The place after a comma behind which an item of a tuple has to stand, where one stands at the place.
+// The place after a comma, where one stands at the place and an item of a tuple has to follow it.
 pub(crate) fn after_comma(tokens: &[Token], at: usize) -> Option<usize>
     ensures { option_map (from tokens.now) result ≡ after_comma (from tokens.now at) }
 {
-    let behind = after(tokens, at, Symbol::Comma)?;
-    if ends_items(tokens, behind) {
+    let rest = after(tokens, at, Symbol::Comma)?;
+    if ends_items(tokens, rest) {
         None
     } else {
-        Some(behind)
+        Some(rest)
     }
 }
 
@@ -211,7 +211,7 @@ pub(crate) fn past_comma(tokens: &[Token], at: usize) -> usize
     ensures { from tokens.now result ≡ past_comma (from tokens.now at) }
 {
     match after(tokens, at, Symbol::Comma) {
-        Some(behind) => behind,
+        Some(rest) => rest,
         None => at,
     }
 }

@@ -1,6 +1,6 @@
 // Names that stand in a row: those of a `global`, and parameters.
 
-ghost use Rattle.std.specs.Prelude.{◌≡◌, [], map, option_map, string_bytes};
+ghost use Rattle.std.specs.Prelude.{map, string_bytes};
 ghost use Rattle.si_parse.specs.inner.Names.{name_at, names_by, listed_by, parameters_by};
 ghost use Rattle.si_parse.specs.inner.Gives.{Gives, from};
 
@@ -35,11 +35,11 @@ pub(crate) fn name(
 pub(crate) fn names(alloc: Global, tokens: &[Token], start: usize) -> Names
     ensures { Gives (λ x. (map string_bytes x.0.items, from tokens.now x.1)) result (names_by (from tokens.now start)) }
 {
-    let (first, behind) = name(alloc, tokens, start)?;
+    let (first, rest) = name(alloc, tokens, start)?;
     let mut names = Vec::new(alloc);
     names.push(first)?;
-    let mut at = behind;
-    for _turn in behind..tokens.len() {
+    let mut at = rest;
+    for _turn in rest..tokens.len() {
         let Some(more) = after(tokens, at, Symbol::Comma) else {
             return Ok((names, at));
         };
@@ -55,19 +55,19 @@ pub(crate) fn names(alloc: Global, tokens: &[Token], start: usize) -> Names
 fn listed(alloc: Global, tokens: &[Token], start: usize) -> Names
     ensures { Gives (λ x. (map string_bytes x.0.items, from tokens.now x.1)) result (listed_by (from tokens.now start)) }
 {
-    if let Some(behind) = after(tokens, start, Symbol::RightParenthesis) {
-        return Ok((Vec::new(alloc), behind));
+    if let Some(rest) = after(tokens, start, Symbol::RightParenthesis) {
+        return Ok((Vec::new(alloc), rest));
     }
     let mut names = Vec::new(alloc);
     let mut at = start;
     for _turn in start..tokens.len() {
-        let (next, behind) = name(alloc, tokens, at)?;
+        let (next, rest) = name(alloc, tokens, at)?;
         names.push(next)?;
-        if let Some(end) = after_items(tokens, behind, Symbol::RightParenthesis) {
+        if let Some(end) = after_items(tokens, rest, Symbol::RightParenthesis) {
             return Ok((names, end));
         }
-        let Some(more) = after(tokens, behind, Symbol::Comma) else {
-            return Err(ParseFault::Syntax(line_at(tokens, behind)));
+        let Some(more) = after(tokens, rest, Symbol::Comma) else {
+            return Err(ParseFault::Syntax(line_at(tokens, rest)));
         };
         at = more;
     }

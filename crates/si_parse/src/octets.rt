@@ -29,7 +29,7 @@ fn octets(alloc: Global, tokens: &[Token], at: usize) -> Result<(Vec<u8>, usize)
     Ok((bytes, tokens.len()))
 }
 
-// Puts bytes behind others.
+// Puts bytes after others.
 fn append(bytes: &mut Vec<u8>, more: &[u8]) -> Result<(), AllocError>
     ensures { OnOk result (bytes.new.items ≡ bytes.old.items ++ more.now) }
 {

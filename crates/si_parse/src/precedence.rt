@@ -128,15 +128,15 @@ fn role_of(symbol: Symbol) -> Continuation
 
 // What a keyword does after an operand, in front of what stands at the place: a `not` does something where `in` stands
 // there.
-fn word_role(keyword: Keyword, tokens: &[Token], behind: usize) -> Continuation
-    ensures { continuation_view result ≡ continuation_at (Word (keyword_of keyword) ∷ from tokens.now behind) }
+fn word_role(keyword: Keyword, tokens: &[Token], rest: usize) -> Continuation
+    ensures { continuation_view result ≡ continuation_at (Word (keyword_of keyword) ∷ from tokens.now rest) }
 {
     match keyword {
         Keyword::And => Continuation::Boolean(BooleanOperator::And),
         Keyword::Or => Continuation::Boolean(BooleanOperator::Or),
         Keyword::Is | Keyword::In => Continuation::Comparison,
         Keyword::If => Continuation::Condition,
-        Keyword::Not => match after_word(tokens, behind, Keyword::In) {
+        Keyword::Not => match after_word(tokens, rest, Keyword::In) {
             Some(_) => Continuation::Comparison,
             None => Continuation::Nothing,
         },
@@ -147,7 +147,7 @@ fn word_role(keyword: Keyword, tokens: &[Token], behind: usize) -> Continuation
 // What the token at the place does after an operand, and the place after it.
 pub(crate) fn what_follows(tokens: &[Token], at: usize) -> (Continuation, usize)
     ensures role { continuation_view result.0 ≡ continuation_at (from tokens.now at) }
-    ensures behind { from tokens.now result.1 ≡ rest_of (from tokens.now at) }
+    ensures rest { from tokens.now result.1 ≡ rest_of (from tokens.now at) }
 {
     let Some(token) = token_at(tokens, at) else {
         return (Continuation::Nothing, at);
@@ -177,7 +177,7 @@ pub(crate) fn strength(continuation: Continuation) -> u32
 // The operator before an operand, where one stands at the place, and the place after it.
 pub(crate) fn prefix_at(tokens: &[Token], at: usize) -> Option<(UnaryOperator, usize)>
     ensures operator { option_map (λ x. x.0) result ≡ prefix_at (from tokens.now at) }
-    ensures behind { IfSome result (λ x. from tokens.now x.1 ≡ rest_of (from tokens.now at)) }
+    ensures rest { IfSome result (λ x. from tokens.now x.1 ≡ rest_of (from tokens.now at)) }
 {
     let token = token_at(tokens, at)?;
     match token.kind {
@@ -215,13 +215,13 @@ pub(crate) fn comparison_at(tokens: &[Token], at: usize) -> Option<(ComparisonOp
             Some((operator, at + 1))
         }
         TokenKind::Keyword(Keyword::Is) => match after_word(tokens, at + 1, Keyword::Not) {
-            Some(behind) => Some((ComparisonOperator::IsNot, behind)),
+            Some(rest) => Some((ComparisonOperator::IsNot, rest)),
             None => Some((ComparisonOperator::Is, at + 1)),
         },
         TokenKind::Keyword(Keyword::In) => Some((ComparisonOperator::In, at + 1)),
         TokenKind::Keyword(Keyword::Not) => {
-            let behind = after_word(tokens, at + 1, Keyword::In)?;
-            Some((ComparisonOperator::NotIn, behind))
+            let rest = after_word(tokens, at + 1, Keyword::In)?;
+            Some((ComparisonOperator::NotIn, rest))
         }
         _ => None,
     }

@@ -1,6 +1,6 @@
 // Small statements, lines, and all lines of a text.
 
-ghost use Rattle.std.specs.Prelude.{◌≡◌, ℕ, ◌+◌, ◌-◌, length, map, option_map, IfSome};
+ghost use Rattle.std.specs.Prelude.{◌≡◌, ◌+◌, ◌-◌, map, option_map, IfSome};
 ghost use Rattle.si_token.specs.Views.{symbol_of};
 ghost use Rattle.si_semantics.specs.Grammar.{max_depth};
 ghost use Rattle.si_syntax.specs.Trees.{expr_of, stmt_of};
@@ -62,7 +62,7 @@ fn assignment_at(tokens: &[Token], at: usize) -> Option<(Option<BinaryOperator>,
 // The statement that is one word, where it stands at the place, and the place after it.
 fn word_statement(tokens: &[Token], at: usize) -> Option<(Stmt, usize)>
     ensures statement { option_map (λ x. stmt_of x.0) result ≡ word_statement (from tokens.now at) }
-    ensures behind { IfSome result (λ x. from tokens.now x.1 ≡ rest_of (from tokens.now at)) }
+    ensures rest { IfSome result (λ x. from tokens.now x.1 ≡ rest_of (from tokens.now at)) }
 {
     let token = token_at(tokens, at)?;
     match token.kind {
@@ -81,7 +81,7 @@ fn spelled(alloc: Global, tokens: &[Token], start: usize) -> Result<(Stmt, usize
     match assignment_at(tokens, at) {
         None => Ok((Stmt::Evaluate(first), at)),
         Some((None, _)) => assigned(alloc, first, tokens, at),
-        Some((Some(operator), behind)) => augmented(alloc, first, operator, tokens, behind),
+        Some((Some(operator), rest)) => augmented(alloc, first, operator, tokens, rest),
     }
 }
 
@@ -99,11 +99,11 @@ fn assigned(
     let mut value = first;
     let mut at = start;
     for _turn in start..tokens.len() {
-        let Some(behind) = after(tokens, at, Symbol::Equal) else {
+        let Some(rest) = after(tokens, at, Symbol::Equal) else {
             return Ok((Stmt::Assign(Assign { targets, value }), at));
         };
         let target = as_target(alloc, value, line_at(tokens, at))?;
-        let (next, _, end) = expressions(alloc, EXPRESSION, tokens, behind)?;
+        let (next, _, end) = expressions(alloc, EXPRESSION, tokens, rest)?;
         targets.push(target)?;
         value = next;
         at = end;
@@ -198,23 +198,23 @@ fn global(
 fn statement(alloc: Global, tokens: &[Token], start: usize) -> Result<(Stmt, usize), ParseFault>
     ensures { Gives (λ x. (stmt_of x.0, from tokens.now x.1)) result (statement_by (expression_at max_depth) (from tokens.now start)) }
 {
-    if let Some((word, behind)) = word_statement(tokens, start) {
-        return Ok((word, behind));
+    if let Some((word, rest)) = word_statement(tokens, start) {
+        return Ok((word, rest));
     }
-    if let Some((module, behind)) = import_at(tokens, start) {
-        return Ok((Stmt::Import(line_at(tokens, start), module), behind));
+    if let Some((module, rest)) = import_at(tokens, start) {
+        return Ok((Stmt::Import(line_at(tokens, start), module), rest));
     }
-    if let Some(behind) = after_word(tokens, start, Keyword::Return) {
-        return returned(alloc, line_at(tokens, start), tokens, behind);
+    if let Some(rest) = after_word(tokens, start, Keyword::Return) {
+        return returned(alloc, line_at(tokens, start), tokens, rest);
     }
-    if let Some(behind) = after_word(tokens, start, Keyword::Global) {
-        return global(alloc, line_at(tokens, start), tokens, behind);
+    if let Some(rest) = after_word(tokens, start, Keyword::Global) {
+        return global(alloc, line_at(tokens, start), tokens, rest);
     }
-    if let Some(behind) = after_word(tokens, start, Keyword::Raise) {
-        return raised(alloc, tokens, behind);
+    if let Some(rest) = after_word(tokens, start, Keyword::Raise) {
+        return raised(alloc, tokens, rest);
     }
-    if let Some(behind) = after_word(tokens, start, Keyword::Del) {
-        return deleted(alloc, tokens, behind);
+    if let Some(rest) = after_word(tokens, start, Keyword::Del) {
+        return deleted(alloc, tokens, rest);
     }
     spelled(alloc, tokens, start)
 }
@@ -232,13 +232,13 @@ pub(crate) fn line(
     let mut body = before;
     let mut at = start;
     for _turn in start..tokens.len() {
-        let (next, behind) = statement(alloc, tokens, at)?;
+        let (next, rest) = statement(alloc, tokens, at)?;
         body.push(next)?;
-        if let Some(end) = after_line(tokens, behind) {
+        if let Some(end) = after_line(tokens, rest) {
             return Ok((body, end));
         }
-        let Some(more) = after(tokens, behind, Symbol::Semicolon) else {
-            return Err(ParseFault::Syntax(line_at(tokens, behind)));
+        let Some(more) = after(tokens, rest, Symbol::Semicolon) else {
+            return Err(ParseFault::Syntax(line_at(tokens, rest)));
         };
         at = more;
     }
@@ -272,9 +272,9 @@ pub(crate) fn statements(alloc: Global, tokens: &[Token]) -> Result<Vec<Stmt>, P
         if is_end(tokens, at) {
             return Ok(body);
         }
-        let (longer, behind) = block(alloc, MAX_NESTING, body, tokens, at)?;
+        let (longer, rest) = block(alloc, MAX_NESTING, body, tokens, at)?;
         body = longer;
-        at = behind;
+        at = rest;
     }
     Err(ParseFault::Syntax(line_at(tokens, at)))
 }

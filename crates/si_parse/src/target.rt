@@ -1,6 +1,6 @@
 // Targets.
 
-ghost use Rattle.std.specs.Prelude.{◌≡◌, map};
+ghost use Rattle.std.specs.Prelude.{map};
 ghost use Rattle.si_semantics.specs.Grammar as grammar;
 ghost use Rattle.si_semantics.specs.Grammar.{exprs_of};
 ghost use Rattle.si_syntax.specs.Trees.{expr_of, target_of, targets_of};
@@ -66,7 +66,7 @@ pub(crate) fn target(
     let (first, _, at) = expressions(alloc, FACTOR, tokens, start)?;
     let target = as_target(alloc, first, line_at(tokens, start))?;
     match after_word(tokens, at, Keyword::In) {
-        Some(behind) => Ok((target, behind)),
+        Some(rest) => Ok((target, rest)),
         None => Err(ParseFault::Syntax(line_at(tokens, at))),
     }
 }

@@ -19,10 +19,10 @@ pub fn line_ends(text: &[u8], count: usize) -> usize
 }
 
 // Whether a byte is the last of a line end, where these follow.
-fn ends_line(byte: u8, behind: &[u8]) -> bool
-    ensures { result ≡ ends_line byte behind.now }
+fn ends_line(byte: u8, after: &[u8]) -> bool
+    ensures { result ≡ ends_line byte after.now }
 {
-    byte == b'\n' || byte == b'\r' && !begins_feed(behind)
+    byte == b'\n' || byte == b'\r' && !begins_feed(after)
 }
 
 fn begins_feed(text: &[u8]) -> bool

@@ -34,7 +34,7 @@ line_at : (xs : List (List ℕ)) (l : List ℕ) (more : List (List ℕ)) → All
 line_at [] l more h = h.0
 line_at (x ∷ xs) l more h = line_at xs l more h.1
 
--- behind a bad line nothing goes on
+-- after a bad line nothing goes on
 stuck_at : (before : List (List ℕ)) (l : List ℕ) (more : List (List ℕ)) (left b : List ℕ) → IsBadNext before left → AllByRecursion IsLine (before ++ l ∷ more) → CanGoOn (before ++ l ∷ more) → ended (l ∷ more) ++ b ≡ left → ⊥
 stuck_at before l more left b (inl n) h g e = feed_in l (ended more ++ b) (subst IsLine (sym e ∙ first_line l more b) n)
 stuck_at before l more left b (inr n) h g e =

@@ -55,14 +55,14 @@ read_interpreters : (left : List ℕ) → Reading (eight left) (version_line ∷
 unfolding digits
 read_interpreters left = interpreters_reading (eight left) (interpreters_line 8 ++ 10 ∷ left) left 8 (omega arith) (omega arith) (read_version (interpreters_line 8 ++ 10 ∷ left)) refl
 
--- how they go on behind a line
-abbrev behind : List ℕ → List ℕ → List ℕ
-behind line after = line ++ 10 ∷ after
+-- how they go on after a line
+abbrev with_line : List ℕ → List ℕ → List ℕ
+with_line line after = line ++ 10 ∷ after
 
-is_65 : IsBadLine (at_first (behind (codes "interpreters 65") (codes "turns 0\nend\n"))) 2
+is_65 : IsBadLine (at_first (with_line (codes "interpreters 65") (codes "turns 0\nend\n"))) 2
 unfolding digits has_feed
 is_65 =
-    let left = behind (codes "interpreters 65") (codes "turns 0\nend\n") in
+    let left = with_line (codes "interpreters 65") (codes "turns 0\nend\n") in
     no_interpreters (at_first left) left (read_version left) (inr (codes "interpreters 65", codes "turns 0\nend\n", refl, line_test (codes "interpreters 65") refl, λ w l m. not_wide w m))
 
 not_ended : IsBadLine (at_first (codes "interpreters 8")) 2
@@ -71,28 +71,28 @@ not_ended =
     let left = codes "interpreters 8" in
     no_interpreters (at_first left) left (read_version left) (inl (line_test left refl))
 
-leads_zero : IsBadLine (eight (behind (codes "turns 01") (codes "0\nend\n"))) 3
+leads_zero : IsBadLine (eight (with_line (codes "turns 01") (codes "0\nend\n"))) 3
 unfolding has_feed
 leads_zero =
-    let left = behind (codes "turns 01") (codes "0\nend\n") in
+    let left = with_line (codes "turns 01") (codes "0\nend\n") in
     no_count (eight left) left 8 (read_interpreters left) (inr (codes "turns 01", codes "0\nend\n", refl, line_test (codes "turns 01") refl, no_zero))
 
-past_64 : IsBadLine (eight (behind (codes "turns 18446744073709551616") (codes "end\n"))) 3
+past_64 : IsBadLine (eight (with_line (codes "turns 18446744073709551616") (codes "end\n"))) 3
 unfolding has_feed
 past_64 =
     let line = codes "turns 18446744073709551616" in
-    let left = behind line (codes "end\n") in
+    let left = with_line line (codes "end\n") in
     no_count (eight left) left 8 (read_interpreters left) (inr (line, codes "end\n", refl, line_test line refl, not_held))
 
-has_read : (left : List ℕ) → HasRead (eight (behind (codes "turns 1") left)) 8 1 [] left
+has_read : (left : List ℕ) → HasRead (eight (with_line (codes "turns 1") left)) 8 1 [] left
 unfolding digits
 has_read left = record { least = omega arith; most = omega arith; bound = omega arith; each = tt; few = omega arith; split = refl }
 
-not_below : IsBadLine (eight (behind (codes "turns 1") (behind (codes "8") (codes "end\n")))) 4
+not_below : IsBadLine (eight (with_line (codes "turns 1") (with_line (codes "8") (codes "end\n")))) 4
 unfolding has_feed
 not_below =
-    let left = behind (codes "8") (codes "end\n") in
-    no_caller (eight (behind (codes "turns 1") left)) 8 1 [] left 4 (has_read left) (omega arith) (inr (codes "8", codes "end\n", refl, line_test (codes "8") refl, not_eight)) refl
+    let left = with_line (codes "8") (codes "end\n") in
+    no_caller (eight (with_line (codes "turns 1") left)) 8 1 [] left 4 (has_read left) (omega arith) (inr (codes "8", codes "end\n", refl, line_test (codes "8") refl, not_eight)) refl
 
 has_most : (left : List ℕ) → HasRead (eight (codes "turns 18446744073709551615\n0\n" ++ left)) 8 18446744073709551615 (0 ∷ []) left
 unfolding digits
@@ -124,12 +124,12 @@ has_none left = record { least = omega arith; most = omega arith; bound = omega 
 more : IsBadLine (eight (codes "turns 0\n" ++ codes "end\nx")) 5
 more = goes_on (eight (codes "turns 0\n" ++ codes "end\nx")) 8 0 [] (codes "end\nx") (codes "x") 5 (has_none (codes "end\nx")) refl refl (λ e. cc e) refl
 
-returned : IsBadLine (behind (codes "schedule 1\r") (codes "interpreters 8\nturns 0\nend\n")) 1
+returned : IsBadLine (with_line (codes "schedule 1\r") (codes "interpreters 8\nturns 0\nend\n")) 1
 unfolding has_feed
 returned =
     let line = codes "schedule 1\r" in
     let after = codes "interpreters 8\nturns 0\nend\n" in
-    no_version (behind line after) (inr (line, after, refl, line_test line refl, λ e. let k : ◌≡◌ {A = ℕ} 11 10 = ap (λ (l : List ℕ). length l) e in omega arith))
+    no_version (with_line line after) (inr (line, after, refl, line_test line refl, λ e. let k : ◌≡◌ {A = ℕ} 11 10 = ap (λ (l : List ℕ). length l) e in omega arith))
 
 pub worked : WorkedCases
 unfolding digits
@@ -147,5 +147,5 @@ worked = record {
   too_few = few;
   too_many = many;
   cut = none_left;
-  behind_the_end = more;
+  after_the_end = more;
 }

@@ -29,7 +29,7 @@ abbrev pub IsBadNext : List (List ℕ) → List ℕ → Type 0
 IsBadNext before left = IsLine left ⊎ IsNoNext before left
 
 -- line k of a text that is no schedule's, counted from 1, is the first bad one: the lines before it can be continued, and it is
--- missing or not ended, or they can't be continued with it. Where more follows the text of a schedule, the line behind `end` is
+-- missing or not ended, or they can't be continued with it. Where more follows the text of a schedule, the line after `end` is
 -- bad, whatever it is.
 pub record IsBadLine (text : List ℕ) (k : ℕ) : Type 0 where
   pub before : List (List ℕ)

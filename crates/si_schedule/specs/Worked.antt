@@ -30,5 +30,5 @@ pub record WorkedCases : Type 0 where
   pub too_few : IsBadLine (eight (codes "turns 18446744073709551615\n0\nend\n")) 5
   pub too_many : IsBadLine (eight (codes "turns 2\n0\n0\n0\nend\n")) 6
   pub cut : IsBadLine (eight (codes "turns 2\n0\n0\n")) 6
-  -- something behind the end
-  pub behind_the_end : IsBadLine (eight (codes "turns 0\nend\nx")) 5
+  -- something after the end
+  pub after_the_end : IsBadLine (eight (codes "turns 0\nend\nx")) 5

@@ -5,7 +5,7 @@
 pub enum ReadFault {
     /// The number, from 1, of the first line that can't be continued to the text of a schedule: with the lines before
     /// it the text of one begins, and it is missing, or not ended by a line feed, or with it too no such text begins.
-    /// Behind the text of a schedule any further line is bad.
+    /// After the text of a schedule any further line is bad.
     BadLine(u64),
     /// Memory was refused.
     NoMemory,

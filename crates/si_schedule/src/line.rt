@@ -19,7 +19,7 @@ pub(crate) fn is_word(line: &str, word: &str) -> bool
     line == word
 }
 
-// The number that stands in the line behind a word.
+// The number that stands in the line after a word.
 pub(crate) fn number_after(line: &str, word: &str) -> Option<u64>
     ensures some { IfSome result (λ n. line.now ≡ word.now ++ decimal n) }
     ensures small { IfSome result (λ n. n < 2 ^ 64) }

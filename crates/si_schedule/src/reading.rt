@@ -69,9 +69,9 @@ fn read_head(text: &str) -> Result<(u32, u64, &str), u64>
 {
     match next_version(text) {
         None => Err(1),
-        Some(behind_version) => match next_interpreters(behind_version) {
+        Some(after_version) => match next_interpreters(after_version) {
             None => Err(2),
-            Some((interpreters, behind_interpreters)) => match next_count(behind_interpreters) {
+            Some((interpreters, after_interpreters)) => match next_count(after_interpreters) {
                 None => Err(3),
                 Some((count, left)) => Ok((interpreters, count, left)),
             },
@@ -170,7 +170,7 @@ fn caller_in(line: &str, interpreters: u32) -> Option<u32>
     }
 }
 
-// How a text ends behind its callers.
+// How a text ends after its callers.
 #[derive(Clone, Copy, Debug, Drop, PartialEq, Eq)]
 enum Ending {
     // With the last line.

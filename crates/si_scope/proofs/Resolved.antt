@@ -17,28 +17,28 @@ use Rattle.si_scope.specs.inner.Walk.{resolved, resolved_all, resolved_clauses}
 use Rattle.si_scope.proofs.Walked.{then_same, then_then, local_is}
 
 -- the locals of these functions after those before, if this holds
-abbrev behind : List (List Text) → List Function → Bool → Option (List (List Text))
-behind names fs holds = if holds then Some (names ++ map locals_of fs) else None
+abbrev after : List (List Text) → List Function → Bool → Option (List (List Text))
+after names fs holds = if holds then Some (names ++ map locals_of fs) else None
 
-none_behind : (names : List (List Text)) → Some names ≡ behind names [] true
-none_behind names = ap Some (sym (append-nil names))
+none_after : (names : List (List Text)) → Some names ≡ after names [] true
+none_after names = ap Some (sym (append-nil names))
 
 two_texts : (f : List (List Text) → Option (List (List Text))) (o : Option (List (List Text))) (names : List (List Text)) (fs gs : List Function) (p q : Bool)
-    → o ≡ behind names fs p → ((more : List (List Text)) → f more ≡ behind more gs q) → option_and_then f o ≡ behind names (fs ++ gs) (p && q)
-two_texts f o names fs gs p q now later = ap (option_and_then f) now ∙ then_same f (λ more. behind more gs q) (behind names fs p) later ∙ by p
+    → o ≡ after names fs p → ((more : List (List Text)) → f more ≡ after more gs q) → option_and_then f o ≡ after names (fs ++ gs) (p && q)
+two_texts f o names fs gs p q now later = ap (option_and_then f) now ∙ then_same f (λ more. after more gs q) (after names fs p) later ∙ by p
   where
-    by : (b : Bool) → option_and_then (λ more. behind more gs q) (behind names fs b) ≡ behind names (fs ++ gs) (b && q)
+    by : (b : Bool) → option_and_then (λ more. after more gs q) (after names fs b) ≡ after names (fs ++ gs) (b && q)
     by true = ap (λ l. if q then Some l else None) (append_assoc names (map locals_of fs) (map locals_of gs) ∙ ap (λ l. names ++ l) (sym (map-append locals_of fs gs)))
     by false = refl
 
 mutual
-  stmt_is : (a : Stmt) (loop : Bool) (names : List (List Text)) → resolved a loop names ≡ behind names (functions_of a) (stmt_scoped (InText loop) a)
-  stmt_is (tree.Evaluate e) loop names = none_behind names
-  stmt_is (tree.Assign ts e) loop names = none_behind names
-  stmt_is (tree.Augment x o e) loop names = none_behind names
-  stmt_is (tree.AugmentItem a b o e) loop names = none_behind names
-  stmt_is (tree.Delete a b) loop names = none_behind names
-  stmt_is tree.Pass loop names = none_behind names
+  stmt_is : (a : Stmt) (loop : Bool) (names : List (List Text)) → resolved a loop names ≡ after names (functions_of a) (stmt_scoped (InText loop) a)
+  stmt_is (tree.Evaluate e) loop names = none_after names
+  stmt_is (tree.Assign ts e) loop names = none_after names
+  stmt_is (tree.Augment x o e) loop names = none_after names
+  stmt_is (tree.AugmentItem a b o e) loop names = none_after names
+  stmt_is (tree.Delete a b) loop names = none_after names
+  stmt_is tree.Pass loop names = none_after names
   stmt_is (tree.If a b c) loop names =
       two_texts (resolved_all c loop) (resolved_all b loop names) names (functions_in b) (functions_in c) (stmts_scoped (InText loop) b) (stmts_scoped (InText loop) c) (stmts_are b loop names) (stmts_are c loop)
   stmt_is (tree.While a b c) loop names =
@@ -55,14 +55,14 @@ mutual
       by false = refl
   stmt_is (tree.Return a) loop names = refl
   stmt_is (tree.Global xs) loop names = refl
-  stmt_is (tree.Import m) loop names = none_behind names
-  stmt_is (tree.Raise a) loop names = none_behind names
+  stmt_is (tree.Import m) loop names = none_after names
+  stmt_is (tree.Raise a) loop names = none_after names
   stmt_is (tree.Try b cs c) loop names =
       let w = InText loop in
       two_texts (λ more. option_and_then (resolved_all c loop) (resolved_clauses cs loop more)) (resolved_all b loop names) names (functions_in b) (functions_in_clauses cs ++ functions_in c)
       (stmts_scoped w b) (clauses_scoped w cs && stmts_scoped w c) (stmts_are b loop names)
       (λ more. two_texts (resolved_all c loop) (resolved_clauses cs loop more) more (functions_in_clauses cs) (functions_in c) (clauses_scoped w cs) (stmts_scoped w c) (clauses_are cs loop more) (stmts_are c loop))
-      ∙ ap (behind names (functions_in b ++ (functions_in_clauses cs ++ functions_in c))) (sym (and_assoc (stmts_scoped w b) (clauses_scoped w cs) (stmts_scoped w c)))
+      ∙ ap (after names (functions_in b ++ (functions_in_clauses cs ++ functions_in c))) (sym (and_assoc (stmts_scoped w b) (clauses_scoped w cs) (stmts_scoped w c)))
   stmt_is (tree.Finally b cs c f) loop names =
       let w = InText loop in
       let end = stmts_scoped (InText false) f in
@@ -72,16 +72,16 @@ mutual
       ∙ two_texts (λ others. option_and_then (resolved_all f false) (resolved_all c loop others)) (resolved_clauses cs loop more) more (functions_in_clauses cs) (functions_in c ++ functions_in f)
       (clauses_scoped w cs) (stmts_scoped w c && end) (clauses_are cs loop more)
       (λ others. two_texts (resolved_all f false) (resolved_all c loop others) others (functions_in c) (functions_in f) (stmts_scoped w c) end (stmts_are c loop others) (stmts_are f false)))
-      ∙ ap (behind names (functions_in b ++ (functions_in_clauses cs ++ (functions_in c ++ functions_in f))))
+      ∙ ap (after names (functions_in b ++ (functions_in_clauses cs ++ (functions_in c ++ functions_in f))))
       (sym (and_assoc (stmts_scoped w b) (clauses_scoped w cs) (stmts_scoped w c && end)) ∙ sym (and_assoc (stmts_scoped w b && clauses_scoped w cs) (stmts_scoped w c) end))
 
-  stmts_are : (b : Stmts) (loop : Bool) (names : List (List Text)) → resolved_all b loop names ≡ behind names (functions_in b) (stmts_scoped (InText loop) b)
-  stmts_are tree.NoStmts loop names = none_behind names
+  stmts_are : (b : Stmts) (loop : Bool) (names : List (List Text)) → resolved_all b loop names ≡ after names (functions_in b) (stmts_scoped (InText loop) b)
+  stmts_are tree.NoStmts loop names = none_after names
   stmts_are (tree.MoreStmts a b) loop names =
       two_texts (resolved_all b loop) (resolved a loop names) names (functions_of a) (functions_in b) (stmt_scoped (InText loop) a) (stmts_scoped (InText loop) b) (stmt_is a loop names) (stmts_are b loop)
 
-  clauses_are : (cs : Clauses) (loop : Bool) (names : List (List Text)) → resolved_clauses cs loop names ≡ behind names (functions_in_clauses cs) (clauses_scoped (InText loop) cs)
-  clauses_are tree.NoClauses loop names = none_behind names
+  clauses_are : (cs : Clauses) (loop : Bool) (names : List (List Text)) → resolved_clauses cs loop names ≡ after names (functions_in_clauses cs) (clauses_scoped (InText loop) cs)
+  clauses_are tree.NoClauses loop names = none_after names
   clauses_are (tree.MoreClauses a y b cs) loop names =
       two_texts (resolved_clauses cs loop) (resolved_all b loop names) names (functions_in b) (functions_in_clauses cs) (stmts_scoped (InText loop) b) (clauses_scoped (InText loop) cs) (stmts_are b loop names) (clauses_are cs loop)
 

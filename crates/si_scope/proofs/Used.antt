@@ -62,8 +62,8 @@ conditional_names a b c e is = names_are e (views.Conditional a b c) _ is (condi
 -- ---- one part after another
 
 -- the names of one part, and then those of another
-pub both_used : (all front back first last before between behind : List Text) → all ≡ front ++ back → first ≡ front → last ≡ back → between ≡ with_names before first → behind ≡ with_names between last → behind ≡ with_names before all
-both_used all front back first last before between behind is is_front is_back one two =
+pub both_used : (all front back first last before between after : List Text) → all ≡ front ++ back → first ≡ front → last ≡ back → between ≡ with_names before first → after ≡ with_names between last → after ≡ with_names before all
+both_used all front back first last before between after is is_front is_back one two =
     two ∙ ap (λ u. with_names u last) one ∙ sym (with_names-append before first last)
     ∙ ap (λ xs. with_names before (xs ++ last)) is_front ∙ ap (λ ys. with_names before (front ++ ys)) is_back ∙ ap (with_names before) (sym is)
 
@@ -72,9 +72,9 @@ pub next_used : (es : List Expr) (i : ℕ) (e : Expr) (before now later : List T
     → with_names before (names_of_all (exprs_of (map expr_of es))) ≡ with_names now (names_of_all (exprs_of (map expr_of (drop i es)))) → later ≡ with_names now (names_of (expr_of e))
     → with_names before (names_of_all (exprs_of (map expr_of es))) ≡ with_names later (names_of_all (exprs_of (map expr_of (drop (i + 1) es))))
 next_used es i e before now later lt at so_far more =
-    let behind = names_of_all (exprs_of (map expr_of (drop (i + 1) es))) in
+    let after = names_of_all (exprs_of (map expr_of (drop (i + 1) es))) in
     so_far ∙ ap (λ l. with_names now (names_of_all (exprs_of (map expr_of l)))) (rest_is es i e lt at)
-    ∙ with_names-append now (names_of (expr_of e)) behind ∙ ap (λ u. with_names u behind) (sym more)
+    ∙ with_names-append now (names_of (expr_of e)) after ∙ ap (λ u. with_names u after) (sym more)
 
 pub last_used : (es : List Expr) (i : ℕ) (before now : List Text) → length es ≤ i
     → with_names before (names_of_all (exprs_of (map expr_of es))) ≡ with_names now (names_of_all (exprs_of (map expr_of (drop i es)))) → now ≡ with_names before (names_of_all (exprs_of (map expr_of es)))
@@ -85,9 +85,9 @@ pub next_link : (ls : List (ComparisonOperator × Expr)) (i : ℕ) (l : Comparis
     → with_names before (names_of_chain (chain_of (map link_of ls))) ≡ with_names now (names_of_chain (chain_of (map link_of (drop i ls)))) → later ≡ with_names now (names_of (expr_of l.1))
     → with_names before (names_of_chain (chain_of (map link_of ls))) ≡ with_names later (names_of_chain (chain_of (map link_of (drop (i + 1) ls))))
 next_link ls i l before now later lt at so_far more =
-    let behind = names_of_chain (chain_of (map link_of (drop (i + 1) ls))) in
+    let after = names_of_chain (chain_of (map link_of (drop (i + 1) ls))) in
     so_far ∙ ap (λ r. with_names now (names_of_chain (chain_of (map link_of r)))) (rest_is ls i l lt at)
-    ∙ with_names-append now (names_of (expr_of l.1)) behind ∙ ap (λ u. with_names u behind) (sym more)
+    ∙ with_names-append now (names_of (expr_of l.1)) after ∙ ap (λ u. with_names u after) (sym more)
 
 pub last_link : (ls : List (ComparisonOperator × Expr)) (i : ℕ) (before now : List Text) → length ls ≤ i
     → with_names before (names_of_chain (chain_of (map link_of ls))) ≡ with_names now (names_of_chain (chain_of (map link_of (drop i ls)))) → now ≡ with_names before (names_of_chain (chain_of (map link_of ls)))

@@ -166,8 +166,8 @@ in_both us vs bs cs in_b in_c ys h =
     ∙ and_both (are_apart bs ys) (are_apart cs ys) (in_b ys (first_of (are_apart us ys) (are_apart vs ys) parts)) (in_c ys (second_of (are_apart us ys) (are_apart vs ys) parts))
 
 -- after names that are used
-behind_names : (ns us bs : List Text) → Within bs us → Within bs (ns ++ us)
-behind_names ns us bs in_b ys h = in_b ys (second_of (are_apart ns ys) (are_apart us ys) (sym (apart_front ns us ys) ∙ h))
+after_names : (ns us bs : List Text) → Within bs us → Within bs (ns ++ us)
+after_names ns us bs in_b ys h = in_b ys (second_of (are_apart ns ys) (are_apart us ys) (sym (apart_front ns us ys) ∙ h))
 
 -- a name that is bound in front of those
 name_first : (x : Text) (us bs : List Text) → Within bs us → Within (x ∷ bs) (x ∷ us)
@@ -178,7 +178,7 @@ in_front : (us ns bs : List Text) → Within bs us → Within bs (us ++ ns)
 in_front us ns bs in_b ys h = in_b ys (first_of (are_apart us ys) (are_apart ns ys) (sym (apart_front us ns ys) ∙ h))
 
 two_suites : (n ub uc bb bc : List Text) → Within bb ub → Within bc uc → Within (bb ++ bc) ((n ++ ub) ++ uc)
-two_suites n ub uc bb bc in_b in_c = in_both (n ++ ub) uc bb bc (behind_names n ub bb in_b) in_c
+two_suites n ub uc bb bc in_b in_c = in_both (n ++ ub) uc bb bc (after_names n ub bb in_b) in_c
 
 mutual
   target_bound_apart : (t : Target) → Within (bound_by_target t) (used_by_target t)
@@ -225,7 +225,7 @@ mutual
   clauses_bound_apart : (cs : Clauses) → Within (bound_in_clauses cs) (used_in_clauses cs)
   clauses_bound_apart tree.NoClauses = no_names []
   clauses_bound_apart (tree.MoreClauses a y b cs) =
-      behind_names (names_of_value a) (name_in y ++ (used_in b ++ used_in_clauses cs)) (name_in y ++ (bound_in b ++ bound_in_clauses cs))
+      after_names (names_of_value a) (name_in y ++ (used_in b ++ used_in_clauses cs)) (name_in y ++ (bound_in b ++ bound_in_clauses cs))
       (in_both (name_in y) (used_in b ++ used_in_clauses cs) (name_in y) (bound_in b ++ bound_in_clauses cs) (λ ys h. h)
       (in_both (used_in b) (used_in_clauses cs) (bound_in b) (bound_in_clauses cs) (all_bound_apart b) (clauses_bound_apart cs)))
 
@@ -246,15 +246,15 @@ named : (s : Seen) (a : Option Expr) (y : Option Text) → binding_any y (using 
 named s a None = ap (λ u. using u s) (sym (append-nil (names_of_value a)))
 named s a (Some x) = ap (λ u. seen_of u s.declared (with_new s.locals s.declared (x ∷ []))) (sym (with_names-append s.used (names_of_value a) (x ∷ [])))
 
--- names that are used behind others
-used_behind : (s : Seen) (n m b : List Text) → using m (seen_in s n [] b) ≡ seen_in s (n ++ m) [] b
-used_behind s n m b = ap (λ u. seen_of u s.declared (with_new s.locals s.declared b)) (sym (with_names-append s.used n m))
+-- names that are used after others
+used_after : (s : Seen) (n m b : List Text) → using m (seen_in s n [] b) ≡ seen_in s (n ++ m) [] b
+used_after s n m b = ap (λ u. seen_of u s.declared (with_new s.locals s.declared b)) (sym (with_names-append s.used n m))
 
 mutual
   -- what a target uses and binds
   target_is : (t : Target) (s : Seen) → binding_target t s ≡ seen_in s (used_by_target t) [] (bound_by_target t)
   target_is (tree.Named x) s = refl
-  target_is (tree.Item a b) s = used_behind s (names_of a) (names_of b) []
+  target_is (tree.Item a b) s = used_after s (names_of a) (names_of b) []
   target_is (tree.Unpack ts) s = targets_are ts s
 
   targets_are : (ts : Targets) (s : Seen) → binding_targets ts s ≡ seen_in s (used_by_targets ts) [] (bound_by_targets ts)
@@ -265,10 +265,10 @@ mutual
 
 -- targets that are bound, and an expression after them
 targets_then : (s : Seen) (ts : Targets) (n : List Text) → using n (binding_targets ts s) ≡ seen_in s (used_by_targets ts ++ n) [] (bound_by_targets ts)
-targets_then s ts n = ap (using n) (targets_are ts s) ∙ used_behind s (used_by_targets ts) n (bound_by_targets ts)
+targets_then s ts n = ap (using n) (targets_are ts s) ∙ used_after s (used_by_targets ts) n (bound_by_targets ts)
 
 target_then : (s : Seen) (t : Target) (n : List Text) → using n (binding_target t s) ≡ seen_in s (used_by_target t ++ n) [] (bound_by_target t)
-target_then s t n = ap (using n) (target_is t s) ∙ used_behind s (used_by_target t) n (bound_by_target t)
+target_then s t n = ap (using n) (target_is t s) ∙ used_after s (used_by_target t) n (bound_by_target t)
 
 mutual
   stmt_is : (a : Stmt) (loop returns : Bool) (s : Seen) → after a loop returns s ≡ given s (used_by a) (declared_by a) (bound_by a) (declares_first a && stmt_scoped (InFunction loop returns) a)
@@ -276,9 +276,9 @@ mutual
   stmt_is (tree.Assign ts e) loop returns s = ap Some (targets_then s ts (names_of e)) ∙ one_row s (used_by_targets ts ++ names_of e) (bound_by_targets ts)
   stmt_is (tree.Augment x o e) loop returns s = one_row s (x ∷ names_of e) (x ∷ [])
   stmt_is (tree.AugmentItem a b o e) loop returns s =
-      ap (λ t. Some (using (names_of e) t)) (used_behind s (names_of a) (names_of b) []) ∙ ap Some (used_behind s (names_of a ++ names_of b) (names_of e) [])
+      ap (λ t. Some (using (names_of e) t)) (used_after s (names_of a) (names_of b) []) ∙ ap Some (used_after s (names_of a ++ names_of b) (names_of e) [])
       ∙ ap (λ u. Some (seen_in s u [] [])) (append_assoc (names_of a) (names_of b) (names_of e)) ∙ one_row s (names_of a ++ (names_of b ++ names_of e)) []
-  stmt_is (tree.Delete a b) loop returns s = ap Some (used_behind s (names_of a) (names_of b) []) ∙ one_row s (names_of a ++ names_of b) []
+  stmt_is (tree.Delete a b) loop returns s = ap Some (used_after s (names_of a) (names_of b) []) ∙ one_row s (names_of a ++ names_of b) []
   stmt_is tree.Pass loop returns s = one_row s [] []
   stmt_is (tree.If a b c) loop returns s =
       suites_are (after_all c loop returns) (after_all b loop returns (using (names_of a) s)) s (names_of a) [] (used_in b) (declared_in b) (bound_in b) (used_in c) (declared_in c) (bound_in c)
@@ -354,7 +354,7 @@ mutual
       ap (λ t. option_and_then (after_clauses cs loop returns) (after_all b loop returns t)) (named s a y)
       ∙ suites_are (after_clauses cs loop returns) (after_all b loop returns (seen_in s n [] (name_in y))) s n (name_in y) (used_in b) (declared_in b) (bound_in b) (used_in_clauses cs) (declared_in_clauses cs) (bound_in_clauses cs)
       (declare_first b) (stmts_scoped w b) (clauses_declare_first cs) (clauses_scoped w cs)
-      (stmts_are b loop returns (seen_in s n [] (name_in y))) (clauses_are cs loop returns) (behind_names (names_of_value a) (name_in y) (name_in y) (λ ys h. h)) (all_bound_apart b)
+      (stmts_are b loop returns (seen_in s n [] (name_in y))) (clauses_are cs loop returns) (after_names (names_of_value a) (name_in y) (name_in y) (λ ys h. h)) (all_bound_apart b)
       ∙ ap (λ r. given s r d m (clauses_declare_first (tree.MoreClauses a y b cs) && clauses_scoped w (tree.MoreClauses a y b cs))) (append_assoc n (used_in b) (used_in_clauses cs) ∙ append_assoc (names_of_value a) (name_in y) u)
 
 -- what is local to a function, if it is well scoped

@@ -9,7 +9,7 @@ use Rattle.std.proofs.lemmas.Bool.Decides.{nat_tests}
 use Rattle.si_semantics.specs.Tokens.{Symbol, Token}
 use Rattle.si_semantics.specs.Literals.{is_quote, is_raw, is_of_bytes, is_prefix, is_double_prefix}
 use Rattle.si_semantics.specs.Words.{is_digit, begins_name, continues_name, is_space, is_tab, is_hash, in_comment, same, spelled, symbols, Sort, Name, Int, Text, Operator, Spaces, Tabs, Comment, LineEnd, each, IsRun, is_quoted, is_text, IsIn, line_ends, IsWord, IsLongest, is_allowed, Word, IsCut}
-use Rattle.si_semantics.specs.Layout.{kind_of, brackets_after, open_after, behind, IsJoined, Line, line_end, AreLines, line_tokens, ending, Lays, HasTokens}
+use Rattle.si_semantics.specs.Layout.{kind_of, brackets_after, open_after, after, IsJoined, Line, line_end, AreLines, line_tokens, ending, Lays, HasTokens}
 
 -- ---- tests
 
@@ -317,7 +317,7 @@ lays blocks at [] = Some (ending blocks at)
 lays blocks at (l ∷ ls) =
     elim (line_tokens blocks at l) [
       | None ↦ None
-      | Some r ↦ option_map (λ more. r.0 ++ more) (lays r.1 (behind at l.words + length l.end) ls)
+      | Some r ↦ option_map (λ more. r.0 ++ more) (lays r.1 (after at l.words + length l.end) ls)
     ]
 
 lays_are : (blocks : List ℕ) (at : ℕ) (ls : List Line) (ts : List Token) → lays blocks at ls ≡ Some ts
@@ -326,19 +326,19 @@ lays_are blocks at [] ts h = some_inj h
 lays_are blocks at (l ∷ ls) ts h = by (λ open_blocks more. lays_are open_blocks next ls more) (line_tokens blocks at l) refl h
   where
     next : ℕ
-    next = behind at l.words + length l.end
+    next = after at l.words + length l.end
 
-    behind_line : (made : List Token) (open_blocks : List ℕ)
+    after_line : (made : List Token) (open_blocks : List ℕ)
         → ((more : List Token) → lays open_blocks next ls ≡ Some more → Lays open_blocks next ls more)
         → line_tokens blocks at l ≡ Some (made, open_blocks) → (o : Option (List Token))
         → lays open_blocks next ls ≡ o → option_map (λ more. made ++ more) o ≡ Some ts → Lays blocks at (l ∷ ls) ts
-    behind_line made open_blocks later e None f h = cc
-    behind_line made open_blocks later e (Some more) f h = (made, more, open_blocks, e, some_inj h, later more f)
+    after_line made open_blocks later e None f h = cc
+    after_line made open_blocks later e (Some more) f h = (made, more, open_blocks, e, some_inj h, later more f)
 
     by : ((open_blocks : List ℕ) (more : List Token) → lays open_blocks next ls ≡ Some more → Lays open_blocks next ls more) → (o : Option (List Token × List ℕ)) → line_tokens blocks at l ≡ o
         → elim o as (λ _. Option (List Token)) [ None ↦ None | Some r ↦ option_map (λ more. r.0 ++ more) (lays r.1 next ls) ] ≡ Some ts → Lays blocks at (l ∷ ls) ts
     by later None e h = cc
-    by later (Some (made, open_blocks)) e h = behind_line made open_blocks (later open_blocks) e (lays open_blocks next ls) refl h
+    by later (Some (made, open_blocks)) e h = after_line made open_blocks (later open_blocks) e (lays open_blocks next ls) refl h
 
 -- the tokens of the text of these lines, if they are its lines
 abbrev pub tokens_of : List Line → Option (List Token)

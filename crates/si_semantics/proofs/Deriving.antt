@@ -97,7 +97,7 @@ subscripted h a b =
       spelled = inl (a.terminals, b.terminals, refl, h, a.spelled, b.spelled);
     }
 
--- what stands behind the first of expressions in a row: others, or none, or a last comma
+-- what stands after the first of expressions in a row: others, or none, or a last comma
 pub record Rest (n l : ℕ) (es : List Expr) : Type 0 where
   pub terminals : List Terminal
   pub spelled : Following (Spells n l) tokens.Comma es terminals
@@ -126,7 +126,7 @@ list_display r = record {
   spelled = inl (r.terminals, refl, r.spelled);
 }
 
--- a dict of one pair, with a comma behind it
+-- a dict of one pair, with a comma after it
 abbrev pub one_pair : {n l : ℕ} {k v : Expr} → Expression n 1 k → Expression n 1 v → Expression (suc n) l (tree.DictDisplay (arguments (k ∷ v ∷ [])))
 one_pair {k = k} {v = v} key value =
     let pair : List Terminal = key.terminals ++ Sign tokens.Colon ∷ value.terminals in
@@ -168,7 +168,7 @@ two_aims {a = a} {b = b} h x y =
     let r = row x (more_rest y no_rest) in
     record { terminals = r.terminals; spelled = (tree.Tuple (exprs_of (a ∷ b ∷ [])), h, inr (a ∷ b ∷ [], refl, lit< tt, r.spelled)) }
 
--- targets, each with `=` behind it
+-- targets, each with `=` after it
 pub record Aims (ts : Targets) : Type 0 where
   pub terminals : List Terminal
   pub spelled : Targeted ts terminals
@@ -278,9 +278,9 @@ abbrev pub three_branches : {n : ℕ} {a b : Expr} {s t u : Stmt} → Expression
     → Expression max_depth 1 b → Suited n t → Suited n u
     → Nested (suc n) (tree.If a (suite (s ∷ [])) (suite (tree.If b (suite (t ∷ [])) (suite (u ∷ [])) ∷ [])))
 three_branches {a = a} {b = b} {s = s} {t = t} {u = u} test body other second last =
-    let behind : List Terminal = Word tokens.ElifWord ∷ (other.terminals ++ second.terminals) in
+    let after : List Terminal = Word tokens.ElifWord ∷ (other.terminals ++ second.terminals) in
     record {
-      terminals = Word tokens.IfWord ∷ ((test.terminals ++ body.terminals) ++ (behind ++ Word tokens.ElseWord ∷ last.terminals));
+      terminals = Word tokens.IfWord ∷ ((test.terminals ++ body.terminals) ++ (after ++ Word tokens.ElseWord ∷ last.terminals));
       spelled =
           inr (
             tree.If a (suite (s ∷ [])) (suite (tree.If b (suite (t ∷ [])) (suite (u ∷ [])) ∷ [])),
@@ -289,15 +289,15 @@ three_branches {a = a} {b = b} {s = s} {t = t} {u = u} test body other second la
               (b, suite (t ∷ [])) ∷ [],
               suite (u ∷ []),
               test.terminals ++ body.terminals,
-              behind,
+              after,
               Word tokens.ElseWord ∷ last.terminals,
               refl,
               refl,
               (test.terminals, body.terminals, refl, test.spelled, body.spelled),
               (
-                behind,
+                after,
                 [],
-                sym (append-nil behind),
+                sym (append-nil after),
                 (other.terminals ++ second.terminals, refl, (other.terminals, second.terminals, refl, other.spelled, second.spelled)),
                 refl,
               ),

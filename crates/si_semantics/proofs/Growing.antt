@@ -16,7 +16,7 @@ use Rattle.si_plain.specs.declared.kind.Kind.{Kind}
 use Rattle.std.specs.Prelude as prelude
 use Rattle.si_semantics.specs.Attributes.{Method, attribute, called, method_of, call_method}
 use Rattle.si_semantics.specs.Text.{module_name}
-use Rattle.si_semantics.specs.Meaning.{State, Raises, Returns, Breaks, Continues, Result, Gives, Leaves, Asks, Cut, Meaning, Scope, behind, with_active, visit, then, printed, raised, asked, ran, slot_at, read, assign, unassign, calls, calls_method, calls_attribute, callee, choose, decides, compared, expr, exprs, operands, chain, done, spread, bind, bind_each, bind_all, after_turn, turn_of, loop, for_loop, over, returning, raising, caught, active_in, finally, named, stmt, stmts, clauses, returned, entered, fitting, run_body, call, max_calls}
+use Rattle.si_semantics.specs.Meaning.{State, Raises, Returns, Breaks, Continues, Result, Gives, Leaves, Asks, Cut, Meaning, Scope, after, with_active, visit, then, printed, raised, asked, ran, slot_at, read, assign, unassign, calls, calls_method, calls_attribute, callee, choose, decides, compared, expr, exprs, operands, chain, done, spread, bind, bind_each, bind_all, after_turn, turn_of, loop, for_loop, over, returning, raising, caught, active_in, finally, named, stmt, stmts, clauses, returned, entered, fitting, run_body, call, max_calls}
 use Rattle.si_semantics.specs.Life.{Outcome, Returned, Told, outcome_of, not_read, after_end, ends_with, run_ended, module_scope, run_of, takes, life}
 use Rattle.si_semantics.specs.Laws.{Grows, state_of}
 
@@ -258,13 +258,13 @@ named_adds e (Some y) x suite h s =
 
 -- the except clauses of a `try`, its else suite and its finally suite
 abbrev pub handling : Scope → Stmts → Clauses → ℕ → Meaning (Unit {0})
-handling e b cs x = clauses (behind (functions_in b) (with_active (Some x) e)) cs x
+handling e b cs x = clauses (after (functions_in b) (with_active (Some x) e)) cs x
 
 abbrev pub otherwise : Scope → Stmts → Clauses → Stmts → Meaning (Unit {0})
-otherwise e b cs c = stmts (behind (functions_in b ++ functions_in_clauses cs) e) c
+otherwise e b cs c = stmts (after (functions_in b ++ functions_in_clauses cs) e) c
 
 abbrev pub lastly : Scope → Stmts → Clauses → (c f : Stmts) → Option ℕ → Meaning (Unit {0})
-lastly e b cs c f active = stmts (behind (functions_in b ++ (functions_in_clauses cs ++ functions_in c)) (with_active active e)) f
+lastly e b cs c f active = stmts (after (functions_in b ++ (functions_in_clauses cs ++ functions_in c)) (with_active active e)) f
 
 -- the rest of an augmented assignment to an item whose value was read: the right side, the operation, and the item is set
 abbrev pub stored : Scope → (object index value : Value) → BinaryOperator → Expr → Meaning (Unit {0})
@@ -294,11 +294,11 @@ mutual
   stmt_adds e h tree.Pass s = visit_adds s
   stmt_adds e h (tree.If a b c) s =
       both_add s (expr e a (visit s)) _ (trans (visit_adds s) (expr_adds e h a (visit s)))
-      (λ t s1. choose_adds (is_true t s1.world) (stmts e b s1) (stmts (behind (functions_in b) e) c s1) (stmts_add e h b s1) (stmts_add (behind (functions_in b) e) h c s1))
+      (λ t s1. choose_adds (is_true t s1.world) (stmts e b s1) (stmts (after (functions_in b) e) c s1) (stmts_add e h b s1) (stmts_add (after (functions_in b) e) h c s1))
   stmt_adds e h (tree.While a b c) s =
       trans (visit_adds s)
-      (loop_adds e.turns (expr e a) (stmts e b) (stmts (behind (functions_in b) e) c)
-      (λ s1. expr_adds e h a s1) (λ s1. stmts_add e h b s1) (λ s1. stmts_add (behind (functions_in b) e) h c s1) (visit s))
+      (loop_adds e.turns (expr e a) (stmts e b) (stmts (after (functions_in b) e) c)
+      (λ s1. expr_adds e h a s1) (λ s1. stmts_add e h b s1) (λ s1. stmts_add (after (functions_in b) e) h c s1) (visit s))
   stmt_adds e h tree.Break s = visit_adds s
   stmt_adds e h tree.Continue s = visit_adds s
   stmt_adds e h (tree.Define f ps b) s = trans (visit_adds s) (assign_adds f (place_of f e.locals) (Function f e.first) (visit s))
@@ -309,23 +309,23 @@ mutual
   stmt_adds e h (tree.For t a b c) s =
       both_add s (expr e a (visit s)) _ (trans (visit_adds s) (expr_adds e h a (visit s)))
       (λ v s1. over_adds (iterator_of v s1.world) _
-      (λ it. for_loop_adds e.turns (λ u s2. bind e t u s2) (stmts e b) (stmts (behind (functions_in b) e) c)
-      (λ u s2. bind_adds e h t u s2) (λ s2. stmts_add e h b s2) (λ s2. stmts_add (behind (functions_in b) e) h c s2) it) s1)
+      (λ it. for_loop_adds e.turns (λ u s2. bind e t u s2) (stmts e b) (stmts (after (functions_in b) e) c)
+      (λ u s2. bind_adds e h t u s2) (λ s2. stmts_add e h b s2) (λ s2. stmts_add (after (functions_in b) e) h c s2) it) s1)
   stmt_adds e h (tree.Try b cs c) s =
       trans (trans (visit_adds s) (stmts_add e h b (visit s)))
       (caught_adds (stmts e b (visit s)) (handling e b cs) (otherwise e b cs c)
-      (λ x s1. clauses_add (behind (functions_in b) (with_active (Some x) e)) h cs x s1) (λ s1. stmts_add (behind (functions_in b ++ functions_in_clauses cs) e) h c s1))
+      (λ x s1. clauses_add (after (functions_in b) (with_active (Some x) e)) h cs x s1) (λ s1. stmts_add (after (functions_in b ++ functions_in_clauses cs) e) h c s1))
   stmt_adds e h (tree.Finally b cs c f) s =
       trans
       (trans (trans (visit_adds s) (stmts_add e h b (visit s)))
       (caught_adds (stmts e b (visit s)) (handling e b cs) (otherwise e b cs c)
-      (λ x s1. clauses_add (behind (functions_in b) (with_active (Some x) e)) h cs x s1) (λ s1. stmts_add (behind (functions_in b ++ functions_in_clauses cs) e) h c s1)))
+      (λ x s1. clauses_add (after (functions_in b) (with_active (Some x) e)) h cs x s1) (λ s1. stmts_add (after (functions_in b ++ functions_in_clauses cs) e) h c s1)))
       (finally_adds e.active (caught (stmts e b (visit s)) (handling e b cs) (otherwise e b cs c)) (lastly e b cs c f)
-      (λ active s1. stmts_add (behind (functions_in b ++ (functions_in_clauses cs ++ functions_in c)) (with_active active e)) h f s1))
+      (λ active s1. stmts_add (after (functions_in b ++ (functions_in_clauses cs ++ functions_in c)) (with_active active e)) h f s1))
 
   pub stmts_add : (e : Scope) → Calls_add e → (b : Stmts) → Adds (stmts e b)
   stmts_add e h tree.NoStmts s = same s
-  stmts_add e h (tree.MoreStmts a b) s = both_add s (stmt e a s) _ (stmt_adds e h a s) (λ u s1. stmts_add (behind (functions_of a) e) h b s1)
+  stmts_add e h (tree.MoreStmts a b) s = both_add s (stmt e a s) _ (stmt_adds e h a s) (λ u s1. stmts_add (after (functions_of a) e) h b s1)
 
   pub clauses_add : (e : Scope) → Calls_add e → (cs : Clauses) (x : ℕ) → Adds (clauses e cs x)
   clauses_add e h tree.NoClauses x s = same s
@@ -333,8 +333,8 @@ mutual
   clauses_add e h (tree.MoreClauses (Some a) y b cs) x s =
       both_add s (expr e a (visit s)) _ (trans (visit_adds s) (expr_adds e h a (visit s)))
       (λ v s1. both_add s1 (ran (catches v x s1.world) s1) _ (ran_adds (catches v x s1.world) s1)
-      (λ t s2. choose_adds (is_true t s2.world) (named e y x (stmts e b) s2) (clauses (behind (functions_in b) e) cs x s2)
-      (named_adds e y x (stmts e b) (λ s3. stmts_add e h b s3) s2) (clauses_add (behind (functions_in b) e) h cs x s2)))
+      (λ t s2. choose_adds (is_true t s2.world) (named e y x (stmts e b) s2) (clauses (after (functions_in b) e) cs x s2)
+      (named_adds e y x (stmts e b) (λ s3. stmts_add e h b s3) s2) (clauses_add (after (functions_in b) e) h cs x s2)))
 
 -- ---- growing, of a call
 

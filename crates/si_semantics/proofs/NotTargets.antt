@@ -2,16 +2,15 @@
 use Rattle.std.proofs.Common.{◌≡◌, ℕ, zero, suc, ◌<◌, List, [], ◌∷◌, ◌++◌, length, inl, inr, Some, None, refl, subst, arith}
 use Rattle.si_semantics.specs.Value.{Text, Nothing, Truth, Int, Str, Bytes, Provided, Function, Range, Tuple, Class, Module, Queue, Interpreter, Exec, Address}
 use Rattle.si_semantics.specs.Tree as tree
-use Rattle.si_semantics.specs.Tree.{Expr, Exprs, Target, Targets}
+use Rattle.si_semantics.specs.Tree.{Expr, Exprs, Target}
 use Rattle.si_semantics.specs.Tokens as tokens
-use Rattle.si_semantics.specs.Tokens.{Symbol}
 use Rattle.si_semantics.specs.Grammar.{Terminal, NAME, Sign, bit_or_level, item_level, primary_level, Separated, Ended, Spells, items_of, max_depth, max_item_depth, target_of, IsTarget}
 
 -- ---- lists
 
-nothing_behind : (f : List Terminal) (x : Terminal) (g : List Terminal) → [] ≡ f ++ x ∷ g → ⊥
-nothing_behind [] x g e = cc
-nothing_behind (y ∷ f) x g e = cc
+nothing_after : (f : List Terminal) (x : Terminal) (g : List Terminal) → [] ≡ f ++ x ∷ g → ⊥
+nothing_after [] x g e = cc
+nothing_after (y ∷ f) x g e = cc
 
 nothing_in_front : (f g : List Terminal) → [] ≡ f ++ g → f ≡ []
 nothing_in_front [] g e = refl
@@ -39,23 +38,23 @@ not_empty (suc n) l (tree.Constant (Interpreter i)) (inl h) = h
 not_empty (suc n) l (tree.Constant (Exec i)) (inl h) = h
 not_empty (suc n) l (tree.Constant (Address x)) (inl h) = h
 not_empty (suc n) l (tree.Unary op a) (inl (f, h, i, k)) = cc
-not_empty (suc n) l (tree.Binary op a b) (inl (f, g, h, i, k, m)) = nothing_behind f _ _ h
-not_empty (suc n) l (tree.Attribute a x) (inl (f, h, i, k)) = nothing_behind f _ _ h
-not_empty (suc n) l (tree.Call a x args names) (inl (f, g, p, passed, h, i, k, m, o, q)) = nothing_behind f _ _ h
-not_empty (suc n) l (tree.Subscript a b) (inl (f, g, h, i, k, m)) = nothing_behind f _ _ h
+not_empty (suc n) l (tree.Binary op a b) (inl (f, g, h, i, k, m)) = nothing_after f _ _ h
+not_empty (suc n) l (tree.Attribute a x) (inl (f, h, i, k)) = nothing_after f _ _ h
+not_empty (suc n) l (tree.Call a x args names) (inl (f, g, p, passed, h, i, k, m, o, q)) = nothing_after f _ _ h
+not_empty (suc n) l (tree.Subscript a b) (inl (f, g, h, i, k, m)) = nothing_after f _ _ h
 not_empty (suc n) l (tree.ListDisplay items) (inl (f, h, k)) = cc
 not_empty (suc n) l (tree.DictDisplay items) (inl (ps, f, h, i, k)) = cc
 not_empty (suc n) l (tree.Tuple items) (inl (f, h, k)) = cc
 not_empty (suc n) l (tree.Compare a cs) (inl (f, g, h, i, k, m, o)) = not_empty n bit_or_level a (subst (λ ts. Spells n bit_or_level a ts) (nothing_in_front f g h) k)
 not_empty (suc n) l (tree.Boolean w a es) (inl (f, g, h, i, k, m, o)) = not_empty n (item_level w) a (subst (λ ts. Spells n (item_level w) a ts) (nothing_in_front f g h) k)
-not_empty (suc n) l (tree.Conditional a b c) (inl (f, g, j, h, i, k, m, o)) = nothing_behind f _ _ h
+not_empty (suc n) l (tree.Conditional a b c) (inl (f, g, j, h, i, k, m, o)) = nothing_after f _ _ h
 
 -- ---- rows
 
--- items that nothing spells are none, whether an only one has a comma behind it or not
+-- items that nothing spells are none, whether an only one has a comma after it or not
 ended_by_nothing : (n : ℕ) (items : Exprs) → Ended (Spells n 1) tokens.Comma (items_of items) [] → items ≡ tree.NoExprs
 ended_by_nothing n tree.NoExprs h = refl
-ended_by_nothing n (tree.MoreExprs a tree.NoExprs) (f, h, k) = absurd (nothing_behind f _ _ h)
+ended_by_nothing n (tree.MoreExprs a tree.NoExprs) (f, h, k) = absurd (nothing_after f _ _ h)
 ended_by_nothing n (tree.MoreExprs a (tree.MoreExprs b es)) (f, g, h, k, m) = absurd (not_empty n 1 a (subst (λ ts. Spells n 1 a ts) (nothing_in_front f g h) k))
 
 separated_by_nothing : (n : ℕ) (items : Exprs) → Separated (Spells n 1) tokens.Comma (items_of items) [] → items ≡ tree.NoExprs

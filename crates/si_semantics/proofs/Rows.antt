@@ -6,7 +6,7 @@ use Rattle.std.proofs.lemmas.List.{append-nil, length-set}
 use Rattle.si_semantics.specs.Value.{Text}
 use Rattle.si_semantics.specs.Parcels.{Tree}
 use Rattle.si_semantics.specs.Life.{Outcome}
-use Rattle.si_semantics.specs.Actions.{Job, Bind, Run, Closing, Action, Create, CreateQueue, Put, PutNow, Get, GetNow, Size, Prepare, Start, Await, IsRunning, Close, ListAll, Take, End, Answer, fits}
+use Rattle.si_semantics.specs.Actions.{Job, Action, Create, CreateQueue, Put, PutNow, Get, GetNow, Size, Prepare, Start, Await, IsRunning, Close, ListAll, Take, End, Answer, fits}
 use Rattle.si_semantics.specs.Actions as answer
 use Rattle.si_semantics.specs.Shared.{State, Queue, Interpreter, Standing, Idle, Running, Closed, Reply, NotNow, Replied, if_given, is_full, is_closed, is_running, run_if_empty, taken_run, empty_queue, idle_interpreter, holding, with_items, with_interpreter, open_from, create, max_queues, create_queue, put_else, take_first, get_else, size, prepare_at, prepare, start_at, start, await, running, close_at, close, take_job, take, end, row, may_act, reply}
 use Rattle.si_semantics.specs.SharedLaws.{only, put_by, taken_by, items_of, held_by, Number, OfInterpreter, OfQueue, OfRun, given, standing_of, standing_in}

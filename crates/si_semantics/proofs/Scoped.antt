@@ -13,7 +13,7 @@ use Rattle.si_plain.specs.declared.kind.Kind.{Kind}
 use Rattle.std.specs.Prelude as prelude
 use Rattle.si_semantics.specs.Attributes.{Method, attribute, called, method_of, call_method}
 use Rattle.si_semantics.specs.Text.{module_name}
-use Rattle.si_semantics.specs.Meaning.{State, Leave, Raises, Returns, Breaks, Continues, Result, Gives, Leaves, Asks, Cut, Meaning, Scope, behind, visit, then, raised, asked, ran, slot_at, read, assign, calls, calls_method, calls_attribute, callee, choose, decides, compared, expr, exprs, operands, chain, done, spread, bind, bind_each, bind_all, after_turn, turn_of, loop, for_loop, over, returning, raising, caught, active_in, finally, unassign, named, with_active, clauses, stmt, stmts, returned, fitting, run_body, call, max_calls}
+use Rattle.si_semantics.specs.Meaning.{State, Leave, Raises, Returns, Breaks, Continues, Result, Gives, Leaves, Asks, Cut, Meaning, Scope, after, visit, then, raised, asked, ran, slot_at, read, assign, calls, calls_method, calls_attribute, callee, choose, decides, compared, expr, exprs, operands, chain, done, spread, bind, bind_each, bind_all, after_turn, turn_of, loop, for_loop, over, returning, raising, caught, active_in, finally, unassign, named, with_active, clauses, stmt, stmts, returned, fitting, run_body, call, max_calls}
 use Rattle.si_semantics.specs.Scope.{place_of, Within, InText, InFunction, in_loop, may_return, looping, finishing, stmt_scoped, stmts_scoped, clauses_scoped}
 use Rattle.si_semantics.specs.Life.{module_scope}
 use Rattle.si_semantics.specs.Laws.{LeftByExceptions}
@@ -310,17 +310,17 @@ mutual
   stmt_keeps w e k (tree.If a b c) s h =
       let g = both_true (stmts_scoped w b) (stmts_scoped w c) h in
       then_keeps w (expr e a (visit s)) _ (expr_keeps w e k a (visit s))
-      (λ t s1. choose_keeps w (is_true t s1.world) (stmts e b s1) (stmts (behind (functions_in b) e) c s1) (stmts_keep w e k b s1 g.0) (stmts_keep w (behind (functions_in b) e) k c s1 g.1))
+      (λ t s1. choose_keeps w (is_true t s1.world) (stmts e b s1) (stmts (after (functions_in b) e) c s1) (stmts_keep w e k b s1 g.0) (stmts_keep w (after (functions_in b) e) k c s1 g.1))
   stmt_keeps w e k (tree.While a b c) s h =
       let g = both_true (stmts_scoped (looping w) b) (stmts_scoped w c) h in
-      loop_keeps w (expr e a) (stmts e b) (stmts (behind (functions_in b) e) c)
-      (λ s1. expr_keeps w e k a s1) (λ s1. stmts_keep (looping w) e k b s1 g.0) (λ s1. stmts_keep w (behind (functions_in b) e) k c s1 g.1) e.turns (visit s)
+      loop_keeps w (expr e a) (stmts e b) (stmts (after (functions_in b) e) c)
+      (λ s1. expr_keeps w e k a s1) (λ s1. stmts_keep (looping w) e k b s1 g.0) (λ s1. stmts_keep w (after (functions_in b) e) k c s1 g.1) e.turns (visit s)
   stmt_keeps w e k (tree.For t a b c) s h =
       let g = both_true (stmts_scoped (looping w) b) (stmts_scoped w c) h in
       then_keeps w (expr e a (visit s)) _ (expr_keeps w e k a (visit s))
       (λ v s1. over_keeps w (iterator_of v s1.world) _
-      (λ it s2. for_keeps w (λ u s3. bind e t u s3) (stmts e b) (stmts (behind (functions_in b) e) c) (λ u s3. bind_keeps w e k t u s3)
-      (λ s3. stmts_keep (looping w) e k b s3 g.0) (λ s3. stmts_keep w (behind (functions_in b) e) k c s3 g.1) e.turns it s2) s1)
+      (λ it s2. for_keeps w (λ u s3. bind e t u s3) (stmts e b) (stmts (after (functions_in b) e) c) (λ u s3. bind_keeps w e k t u s3)
+      (λ s3. stmts_keep (looping w) e k b s3 g.0) (λ s3. stmts_keep w (after (functions_in b) e) k c s3 g.1) e.turns it s2) s1)
   stmt_keeps w e k tree.Break s h = h
   stmt_keeps w e k tree.Continue s h = h
   stmt_keeps w e k (tree.Define f ps b) s h = assign_keeps w f (place_of f e.locals) (Function f e.first) (visit s)
@@ -332,15 +332,15 @@ mutual
       let g = both_true (stmts_scoped w b && clauses_scoped w cs) (stmts_scoped w c) h in
       let f = both_true (stmts_scoped w b) (clauses_scoped w cs) g.0 in
       caught_keeps w (stmts e b (visit s)) _ _ (stmts_keep w e k b (visit s) f.0)
-      (λ x s1. clauses_keep w (behind (functions_in b) (with_active (Some x) e)) k cs x s1 f.1) (λ s1. stmts_keep w (behind (functions_in b ++ functions_in_clauses cs) e) k c s1 g.1)
+      (λ x s1. clauses_keep w (after (functions_in b) (with_active (Some x) e)) k cs x s1 f.1) (λ s1. stmts_keep w (after (functions_in b ++ functions_in_clauses cs) e) k c s1 g.1)
   stmt_keeps w e k (tree.Finally b cs c d) s h =
       let i = both_true ((stmts_scoped w b && clauses_scoped w cs) && stmts_scoped w c) (stmts_scoped (finishing w) d) h in
       let g = both_true (stmts_scoped w b && clauses_scoped w cs) (stmts_scoped w c) i.0 in
       let f = both_true (stmts_scoped w b) (clauses_scoped w cs) g.0 in
-      let end = behind (functions_in b ++ (functions_in_clauses cs ++ functions_in c)) in
+      let end = after (functions_in b ++ (functions_in_clauses cs ++ functions_in c)) in
       finally_keeps w e.active _ (λ active. stmts (end (with_active active e)) d)
       (caught_keeps w (stmts e b (visit s)) _ _ (stmts_keep w e k b (visit s) f.0)
-      (λ x s1. clauses_keep w (behind (functions_in b) (with_active (Some x) e)) k cs x s1 f.1) (λ s1. stmts_keep w (behind (functions_in b ++ functions_in_clauses cs) e) k c s1 g.1))
+      (λ x s1. clauses_keep w (after (functions_in b) (with_active (Some x) e)) k cs x s1 f.1) (λ s1. stmts_keep w (after (functions_in b ++ functions_in_clauses cs) e) k c s1 g.1))
       (λ active s1. out_of_end w (stmts (end (with_active active e)) d s1) (stmts_keep (finishing w) (end (with_active active e)) k d s1 i.1))
 
   clauses_keep : (w : Within) (e : Scope) → Calls_keep e → (cs : Clauses) (x : ℕ) (s : State) → clauses_scoped w cs ≡ true → Keeps w (clauses e cs x s)
@@ -352,14 +352,14 @@ mutual
       let g = both_true (stmts_scoped w b) (clauses_scoped w cs) h in
       then_keeps w (expr e a (visit s)) _ (expr_keeps w e k a (visit s))
       (λ v s1. then_keeps w (ran (catches v x s1.world) s1) _ (ran_keeps w (catches v x s1.world) s1)
-      (λ t s2. choose_keeps w (is_true t s2.world) (named e y x (stmts e b) s2) (clauses (behind (functions_in b) e) cs x s2)
-      (named_keeps w e y x (stmts e b) (λ s3. stmts_keep w e k b s3 g.0) s2) (clauses_keep w (behind (functions_in b) e) k cs x s2 g.1)))
+      (λ t s2. choose_keeps w (is_true t s2.world) (named e y x (stmts e b) s2) (clauses (after (functions_in b) e) cs x s2)
+      (named_keeps w e y x (stmts e b) (λ s3. stmts_keep w e k b s3 g.0) s2) (clauses_keep w (after (functions_in b) e) k cs x s2 g.1)))
 
   stmts_keep : (w : Within) (e : Scope) → Calls_keep e → (b : Stmts) (s : State) → stmts_scoped w b ≡ true → Keeps w (stmts e b s)
   stmts_keep w e k tree.NoStmts s h = tt
   stmts_keep w e k (tree.MoreStmts a b) s h =
       let g = both_true (stmt_scoped w a) (stmts_scoped w b) h in
-      then_keeps w (stmt e a s) _ (stmt_keeps w e k a s g.0) (λ u s1. stmts_keep w (behind (functions_of a) e) k b s1 g.1)
+      then_keeps w (stmt e a s) _ (stmt_keeps w e k a s g.0) (λ u s1. stmts_keep w (after (functions_of a) e) k b s1 g.1)
 
 -- ---- a run
 

@@ -48,7 +48,7 @@ worked = record {
   no_end_before_the_break = refl;
   endless_loop = refl;
   no_end = refl;
-  number_behind_a_loop = refl;
+  number_after_a_loop = refl;
   visits_of_a_loop = refl;
   last_turn_counts = refl;
 }

@@ -9,18 +9,18 @@ use Rattle.si_semantics.specs.Worked.Finally.{FinallyCases}
 pub worked : FinallyCases
 unfolding digits in_range sum_of difference_of negative_of floor_over floor_of rest_of floor_quotient name_of quote_of escaped repr_of
 worked = record {
-  finally_behind_each = refl;
-  finally_behind_an_exception = refl;
-  finally_behind_a_return = refl;
+  finally_after_each = refl;
+  finally_after_an_exception = refl;
+  finally_after_a_return = refl;
   finally_in_a_loop = refl;
-  finally_behind_continue = refl;
+  finally_after_continue = refl;
   raised_in_a_finally_suite = refl;
   raised_before_a_return = refl;
   caught_in_a_finally_suite = refl;
   loop_in_a_finally_suite = refl;
   nested_finally_suites = refl;
-  finally_behind_a_clause = refl;
-  finally_behind_no_match = refl;
+  finally_after_a_clause = refl;
+  finally_after_no_match = refl;
   returned_from_a_clause = refl;
   visits_of_suites = refl;
   cut_in_a_try = refl;
@@ -29,7 +29,7 @@ worked = record {
   none_in_another_clause = refl;
   number_in_a_clause = refl;
   number_in_a_finally_suite = refl;
-  number_behind_a_try = refl;
+  number_after_a_try = refl;
   none_in_a_clause = refl;
   number_in_an_else_suite = refl;
 }

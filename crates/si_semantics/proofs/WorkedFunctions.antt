@@ -14,7 +14,7 @@ worked_functions = record {
   global_is_changed = refl;
   looked_up_in_the_call = refl;
   calls_itself = refl;
-  number_behind_calls = refl;
+  number_after_calls = refl;
   visits_of_calls = refl;
   locals_of_each_call = refl;
   deepest = refl;
@@ -31,7 +31,7 @@ worked_functions = record {
   second_function = refl;
   not_defined = refl;
   number_in_an_else_suite = refl;
-  number_behind_an_if = refl;
+  number_after_an_if = refl;
   second_text = refl;
   number_in_a_second_text = refl;
 }

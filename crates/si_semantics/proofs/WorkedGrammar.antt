@@ -135,7 +135,7 @@ one_target_lines =
     ∷ last_line []
     ∷ []
 
--- `x[0]`, and a line of it with `+= 1` behind it, or with `del` in front of it
+-- `x[0]`, and a line of it with `+= 1` after it, or with `del` in front of it
 abbrev item_words : List words.Word
 item_words = letters (codes "x") ∷ sign (codes "[") ∷ digits (codes "0") ∷ sign (codes "]") ∷ []
 
@@ -326,5 +326,5 @@ worked_grammar = record {
   item_of_a_call_as_a_target = refl;
   empty_brackets_before_an_equal_sign = no_round_target;
   empty_square_brackets_before_an_equal_sign = no_square_target;
-  name_behind_del = λ a b h. not_deleted max_depth primary_level x a b _ h.0 h.1 h.2;
+  name_after_del = λ a b h. not_deleted max_depth primary_level x a b _ h.0 h.1 h.2;
 }

@@ -16,7 +16,7 @@ worked_layout = record {
   comment_alone = refl;
   tab_first = refl;
   tab_before_comment = refl;
-  tab_behind = refl;
+  tab_after = refl;
   all_closed = refl;
   four_lines_are = (
     _,
@@ -40,12 +40,12 @@ worked_layout = record {
   four_lines_make = (_, _, _, refl, refl, (_, _, _, refl, refl, (_, _, _, refl, refl, (_, _, _, refl, refl, refl))));
   line_of_the_first_byte = refl;
   line_of_a_line_end = refl;
-  line_behind_cr_lf = refl;
-  line_behind_lf = refl;
-  line_behind_cr = refl;
-  line_behind_two_cr = refl;
+  line_after_cr_lf = refl;
+  line_after_lf = refl;
+  line_after_cr = refl;
+  line_after_two_cr = refl;
   line_at_the_end = refl;
   line_in_a_literal = refl;
-  line_behind_a_literal = refl;
+  line_after_a_literal = refl;
   line_in_no_text = refl;
 }

@@ -193,14 +193,14 @@ tested_texts test (Str s) (Str t) w = gave (Truth (test s t)) w
 tested_texts test _ _ w = wrong_type w
 
 -- texts with a text between them, where all are texts
-abbrev pub joined_behind : Text → List Value → Option Text
-joined_behind s [] = Some []
-joined_behind s (Str t ∷ vs) = option_map (λ u. s ++ (t ++ u)) (joined_behind s vs)
-joined_behind s _ = None
+abbrev pub joined_after : Text → List Value → Option Text
+joined_after s [] = Some []
+joined_after s (Str t ∷ vs) = option_map (λ u. s ++ (t ++ u)) (joined_after s vs)
+joined_after s _ = None
 
 abbrev pub joined_texts : Text → List Value → Option Text
 joined_texts s [] = Some []
-joined_texts s (Str t ∷ vs) = option_map (λ u. t ++ u) (joined_behind s vs)
+joined_texts s (Str t ∷ vs) = option_map (λ u. t ++ u) (joined_after s vs)
 joined_texts s _ = None
 
 -- a text that was made of texts

@@ -1,5 +1,5 @@
 -- A device for types that hold values: the code of a value, by its words, which give it back. The words of a tuple are those
--- of its items, with a mark behind each and at the end; a Model whose Value speaks of values has the line
+-- of its items, with a mark after each and at the end; a Model whose Value speaks of values has the line
 -- `ghost coded = { Prim.hlevel (codes, value_code) };`.
 --
 -- To add a form of value that holds none: a number of its own and a line in `words`, in `taken` and in `read-words`.

@@ -199,8 +199,8 @@ Many I [] ts = ts ≡ []
 Many I (x ∷ xs) ts = (f : List Terminal) × (g : List Terminal) × (ts ≡ f ++ g) × I x f × Many I xs g
 
 -- an item after a terminal
-abbrev pub Behind : {A : Type 0} → Terminal → (A → List Terminal → Type 0) → A → List Terminal → Type 0
-Behind t I x ts = (f : List Terminal) × (ts ≡ t ∷ f) × I x f
+abbrev pub After : {A : Type 0} → Terminal → (A → List Terminal → Type 0) → A → List Terminal → Type 0
+After t I x ts = (f : List Terminal) × (ts ≡ t ∷ f) × I x f
 
 -- an item in front of a terminal
 abbrev pub Ahead : {A : Type 0} → (A → List Terminal → Type 0) → Terminal → A → List Terminal → Type 0
@@ -216,7 +216,7 @@ abbrev pub Separated : {A : Type 0} → (A → List Terminal → Type 0) → Sym
 Separated I s [] ts = ts ≡ []
 Separated I s (x ∷ xs) ts = (f : List Terminal) × (g : List Terminal) × (ts ≡ f ++ g) × I x f × Following I s xs g
 
--- [ item separator | item separator item { separator item } [separator] ]: an only item has a separator behind it
+-- [ item separator | item separator item { separator item } [separator] ]: an only item has a separator after it
 abbrev pub Ended : {A : Type 0} → (A → List Terminal → Type 0) → Symbol → List A → List Terminal → Type 0
 Ended I s [] ts = ts ≡ []
 Ended I s (x ∷ []) ts = (f : List Terminal) × (ts ≡ f ++ Sign s ∷ []) × I x f
@@ -347,7 +347,7 @@ Produces E l (tree.Compare a cs) ts =
 -- disjunction: conjunction 'or' conjunction { 'or' conjunction }
 Produces E l (tree.Boolean op a others) ts =
     (f : List Terminal) × (g : List Terminal) × (ts ≡ f ++ g) × (l ≤ boolean_level op) × E (item_level op) a f
-    × (0 < length (items_of others)) × Many (Behind (Word (word_of op)) (E (item_level op))) (items_of others) g
+    × (0 < length (items_of others)) × Many (After (Word (word_of op)) (E (item_level op))) (items_of others) g
 -- expression: disjunction 'if' disjunction 'else' expression
 Produces E l (tree.Conditional test value other) ts =
     (f : List Terminal) × (g : List Terminal) × (h : List Terminal) × (ts ≡ f ++ Word token.IfWord ∷ (g ++ Word token.ElseWord ∷ h)) × (l ≤ expression_level)
@@ -444,7 +444,7 @@ Targeted (tree.MoreTargets t (tree.MoreTargets u us)) ts =
 -- NAME { ',' NAME }
 abbrev pub Names : List Text → List Terminal → Type 0
 Names [] ts = ⊥
-Names (x ∷ xs) ts = (f : List Terminal) × (ts ≡ NAME x ∷ f) × Many (Behind (Sign token.Comma) IsName) xs f
+Names (x ∷ xs) ts = (f : List Terminal) × (ts ≡ NAME x ∷ f) × Many (After (Sign token.Comma) IsName) xs f
 
 -- 'import' 'threading' | 'from' 'concurrent' 'import' 'interpreters'
 abbrev pub import_of : ModuleName → List Terminal
@@ -461,16 +461,16 @@ Small (tree.Augment x op e) ts =
     (f : List Terminal) × (g : List Terminal) × (ts ≡ f ++ Sign (augmented_of op) ∷ g) × IsTarget (tree.Named x) f × IsExpressions e g
 Small (tree.AugmentItem a b op e) ts =
     (f : List Terminal) × (g : List Terminal) × (ts ≡ f ++ Sign (augmented_of op) ∷ g) × IsTarget (tree.Item a b) f × IsExpressions e g
-Small (tree.Delete a b) ts = Behind (Word token.DelWord) (Spells max_depth primary_level) (tree.Subscript a b) ts
+Small (tree.Delete a b) ts = After (Word token.DelWord) (Spells max_depth primary_level) (tree.Subscript a b) ts
 Small tree.Pass ts = ts ≡ Word token.PassWord ∷ []
 Small tree.Break ts = ts ≡ Word token.BreakWord ∷ []
 Small tree.Continue ts = ts ≡ Word token.ContinueWord ∷ []
 Small (tree.Return None) ts = ts ≡ Word token.ReturnWord ∷ []
-Small (tree.Return (Some e)) ts = Behind (Word token.ReturnWord) IsExpressions e ts
-Small (tree.Global xs) ts = Behind (Word token.GlobalWord) Names xs ts
+Small (tree.Return (Some e)) ts = After (Word token.ReturnWord) IsExpressions e ts
+Small (tree.Global xs) ts = After (Word token.GlobalWord) Names xs ts
 Small (tree.Import m) ts = ts ≡ import_of m
 Small (tree.Raise None) ts = ts ≡ Word token.RaiseWord ∷ []
-Small (tree.Raise (Some e)) ts = Behind (Word token.RaiseWord) IsExpression e ts
+Small (tree.Raise (Some e)) ts = After (Word token.RaiseWord) IsExpression e ts
 Small (tree.Define x ps body) ts = ⊥
 Small (tree.If test body other) ts = ⊥
 Small (tree.While test body other) ts = ⊥
@@ -514,7 +514,7 @@ Over L b ts = (f : List Terminal) × (g : List Terminal) × (ts ≡ f ++ g) × I
 
 -- ['else' suite]
 abbrev pub Otherwise : Lines → Stmts → List Terminal → Type 0
-Otherwise L body ts = ((body ≡ tree.NoStmts) × (ts ≡ [])) ⊎ Behind (Word token.ElseWord) (Suite L) body ts
+Otherwise L body ts = ((body ≡ tree.NoStmts) × (ts ≡ [])) ⊎ After (Word token.ElseWord) (Suite L) body ts
 
 -- an `elif` is an `if` of its own, alone in the else suite of the one before it
 abbrev pub elifs_of : List Branch → Stmts → Stmts
@@ -535,9 +535,9 @@ clause_list (tree.MoreClauses a y b cs) = (a, y, b) ∷ clause_list cs
 
 -- except: 'except' [ expression ['as' NAME] ] suite
 abbrev pub Excepts : Lines → Clause → List Terminal → Type 0
-Excepts L (None, None, body) ts = Behind (Word token.ExceptWord) (Suite L) body ts
+Excepts L (None, None, body) ts = After (Word token.ExceptWord) (Suite L) body ts
 Excepts L (None, Some y, body) ts = ⊥
-Excepts L (Some e, None, body) ts = Behind (Word token.ExceptWord) (Tested L) (e, body) ts
+Excepts L (Some e, None, body) ts = After (Word token.ExceptWord) (Tested L) (e, body) ts
 Excepts L (Some e, Some y, body) ts =
     (f : List Terminal) × (g : List Terminal) × (ts ≡ Word token.ExceptWord ∷ (f ++ Word token.AsWord ∷ (NAME y ∷ g))) × IsExpression e f × Suite L body g
 
@@ -563,7 +563,7 @@ abbrev pub Compound : Lines → Stmt → List Terminal → Type 0
 Compound L (tree.If test body other) ts =
     (elifs : List Branch) × (last : Stmts) × (f : List Terminal) × (g : List Terminal) × (h : List Terminal)
     × (ts ≡ Word token.IfWord ∷ (f ++ (g ++ h))) × (other ≡ elifs_of elifs last)
-    × Tested L (test, body) f × Many (Behind (Word token.ElifWord) (Tested L)) elifs g × Otherwise L last h
+    × Tested L (test, body) f × Many (After (Word token.ElifWord) (Tested L)) elifs g × Otherwise L last h
 -- while: 'while' expression suite ['else' suite]
 Compound L (tree.While test body other) ts =
     (f : List Terminal) × (g : List Terminal) × (ts ≡ Word token.WhileWord ∷ (f ++ g)) × Tested L (test, body) f × Otherwise L other g

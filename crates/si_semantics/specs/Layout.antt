@@ -43,9 +43,9 @@ tokens_at at (w ∷ ws) =
     option_to_list (option_map (token at w.text) (kind_of w.sort w.text)) ++ tokens_at (at + length w.text) ws
 
 -- the byte after words that begin at this byte
-abbrev pub behind : ℕ → List Word → ℕ
-behind at [] = at
-behind at (w ∷ ws) = behind (at + length w.text) ws
+abbrev pub after : ℕ → List Word → ℕ
+after at [] = at
+after at (w ∷ ws) = after (at + length w.text) ws
 
 -- ---- logical lines
 
@@ -150,7 +150,7 @@ laid_out blocks column (t ∷ ts) newline =
 -- and stands also where the text ends without one.
 abbrev pub line_tokens : List ℕ → ℕ → Line → Option (List Token × List ℕ)
 line_tokens blocks at l =
-    laid_out blocks (column_of l.words) (tokens_at at l.words) (token (behind at l.words) l.end tokens.Newline)
+    laid_out blocks (column_of l.words) (tokens_at at l.words) (token (after at l.words) l.end tokens.Newline)
 
 -- at the end of the text: a DEDENT for each block, and END
 abbrev pub ending : List ℕ → ℕ → List Token
@@ -161,7 +161,7 @@ abbrev pub Lays : List ℕ → ℕ → List Line → List Token → Type 0
 Lays blocks at [] ts = ts ≡ ending blocks at
 Lays blocks at (l ∷ ls) ts =
     (made more : List Token) × (open_blocks : List ℕ) × (line_tokens blocks at l ≡ Some (made, open_blocks))
-    × (ts ≡ made ++ more) × Lays open_blocks (behind at l.words + length l.end) ls more
+    × (ts ≡ made ++ more) × Lays open_blocks (after at l.words + length l.end) ls more
 
 -- The tokens of a text: what the logical lines of its words make.
 abbrev pub HasTokens : List Token → List ℕ → Type 0

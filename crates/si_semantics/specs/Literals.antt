@@ -12,30 +12,30 @@ max_int = 9223372036854775807
 
 -- The number that digits of a base write after n. One `_` (95) may stand before a digit; where a digit is due, none
 -- may.
-abbrev pub digits_behind : ℕ → Bool → ℕ → List ℕ → Option ℕ
-digits_behind base due n [] = if due then None else Some n
-digits_behind base due n (c ∷ cs) =
-    if (c == 95) && not due then digits_behind base true n cs
-    else (if nat_lt (digit_value c) base then digits_behind base false (n * base + digit_value c) cs else None)
+abbrev pub digits_after : ℕ → Bool → ℕ → List ℕ → Option ℕ
+digits_after base due n [] = if due then None else Some n
+digits_after base due n (c ∷ cs) =
+    if (c == 95) && not due then digits_after base true n cs
+    else (if nat_lt (digit_value c) base then digits_after base false (n * base + digit_value c) cs else None)
 
 -- at least one digit after a prefix, where `_` may stand before the first one too
-abbrev pub behind_prefix : ℕ → List ℕ → Option ℕ
-behind_prefix base [] = None
-behind_prefix base (c ∷ cs) = digits_behind base false 0 (c ∷ cs)
+abbrev pub after_prefix : ℕ → List ℕ → Option ℕ
+after_prefix base [] = None
+after_prefix base (c ∷ cs) = digits_after base false 0 (c ∷ cs)
 
 -- After a zero: `x`, `o`, `b` in either case and digits of base 16, 8 or 2; or else zeros only, the digits of base 1.
-abbrev pub behind_zero : List ℕ → Option ℕ
-behind_zero [] = Some 0
-behind_zero (c ∷ cs) =
-    if (c == 120) || (c == 88) then behind_prefix 16 cs
-    else (if (c == 111) || (c == 79) then behind_prefix 8 cs
-    else (if (c == 98) || (c == 66) then behind_prefix 2 cs
-    else digits_behind 1 false 0 (c ∷ cs)))
+abbrev pub after_zero : List ℕ → Option ℕ
+after_zero [] = Some 0
+after_zero (c ∷ cs) =
+    if (c == 120) || (c == 88) then after_prefix 16 cs
+    else (if (c == 111) || (c == 79) then after_prefix 8 cs
+    else (if (c == 98) || (c == 66) then after_prefix 2 cs
+    else digits_after 1 false 0 (c ∷ cs)))
 
 -- the number that a literal writes: a decimal one has no zero (48) in front
 abbrev pub number_of : List ℕ → Option ℕ
 number_of [] = None
-number_of (c ∷ cs) = if c == 48 then behind_zero cs else digits_behind 10 true 0 (c ∷ cs)
+number_of (c ∷ cs) = if c == 48 then after_zero cs else digits_after 10 true 0 (c ∷ cs)
 
 abbrev pub in_range : Option ℕ → Option ℤ
 in_range None = None
@@ -81,13 +81,13 @@ abbrev pub quotes_at : List ℕ → ℕ
 quotes_at (a ∷ (b ∷ (c ∷ bs))) = if (a == b) && (b == c) then 3 else 1
 quotes_at _ = 1
 
--- a raw literal has `r` in front, or behind a `b`
+-- a raw literal has `r` in front, or after a `b`
 abbrev pub begins_raw : Text → Bool
 begins_raw [] = false
 begins_raw (c ∷ []) = is_raw c
 begins_raw (c ∷ (d ∷ cs)) = is_raw c || (is_of_bytes c && is_raw d)
 
--- a literal of bytes has `b` in front, or behind an `r`
+-- a literal of bytes has `b` in front, or after an `r`
 abbrev pub begins_bytes : Text → Bool
 begins_bytes [] = false
 begins_bytes (c ∷ []) = is_of_bytes c
@@ -153,9 +153,9 @@ numbered limit None = None
 numbered limit (Some (n, count)) = if nat_le n limit && is_character n then Some (n ∷ [], count) else None
 
 -- the letter of an escape is one character more
-abbrev pub behind_letter : Option Written → Option Written
-behind_letter None = None
-behind_letter (Some (c, count)) = Some (c, suc count)
+abbrev pub after_letter : Option Written → Option Written
+after_letter None = None
+after_letter (Some (c, count)) = Some (c, suc count)
 
 abbrev pub escape_by : Option ℕ → ℕ → Text → Option Written
 escape_by (Some d) c cs = Some (d ∷ [], 1)
@@ -165,9 +165,9 @@ escape_by None c cs =
     -- one to three octal digits, at most 377
     else (if nat_le 48 c && nat_le c 55 then numbered 255 (digits_within 8 1 3 0 (c ∷ cs))
     -- `\x` and two digits, `\u` and four, `\U` and eight
-    else (if c == 120 then behind_letter (numbered 1114111 (digits_within 16 2 2 0 cs))
-    else (if c == 117 then behind_letter (numbered 1114111 (digits_within 16 4 4 0 cs))
-    else (if c == 85 then behind_letter (numbered 1114111 (digits_within 16 8 8 0 cs))
+    else (if c == 120 then after_letter (numbered 1114111 (digits_within 16 2 2 0 cs))
+    else (if c == 117 then after_letter (numbered 1114111 (digits_within 16 4 4 0 cs))
+    else (if c == 85 then after_letter (numbered 1114111 (digits_within 16 8 8 0 cs))
     -- `\N` is refused (this project's own); with any other character a backslash stands for itself
     else (if c == 78 then None else Some (92 ∷ [], 0))))))
 

@@ -57,8 +57,8 @@ pub record Scope : Type 0 where
   pub call : Option ℕ → ℕ → List Value → Meaning Value
 
 -- the same after so many functions
-abbrev pub behind : List tree.Function → Scope → Scope
-behind fs e = record e { first = e.first + length fs }
+abbrev pub after : List tree.Function → Scope → Scope
+after fs e = record e { first = e.first + length fs }
 
 -- the same with this exception active, or none
 abbrev pub with_active : Option ℕ → Scope → Scope
@@ -312,10 +312,10 @@ abbrev mutual
       (λ y s3. then (expr e c s3) (λ z s4. then (ran (augment o y z s4.world) s4) (λ x s5. done (set_item u i x s5.world) s5)))))
   stmt e (tree.Delete a b) s = then (expr e a (visit (visit s))) (λ u s1. then (expr e b s1) (λ i s2. done (delete_item u i s2.world) s2))
   stmt e tree.Pass s = Gives tt (visit s)
-  stmt e (tree.If a b c) s = then (expr e a (visit s)) (λ t s1. choose (is_true t s1.world) (stmts e b s1) (stmts (behind (functions_in b) e) c s1))
-  stmt e (tree.While a b c) s = loop e.turns (expr e a) (stmts e b) (stmts (behind (functions_in b) e) c) (visit s)
+  stmt e (tree.If a b c) s = then (expr e a (visit s)) (λ t s1. choose (is_true t s1.world) (stmts e b s1) (stmts (after (functions_in b) e) c s1))
+  stmt e (tree.While a b c) s = loop e.turns (expr e a) (stmts e b) (stmts (after (functions_in b) e) c) (visit s)
   stmt e (tree.For t a b c) s =
-      then (expr e a (visit s)) (λ v s1. over (iterator_of v s1.world) (for_loop e.turns (λ u s2. bind e t u s2) (stmts e b) (stmts (behind (functions_in b) e) c)) s1)
+      then (expr e a (visit s)) (λ v s1. over (iterator_of v s1.world) (for_loop e.turns (λ u s2. bind e t u s2) (stmts e b) (stmts (after (functions_in b) e) c)) s1)
   stmt e tree.Break s = Leaves Breaks (visit s)
   stmt e tree.Continue s = Leaves Continues (visit s)
   stmt e (tree.Define f ps b) s = assign f (place_of f e.locals) (Function f e.first) (visit s)
@@ -324,16 +324,16 @@ abbrev mutual
   stmt e (tree.Import m) s = assign (module_name m) (place_of (module_name m) e.locals) (Module m) (visit s)
   stmt e (tree.Raise a) s = raising e a (visit s)
   stmt e (tree.Try b cs c) s =
-      caught (stmts e b (visit s)) (λ x. clauses (behind (functions_in b) (with_active (Some x) e)) cs x) (stmts (behind (functions_in b ++ functions_in_clauses cs) e) c)
+      caught (stmts e b (visit s)) (λ x. clauses (after (functions_in b) (with_active (Some x) e)) cs x) (stmts (after (functions_in b ++ functions_in_clauses cs) e) c)
   stmt e (tree.Finally b cs c f) s =
       finally e.active
-      (caught (stmts e b (visit s)) (λ x. clauses (behind (functions_in b) (with_active (Some x) e)) cs x) (stmts (behind (functions_in b ++ functions_in_clauses cs) e) c))
-      (λ active. stmts (behind (functions_in b ++ (functions_in_clauses cs ++ functions_in c)) (with_active active e)) f)
+      (caught (stmts e b (visit s)) (λ x. clauses (after (functions_in b) (with_active (Some x) e)) cs x) (stmts (after (functions_in b ++ functions_in_clauses cs) e) c))
+      (λ active. stmts (after (functions_in b ++ (functions_in_clauses cs ++ functions_in c)) (with_active active e)) f)
 
   -- statements in a row
   pub stmts : Scope → Stmts → Meaning (Unit {0})
   stmts e tree.NoStmts s = Gives tt s
-  stmts e (tree.MoreStmts a b) s = then (stmt e a s) (λ u s1. stmts (behind (functions_of a) e) b s1)
+  stmts e (tree.MoreStmts a b) s = then (stmt e a s) (λ u s1. stmts (after (functions_of a) e) b s1)
 
   -- the except clauses for an exception: the suite of the first that matches, those after it are not looked at; a bare
   -- one matches each (Language Reference, 8.4.1)
@@ -342,7 +342,7 @@ abbrev mutual
   clauses e (tree.MoreClauses None y b cs) x s = named e y x (stmts e b) (visit s)
   clauses e (tree.MoreClauses (Some a) y b cs) x s =
       then (expr e a (visit s))
-      (λ v s1. then (ran (catches v x s1.world) s1) (λ t s2. choose (is_true t s2.world) (named e y x (stmts e b) s2) (clauses (behind (functions_in b) e) cs x s2)))
+      (λ v s1. then (ran (catches v x s1.world) s1) (λ t s2. choose (is_true t s2.world) (named e y x (stmts e b) s2) (clauses (after (functions_in b) e) cs x s2)))
 
 -- ---- calls
 

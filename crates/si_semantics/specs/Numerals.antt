@@ -15,9 +15,9 @@ abbrev pub is_digit : ℕ → Bool
 is_digit c = nat_le 48 c && nat_le c 57
 
 -- a text without the white space in front
-abbrev pub behind_space : Text → Text
-behind_space [] = []
-behind_space (c ∷ cs) = if is_space c then behind_space cs else c ∷ cs
+abbrev pub after_space : Text → Text
+after_space [] = []
+after_space (c ∷ cs) = if is_space c then after_space cs else c ∷ cs
 
 -- a number, if nothing is left
 abbrev pub whole : ℕ → Text → Option ℕ
@@ -26,20 +26,20 @@ whole n (c ∷ cs) = None
 
 -- The number that digits write after n. One `_` (95) may stand before a digit; where a digit is due, none may. White
 -- space may follow, and nothing else.
-abbrev pub digits_behind : Bool → ℕ → Text → Option ℕ
-digits_behind due n [] = if due then None else Some n
-digits_behind due n (c ∷ cs) =
-    if is_digit c then digits_behind false (n * 10 + (c - 48)) cs
+abbrev pub digits_after : Bool → ℕ → Text → Option ℕ
+digits_after due n [] = if due then None else Some n
+digits_after due n (c ∷ cs) =
+    if is_digit c then digits_after false (n * 10 + (c - 48)) cs
     else (if due then None
-    else (if c == 95 then digits_behind true n cs
-    else whole n (behind_space (c ∷ cs))))
+    else (if c == 95 then digits_after true n cs
+    else whole n (after_space (c ∷ cs))))
 
 -- at least one digit, after `-` (45), `+` (43) or no sign
 abbrev pub signed : Text → Option ℤ
 signed [] = None
 signed (c ∷ cs) =
-    if c == 45 then option_map (λ n. neg_ℤ (pos n)) (digits_behind true 0 cs)
-    else option_map (λ n. pos n) (digits_behind true 0 (if c == 43 then cs else c ∷ cs))
+    if c == 45 then option_map (λ n. neg_ℤ (pos n)) (digits_after true 0 cs)
+    else option_map (λ n. pos n) (digits_after true 0 (if c == 43 then cs else c ∷ cs))
 
 -- an integer that was read, where there is one and it is not past the integers
 abbrev pub read : Option ℤ → Result ℤ Kind
@@ -48,4 +48,4 @@ read (Some i) = in_range i
 
 -- the integer that a text writes, with white space before it and after it
 abbrev pub read_integer : Text → Result ℤ Kind
-read_integer s = read (signed (behind_space s))
+read_integer s = read (signed (after_space s))

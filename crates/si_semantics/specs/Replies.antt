@@ -6,7 +6,7 @@ use Rattle.si_plain.specs.declared.kind.Kind.TheVariants.{OverflowError, Runtime
 use Rattle.si_plain.specs.Integers.{in_range}
 use Rattle.si_semantics.specs.Operations.{arithmetic_message}
 use Rattle.si_semantics.specs.Value as value
-use Rattle.si_semantics.specs.Value.{Text, Value, Nothing, Int, Str, Queue, Interpreter, Address, Items, Started}
+use Rattle.si_semantics.specs.Value.{Text, Nothing, Int, Str, Queue, Interpreter, Address, Items, Started}
 use Rattle.si_semantics.specs.Text.{decimal, max_length, kind_and_message}
 use Rattle.si_semantics.specs.World as world
 use Rattle.si_semantics.specs.World.{World, Outcome, Returned, Raised, Request, Answer, Replied, Got, Failed, Wants}

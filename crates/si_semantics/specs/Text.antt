@@ -95,31 +95,31 @@ pub data Written : Type 0 where
   Whole : Text → Written
   Broken : Text → Written
 
--- behind a text
-abbrev pub behind : Text → Written → Written
-behind t (Whole u) = Whole (t ++ u)
-behind t (Broken u) = Broken (t ++ u)
+-- after a text
+abbrev pub after : Text → Written → Written
+after t (Whole u) = Whole (t ++ u)
+after t (Broken u) = Broken (t ++ u)
 
--- one behind the other
+-- one after the other
 abbrev pub followed : Written → Written → Written
-followed (Whole t) w = behind t w
+followed (Whole t) w = after t w
 followed (Broken t) w = Broken t
 
 -- between an opening and a closing text
 abbrev pub between : Text → Written → Text → Written
-between opening w closing = behind opening (followed w (Whole closing))
+between opening w closing = after opening (followed w (Whole closing))
 
 -- items, each with a comma and a space before it
 abbrev pub rest_by : {A : Type 0} → (A → Written) → List A → Written
 rest_by repr [] = Whole []
-rest_by repr (v ∷ vs) = behind (codes ", ") (followed (repr v) (rest_by repr vs))
+rest_by repr (v ∷ vs) = after (codes ", ") (followed (repr v) (rest_by repr vs))
 
 -- items, with a comma and a space between them
 abbrev pub items_by : {A : Type 0} → (A → Written) → List A → Written
 items_by repr [] = Whole []
 items_by repr (v ∷ vs) = followed (repr v) (rest_by repr vs)
 
--- what stands behind the items of a tuple: a comma behind an only one (Language Reference, 6.15)
+-- what stands after the items of a tuple: a comma after an only one (Language Reference, 6.15)
 abbrev pub tuple_end : List Value → Text
 tuple_end (v ∷ []) = codes ",)"
 tuple_end _ = codes ")"
@@ -131,7 +131,7 @@ argument_of (Some v) = v ∷ []
 
 -- the repr of a pair of a dict, by that of its value: the key, a colon and the value
 abbrev pub pair_by : (Value → Written) → Key × Value → Written
-pair_by repr p = behind (repr_atom (value_of_key p.0) ++ codes ": ") (repr p.1)
+pair_by repr p = after (repr_atom (value_of_key p.0) ++ codes ": ") (repr p.1)
 
 -- an address is one of these
 abbrev pub is_inside : ℕ → List ℕ → Bool
@@ -216,12 +216,12 @@ message_of (Ok t) = t
 message_of (Err k) = codes "<exception str() failed>"
 
 -- a text, then the str of values with a space before each, and a newline; the first that can't be written decides
-abbrev pub line_behind : List Object → Text → List Value → Result Text Kind
-line_behind store t [] = Ok (t ++ 10 ∷ [])
-line_behind store t (v ∷ vs) = elim (str_in store v) [ Err k ↦ Err k | Ok u ↦ elim (line_behind store u vs) [ Err k ↦ Err k | Ok rest ↦ Ok (t ++ 32 ∷ rest) ] ]
+abbrev pub line_after : List Object → Text → List Value → Result Text Kind
+line_after store t [] = Ok (t ++ 10 ∷ [])
+line_after store t (v ∷ vs) = elim (str_in store v) [ Err k ↦ Err k | Ok u ↦ elim (line_after store u vs) [ Err k ↦ Err k | Ok rest ↦ Ok (t ++ 32 ∷ rest) ] ]
 
 -- the str of values, joined by spaces, and a newline; the first that can't be written decides (Standard Library,
 -- "Built-in Functions": print)
 abbrev pub line_of : List Object → List Value → Result Text Kind
 line_of store [] = Ok (10 ∷ [])
-line_of store (v ∷ vs) = elim (str_in store v) [ Err k ↦ Err k | Ok t ↦ line_behind store t vs ]
+line_of store (v ∷ vs) = elim (str_in store v) [ Err k ↦ Err k | Ok t ↦ line_after store t vs ]

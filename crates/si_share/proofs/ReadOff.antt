@@ -3,7 +3,7 @@ use Rattle.std.proofs.Common.{◌≡◌, true, Some, Ok, refl, subst}
 use Rattle.std.specs.Prelude.{is_some, option_map}
 use Rattle.si_semantics.specs.Value as pure
 use Rattle.si_semantics.specs.Parcels as tree
-use Rattle.si_semantics.specs.Parcels.{Tree, Leaf, Group, longest_in}
+use Rattle.si_semantics.specs.Parcels.{Tree, Leaf, longest_in}
 use Rattle.si_semantics.specs.Shareable.{parcel_of, value_of_parcel}
 use Rattle.si_arena.specs.declared.value.Ref.{Ref}
 use Rattle.si_arena.specs.declared.value.Ref.TheVariants as value

@@ -2,7 +2,7 @@
 
 ghost use Rattle.std.specs.Prelude.{◌≡◌, ◌≤◌, length, is_some, true};
 ghost use Rattle.si_semantics.specs.Text.{max_length};
-ghost use Rattle.si_semantics.specs.Parcels.{Tree, Leaf, IsParcel, tuple_of};
+ghost use Rattle.si_semantics.specs.Parcels.{Leaf, IsParcel, tuple_of};
 ghost use Rattle.si_semantics.specs.Parcels as tree;
 ghost use Rattle.si_semantics.specs.Shareable.{value_of_parcel};
 ghost use Rattle.si_arena.specs.Short.{FitsShort};

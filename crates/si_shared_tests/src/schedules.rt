@@ -8,7 +8,7 @@ use std::test::Fail;
 // Three calls of two interpreters.
 const THREE_CALLERS: &str = "schedule 1\ninterpreters 8\nturns 3\n0\n1\n0\nend\n";
 
-// The first bad line of a text behind the first lines for 8 interpreters.
+// The first bad line of a text after the first lines for 8 interpreters.
 fn bad_line(alloc: Global, text: &str) -> Result<Option<u64>, NoMemory> {
     let whole = format!(in alloc; "schedule 1\ninterpreters 8\n{text}")?;
     Ok(first_bad_line(alloc, whole.as_str()))
@@ -88,7 +88,7 @@ fn bad_first_lines(rt: HostRuntime) {
 }
 
 #[test]
-fn bad_lines_behind_them(rt: HostRuntime) -> Result<(), Fail> {
+fn bad_lines_after_them(rt: HostRuntime) -> Result<(), Fail> {
     let alloc = rt.alloc();
     for (text, line) in [
         ("turns 01\n0\nend\n", 3),

@@ -76,7 +76,7 @@ fn a_str_as_python_writes_it(rt: HostRuntime) -> Result<(), Fail> {
 }
 
 #[test]
-fn a_repr_behind_a_text(rt: HostRuntime) -> Result<(), Fail> {
+fn a_repr_after_a_text(rt: HostRuntime) -> Result<(), Fail> {
     let mut out = Text::from_str(rt.alloc(), "k=")?;
     push_repr(&mut out, "it's")?;
     assert!(rt; out.as_str() == "k=\"it's\"");

@@ -1,5 +1,5 @@
 // What calls make of a state.
-ghost use Rattle.std.specs.Prelude.{◌≡◌, ◌+◌, ◌-◌, ◌<◌, ◌≤◌, ◌^◌, length, slice_get, Some, None};
+ghost use Rattle.std.specs.Prelude.{◌≡◌, ◌+◌, ◌-◌, ◌<◌, ◌≤◌, ◌^◌, length, Some, None};
 ghost use Rattle.si_arena.specs.Memory.{Memory, Lies, value_of};
 ghost use Rattle.si_arena.specs.Views.{value_in};
 ghost use Rattle.si_slots.specs.Machine as machine;

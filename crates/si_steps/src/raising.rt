@@ -4,7 +4,7 @@ ghost use Rattle.si_arena.specs.Causes.{CauseLies};
 ghost use Rattle.si_arena.specs.Memory.{Lies};
 ghost use Rattle.si_slots.specs.Machine.{goes, leave};
 ghost use Rattle.si_semantics.specs.Meaning as meaning;
-ghost use Rattle.si_steps.specs.Moments.{Moment, IsAt, Did};
+ghost use Rattle.si_steps.specs.Moments.{Moment, Did};
 ghost use Rattle.si_steps.specs.inner.Pieces.{IsDone, IsUnderWay, Unwound, IsMet, key_line, raised_line};
 
 use crate::state::{Standing, State};

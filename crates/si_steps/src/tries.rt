@@ -1,5 +1,5 @@
 // What the instructions of `try` and of unbinding make of a state.
-ghost use Rattle.std.specs.Prelude.{◌≡◌, IsSome};
+ghost use Rattle.std.specs.Prelude.{IsSome};
 ghost use Rattle.si_slots.specs.Machine as machine;
 ghost use Rattle.si_slots.specs.Views.{target_of};
 ghost use Rattle.si_stacks.specs.Blocks.{active_of};

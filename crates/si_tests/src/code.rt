@@ -14,7 +14,7 @@ fn script(alloc: Global, text: &str) -> Result<Scoped, Fail> {
 }
 
 // Adds the code of a text to a table, and tells where it begins.
-fn add(alloc: Global, table: &mut CodeTable, text: &str) -> Result<usize, Fail> {
+pub(crate) fn add(alloc: Global, table: &mut CodeTable, text: &str) -> Result<usize, Fail> {
     let tree = script(alloc, text)?;
     Ok(compile(&tree, table)?)
 }

@@ -8,7 +8,7 @@ use si_slots::CodeTable;
 use std::alloc::{AllocError, Global};
 use std::test::Fail;
 
-// The statements of texts, by number: of each its line, behind the name of the function in which it stands.
+// The statements of texts, by number: of each its line, after the name of the function in which it stands.
 const TEXTS: [(&str, &str); 9] = [
     ("", ""),
     ("x = 1\n\n# nothing\nprint(x)", "1 4 "),
@@ -60,8 +60,8 @@ fn statements_have_lines(rt: HostRuntime) -> Result<(), Fail> {
     for (text, wanted) in TEXTS {
         let statements = Statements::of(rt.alloc(), text)?;
         assert_eq!(rt; shown(rt.alloc(), &statements)?.as_str(), wanted, "{text}");
-        let behind = u32::try_from(statements.len()).unwrap_or(0);
-        assert!(rt; statement_line(rt.alloc(), text, behind)?.is_none());
+        let after = u32::try_from(statements.len()).unwrap_or(0);
+        assert!(rt; statement_line(rt.alloc(), text, after)?.is_none());
     }
     Ok(())
 }

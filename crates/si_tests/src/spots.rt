@@ -1,18 +1,8 @@
 // Of which statement the compiler notes that code is.
 
-use si_emit::compile;
-use si_parse::parse;
-use si_scope::resolve;
+use crate::code::add;
 use si_slots::{CodeTable, Spot};
-use std::alloc::Global;
 use std::test::Fail;
-
-// Adds the code of a text to a table.
-fn add(alloc: Global, table: &mut CodeTable, text: &str) -> Result<(), Fail> {
-    let tree = resolve(alloc, parse(alloc, text)?)?;
-    compile(&tree, table)?;
-    Ok(())
-}
 
 // A text with each statement whose code is not one piece: functions come first, `elif` counts as a statement, and what
 // follows the suite of a loop is the loop's.
@@ -44,7 +34,7 @@ const STATEMENTS: [u32; 34] = [
     4, // `y = 3`
     5, 5, // `return y`, and the return at the end
     6, // `def f`
-    7, 7, 7, 7, 7, 7, // the entry of `while`, its test behind a suite of no code, and its end
+    7, 7, 7, 7, 7, 7, // the entry of `while`, its test after a suite of no code, and its end
     9, 9, 9, // `for`, and its item is bound
     10, 10, 10, // `f(i)`
     9, // the next item of `for`

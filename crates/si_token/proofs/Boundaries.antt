@@ -70,11 +70,11 @@ body_last count q none (b ∷ (c ∷ w)) =
   where
     more : (row : ℕ) (over closes escapes stands : Bool) → ((row : ℕ) → is_body count q row false (c ∷ w) ≡ true → last (c ∷ w) ≡ q) → (is_escaped count q (c ∷ w) ≡ true → last (c ∷ w) ≡ q)
         → (not over && (if closes then is_body count q (row + 1) false (c ∷ w) else (if escapes then is_escaped count q (c ∷ w) else stands && is_body count q 0 false (c ∷ w)))) ≡ true → last (c ∷ w) ≡ q
-    more row true closes escapes stands go behind h = cc
-    more row false true escapes stands go behind h = go (row + 1) h
-    more row false false true stands go behind h = behind h
-    more row false false false true go behind h = go 0 h
-    more row false false false false go behind h = cc
+    more row true closes escapes stands go after h = cc
+    more row false true escapes stands go after h = go (row + 1) h
+    more row false false true stands go after h = after h
+    more row false false false true go after h = go 0 h
+    more row false false false false go after h = cc
 
 quoted_last : (w : List ℕ) → is_quoted w ≡ true → last w < 128
 quoted_last [] h = let bad : false ≡ true = h in cc
@@ -103,12 +103,12 @@ text_last (b ∷ []) h = by (is_prefix b) h
     by false h = quoted_last (b ∷ []) h
 text_last (b ∷ (c ∷ w)) h = by (is_double_prefix b c) (is_prefix b) h
   where
-    behind : (w : List ℕ) → is_quoted w ≡ true → last (b ∷ (c ∷ w)) < 128
-    behind [] h = let bad : false ≡ true = h in cc
-    behind (a ∷ w) h = quoted_last (a ∷ w) h
+    after : (w : List ℕ) → is_quoted w ≡ true → last (b ∷ (c ∷ w)) < 128
+    after [] h = let bad : false ≡ true = h in cc
+    after (a ∷ w) h = quoted_last (a ∷ w) h
 
     by : (d t : Bool) → is_quoted (drop (if d then 2 else (if t then 1 else 0)) (b ∷ (c ∷ w))) ≡ true → last (b ∷ (c ∷ w)) < 128
-    by true t h = behind w h
+    by true t h = after w h
     by false true h = quoted_last (c ∷ w) h
     by false false h = quoted_last (b ∷ (c ∷ w)) h
 

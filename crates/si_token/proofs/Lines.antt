@@ -6,10 +6,10 @@ use Rattle.std.proofs.lemmas.Bool.Decides.{nat_tests}
 use Rattle.si_semantics.specs.Tokens as tokens
 use Rattle.si_semantics.specs.Tokens.{TokenKind, Token}
 use Rattle.si_semantics.specs.Words.{Sort, Word, Name, Int, Text, Operator, Spaces, Tabs, Comment, LineEnd, spelled, symbols}
-use Rattle.si_semantics.specs.Layout.{kind_of, token, tokens_at, behind, brackets_after, open_after, IsJoined, Line, line_end, AreLines, moved, column_by, column_of, indentation, empty_tokens, laid_out, line_tokens, ending, Lays, HasTokens}
+use Rattle.si_semantics.specs.Layout.{kind_of, token, tokens_at, after, brackets_after, open_after, IsJoined, Line, line_end, AreLines, moved, column_by, column_of, indentation, empty_tokens, laid_out, line_tokens, ending, Lays, HasTokens}
 use Rattle.si_token.specs.Views.{Place}
 use Rattle.si_token.specs.inner.Laying as laying
-use Rattle.si_token.specs.inner.Laying.{line_start, laid, before_word, stepped, laid_all, Reads}
+use Rattle.si_token.specs.inner.Laying.{line_start, laid, before_word, laid_all, Reads}
 
 -- ---- lists of lines
 
@@ -20,13 +20,13 @@ with_more (Some r) f = option_map (λ more. r.0 ++ more) (f r.1)
 -- the tokens of lines
 abbrev lines_tokens : List ℕ → ℕ → List Line → Option (List Token)
 lines_tokens blocks at [] = Some (ending blocks at)
-lines_tokens blocks at (l ∷ ls) = with_more (line_tokens blocks at l) (λ open_blocks. lines_tokens open_blocks (behind at l.words + length l.end) ls)
+lines_tokens blocks at (l ∷ ls) = with_more (line_tokens blocks at l) (λ open_blocks. lines_tokens open_blocks (after at l.words + length l.end) ls)
 
 lines_of : (ls : List Line) (blocks : List ℕ) (at : ℕ) (ts : List Token) → Lays blocks at ls ts → lines_tokens blocks at ls ≡ Some ts
 lines_of [] blocks at ts h = ap (λ ts. Some ts) (sym h)
 lines_of (l ∷ ls) blocks at ts (made, more, open_blocks, e, whole, lays) =
-    ap (λ o. with_more o (λ open_blocks. lines_tokens open_blocks (behind at l.words + length l.end) ls)) e
-    ∙ ap (option_map (λ more. made ++ more)) (lines_of ls open_blocks (behind at l.words + length l.end) more lays)
+    ap (λ o. with_more o (λ open_blocks. lines_tokens open_blocks (after at l.words + length l.end) ls)) e
+    ∙ ap (option_map (λ more. made ++ more)) (lines_of ls open_blocks (after at l.words + length l.end) more lays)
     ∙ ap (λ ts. Some ts) (sym whole)
 
 -- what tokens with more come from
@@ -43,8 +43,8 @@ more_of (Some (made, open_blocks)) f ts h = by (f open_blocks) refl h
 lays_of : (ls : List Line) (blocks : List ℕ) (at : ℕ) (ts : List Token) → lines_tokens blocks at ls ≡ Some ts → Lays blocks at ls ts
 lays_of [] blocks at ts h = let e : ending blocks at ≡ ts = cc in sym e
 lays_of (l ∷ ls) blocks at ts h =
-    let m = more_of (line_tokens blocks at l) (λ open_blocks. lines_tokens open_blocks (behind at l.words + length l.end) ls) ts h in
-    (m.0, m.1, m.2, m.3, m.4, lays_of ls m.2 (behind at l.words + length l.end) m.1 m.5)
+    let m = more_of (line_tokens blocks at l) (λ open_blocks. lines_tokens open_blocks (after at l.words + length l.end) ls) ts h in
+    (m.0, m.1, m.2, m.3, m.4, lays_of ls m.2 (after at l.words + length l.end) m.1 m.5)
 
 -- ---- the lines of words
 
@@ -170,16 +170,16 @@ rest_of false blocks column ts newline = laid_out blocks column ts newline
 -- the tokens of lines, from a place in the first on
 abbrev from_place : Place → List ℕ → Line × List Line → Option (List Token)
 from_place p blocks s =
-    with_more (rest_of p.begun blocks (column_at p.has_tab p.column (column_of s.0.words)) (tokens_at p.at s.0.words) (token (behind p.at s.0.words) s.0.end tokens.Newline))
-    (λ open_blocks. lines_tokens open_blocks (behind p.at s.0.words + length s.0.end) s.1)
+    with_more (rest_of p.begun blocks (column_at p.has_tab p.column (column_of s.0.words)) (tokens_at p.at s.0.words) (token (after p.at s.0.words) s.0.end tokens.Newline))
+    (λ open_blocks. lines_tokens open_blocks (after p.at s.0.words + length s.0.end) s.1)
 
 -- the same, where the first line has one word more, by the token that it is
 abbrev from_word : Option TokenKind → Sort → List ℕ → Place → List ℕ → Line × List Line → Option (List Token)
 from_word k s w p blocks r =
     with_more
     (rest_of p.begun blocks (column_at p.has_tab p.column (column_by k s w (column_of r.0.words))) (option_to_list (option_map (token p.at w) k) ++ tokens_at (p.at + length w) r.0.words)
-    (token (behind (p.at + length w) r.0.words) r.0.end tokens.Newline))
-    (λ open_blocks. lines_tokens open_blocks (behind (p.at + length w) r.0.words + length r.0.end) r.1)
+    (token (after (p.at + length w) r.0.words) r.0.end tokens.Newline))
+    (λ open_blocks. lines_tokens open_blocks (after (p.at + length w) r.0.words + length r.0.end) r.1)
 
 add_zero : (n : ℕ) → n + 0 ≡ n
 add_zero n = omega arith
@@ -191,7 +191,7 @@ zero_add (Some c) = let e : 0 + c ≡ c = omega arith in ap (λ c. Some c) e
 -- a line from its beginning
 from_beginning : (blocks : List ℕ) (at : ℕ) (s : Line × List Line) → from_place (line_start at) blocks s ≡ lines_tokens blocks at (all_lines s)
 from_beginning blocks at s =
-    ap (λ c. with_more (laid_out blocks c (tokens_at at s.0.words) (token (behind at s.0.words) s.0.end tokens.Newline)) (λ open_blocks. lines_tokens open_blocks (behind at s.0.words + length s.0.end) s.1))
+    ap (λ c. with_more (laid_out blocks c (tokens_at at s.0.words) (token (after at s.0.words) s.0.end tokens.Newline)) (λ open_blocks. lines_tokens open_blocks (after at s.0.words + length s.0.end) s.1))
     (zero_add (column_of s.0.words))
 
 none_more : (o : Option (List Token)) → option_map (λ more. [] ++ more) o ≡ o
@@ -223,16 +223,16 @@ blank_word s w ws p q blocks a b n c go =
   where
     by : (r : Line × List Line) → from_place q blocks r ≡ from_word None s w p blocks r
     by r =
-        λ i. with_more (rest_of (b i) blocks (c (column_of r.0.words) i) (tokens_at (a i) r.0.words) (token (behind (a i) r.0.words) r.0.end tokens.Newline))
-        (λ open_blocks. lines_tokens open_blocks (behind (a i) r.0.words + length r.0.end) r.1)
+        λ i. with_more (rest_of (b i) blocks (c (column_of r.0.words) i) (tokens_at (a i) r.0.words) (token (after (a i) r.0.words) r.0.end tokens.Newline))
+        (λ open_blocks. lines_tokens open_blocks (after (a i) r.0.words + length r.0.end) r.1)
 
 more_again : (t : Token) (x : List Token) (o : Option (List Token)) → option_map (λ more. (t ∷ []) ++ more) (option_map (λ more. x ++ more) o) ≡ option_map (λ more. (t ∷ x) ++ more) o
 more_again t x None = refl
 more_again t x (Some y) = refl
 
-more_behind : (e : List Token) (t : Token) (x : List Token) (o : Option (List Token)) → option_map (λ more. (e ++ t ∷ []) ++ more) (option_map (λ more. x ++ more) o) ≡ option_map (λ more. (e ++ t ∷ x) ++ more) o
-more_behind e t x None = refl
-more_behind e t x (Some y) = ap (λ l. Some l) (append_assoc e (t ∷ []) (x ++ y) ∙ sym (append_assoc e (t ∷ x) y))
+more_after : (e : List Token) (t : Token) (x : List Token) (o : Option (List Token)) → option_map (λ more. (e ++ t ∷ []) ++ more) (option_map (λ more. x ++ more) o) ≡ option_map (λ more. (e ++ t ∷ x) ++ more) o
+more_after e t x None = refl
+more_after e t x (Some y) = ap (λ l. Some l) (append_assoc e (t ∷ []) (x ++ y) ∙ sym (append_assoc e (t ∷ x) y))
 
 -- the tokens of a line, after what stands before its first token
 abbrev with_empty : ℕ → List Token → Option (List TokenKind × List ℕ) → Option (List Token × List ℕ)
@@ -244,7 +244,7 @@ first_token : (ws : List Word) (q : Place) (at : ℕ) (t : Token) (x : List Toke
     → then_all ws (with_before at (t ∷ [], q) o) ≡ with_more (with_empty at (t ∷ x) o) f
 first_token ws q at t x f h None = refl
 first_token ws q at t x f h (Some (kinds, open_blocks)) =
-    ap (option_map (λ more. (empty_tokens at kinds ++ t ∷ []) ++ more)) (h open_blocks) ∙ more_behind (empty_tokens at kinds) t x (f open_blocks)
+    ap (option_map (λ more. (empty_tokens at kinds ++ t ∷ []) ++ more)) (h open_blocks) ∙ more_after (empty_tokens at kinds) t x (f open_blocks)
 
 -- a word that is a token
 token_word : (k : TokenKind) (s : Sort) (w : List ℕ) (ws : List Word) (at : ℕ) (begun : Bool) (column : ℕ) (has_tab : Bool) (n : ℕ) (blocks : List ℕ) (r : Line × List Line)
@@ -256,9 +256,9 @@ token_word k s w ws at true column has_tab n blocks r h = ap (option_map (λ mor
 token_word k s w ws at false column true n blocks r h = refl
 token_word k s w ws at false column false n blocks r h =
     first_token ws (record { at = at + length w; begun = true; column = column; has_tab = false; brackets = brackets_after (Some k) n }) at (token at w k)
-    (tokens_at (at + length w) r.0.words ++ token (behind (at + length w) r.0.words) r.0.end tokens.Newline ∷ [])
-    (λ open_blocks. lines_tokens open_blocks (behind (at + length w) r.0.words + length r.0.end) r.1) h (indentation column blocks)
-    ∙ ap (λ c. with_more (laid_out blocks (Some c) (token at w k ∷ tokens_at (at + length w) r.0.words) (token (behind (at + length w) r.0.words) r.0.end tokens.Newline)) (λ open_blocks. lines_tokens open_blocks (behind (at + length w) r.0.words + length r.0.end) r.1))
+    (tokens_at (at + length w) r.0.words ++ token (after (at + length w) r.0.words) r.0.end tokens.Newline ∷ [])
+    (λ open_blocks. lines_tokens open_blocks (after (at + length w) r.0.words + length r.0.end) r.1) h (indentation column blocks)
+    ∙ ap (λ c. with_more (laid_out blocks (Some c) (token at w k ∷ tokens_at (at + length w) r.0.words) (token (after (at + length w) r.0.words) r.0.end tokens.Newline)) (λ open_blocks. lines_tokens open_blocks (after (at + length w) r.0.words + length r.0.end) r.1))
     (sym (add_zero column))
 
 any_token : (k : TokenKind) (s : Sort) (w : List ℕ) (ws : List Word) (p : Place) (blocks : List ℕ) → Goes ws
@@ -269,7 +269,7 @@ any_token k s w ws p blocks go =
 
 operator_word : (k : Option TokenKind) (w : List ℕ) (ws : List Word) (p : Place) (blocks : List ℕ) → Goes ws
     → after_word k Operator w ws p blocks ≡ from_word k Operator w p blocks (split (brackets_after k p.brackets) ws)
-operator_word None w ws p blocks go = blank_word Operator w ws p (laying.behind p w) blocks refl refl refl (λ o. refl) go
+operator_word None w ws p blocks go = blank_word Operator w ws p (laying.after p w) blocks refl refl refl (λ o. refl) go
 operator_word (Some k) w ws p blocks go = any_token k Operator w ws p blocks go
 
 spaces_move : (has_tab : Bool) (column n : ℕ) (o : Option ℕ) → column_at has_tab (column + n) o ≡ column_at has_tab column (option_map (λ c. n + c) o)
@@ -283,13 +283,13 @@ tabs_move false column = refl
 
 -- what a line end makes, inside brackets and outside
 abbrev pub end_laid : Place → List ℕ → Bool → List Token × Place
-end_laid p w t = if t then ([], laying.behind p w) else (if p.begun then token p.at w tokens.Newline ∷ [] else [], line_start (p.at + length w))
+end_laid p w t = if t then ([], laying.after p w) else (if p.begun then token p.at w tokens.Newline ∷ [] else [], line_start (p.at + length w))
 
 -- a line end
 end_word : (w : List ℕ) (ws : List Word) (p : Place) (blocks : List ℕ) → Goes ws → (t : Bool)
     → then_all ws (with_before p.at (end_laid p w t) (Some ([], blocks)))
     ≡ from_place p blocks (if not t then next_line w (split 0 ws) else longer (line_end w) (split p.brackets ws))
-end_word w ws p blocks go true = blank_word LineEnd w ws p (laying.behind p w) blocks refl refl refl (λ o. refl) go
+end_word w ws p blocks go true = blank_word LineEnd w ws p (laying.after p w) blocks refl refl refl (λ o. refl) go
 end_word w ws p blocks go false = by p.begun
   where
     after : laid_all (line_start (p.at + length w)) blocks ws ≡ lines_tokens blocks (p.at + length w) (all_lines (split 0 ws))
@@ -317,9 +317,9 @@ goes (w ∷ ws) p blocks = by w.sort w.text (goes ws)
     by Int w go = any_token tokens.Int Int w ws p blocks go
     by Text w go = any_token _ Text w ws p blocks go
     by Operator w go = operator_word (option_map tokens.Sign (spelled symbols w)) w ws p blocks go
-    by Spaces w go = blank_word Spaces w ws p (laying.behind_spaces p w) blocks refl refl refl (spaces_move p.has_tab p.column (length w)) go
-    by Tabs w go = blank_word Tabs w ws p (laying.behind_tabs p w) blocks refl refl refl (λ o. tabs_move p.has_tab p.column) go
-    by Comment w go = blank_word Comment w ws p (laying.behind p w) blocks refl refl refl (λ o. refl) go
+    by Spaces w go = blank_word Spaces w ws p (laying.after_spaces p w) blocks refl refl refl (spaces_move p.has_tab p.column (length w)) go
+    by Tabs w go = blank_word Tabs w ws p (laying.after_tabs p w) blocks refl refl refl (λ o. tabs_move p.has_tab p.column) go
+    by Comment w go = blank_word Comment w ws p (laying.after p w) blocks refl refl refl (λ o. refl) go
     by LineEnd w go = end_word w ws p blocks go (nat_lt 0 p.brackets)
 
 -- ---- a text

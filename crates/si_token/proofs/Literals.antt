@@ -19,12 +19,12 @@ front_is (d ∷ cs) c ds h = let e : (c, ds) ≡ (d, cs) = some_inj (c, ds) (d, 
 -- ---- the quotes
 
 -- the last character
-last_char : (behind inside : List ℕ) (d : ℕ) → IsUtf8 behind → IsUtf8 inside → behind ≡ inside ++ encode_utf8 d → chars behind ≡ chars inside ++ d ∷ []
-last_char behind inside d u v e =
-    let front : inside ≡ take (length inside) behind = sym (take_append inside (encode_utf8 d)) ∙ ap (take (length inside)) (sym e) in
-    let back : drop (length inside) behind ≡ encode_utf8 d = ap (drop (length inside)) e ∙ drop_append inside (encode_utf8 d) in
-    let long : length behind ≡ length inside + length (encode_utf8 d) = ap length e ∙ length-append inside (encode_utf8 d) in
-    let one : IsUtf8 (encode_utf8 d) = subst IsUtf8 back (IsUtf8-drop behind (length inside) u (IsCharBoundary-from_take behind (length inside) u (omega (arith, long)) (subst IsUtf8 front v))) in
+last_char : (after inside : List ℕ) (d : ℕ) → IsUtf8 after → IsUtf8 inside → after ≡ inside ++ encode_utf8 d → chars after ≡ chars inside ++ d ∷ []
+last_char after inside d u v e =
+    let front : inside ≡ take (length inside) after = sym (take_append inside (encode_utf8 d)) ∙ ap (take (length inside)) (sym e) in
+    let back : drop (length inside) after ≡ encode_utf8 d = ap (drop (length inside)) e ∙ drop_append inside (encode_utf8 d) in
+    let long : length after ≡ length inside + length (encode_utf8 d) = ap length e ∙ length-append inside (encode_utf8 d) in
+    let one : IsUtf8 (encode_utf8 d) = subst IsUtf8 back (IsUtf8-drop after (length inside) u (IsCharBoundary-from_take after (length inside) u (omega (arith, long)) (subst IsUtf8 front v))) in
     ap chars e ∙ chars-append inside (encode_utf8 d) v ∙ ap (λ l. chars inside ++ l) (chars_past_char (encode_utf8 d) [] d one (sym (no_more (encode_utf8 d))) ∙ ap (λ l. d ∷ l) chars-nil)
   where
     no_more : (l : List ℕ) → l ++ [] ≡ l
@@ -38,11 +38,11 @@ without_ends c d cs =
     sym (take_append cs (d ∷ [])) ∙ (λ i. take (long i) (sym (drop_none (cs ++ d ∷ [])) i))
 
 -- without the first and the last character
-pub peeled_is : (text behind inside : List ℕ) (c : ℕ) (r : Option ℕ) → chars text ≡ c ∷ chars behind → IsUtf8 behind → IsUtf8 inside
-    → MatchOption r ((length behind ≡ 0) × (inside ≡ behind)) (λ d. behind ≡ inside ++ encode_utf8 d) → chars inside ≡ peeled (chars text)
-peeled_is text behind inside c (Some d) e u v h = without_ends c d (chars inside) ∙ ap (λ l. peeled (c ∷ l)) (sym (last_char behind inside d u v h)) ∙ ap peeled (sym e)
-peeled_is text behind inside c None e u v h =
-    let none = chars_none behind h.0 in ap chars h.1 ∙ none ∙ ap (λ l. peeled (c ∷ l)) (sym none) ∙ ap peeled (sym e)
+pub peeled_is : (text after inside : List ℕ) (c : ℕ) (r : Option ℕ) → chars text ≡ c ∷ chars after → IsUtf8 after → IsUtf8 inside
+    → MatchOption r ((length after ≡ 0) × (inside ≡ after)) (λ d. after ≡ inside ++ encode_utf8 d) → chars inside ≡ peeled (chars text)
+peeled_is text after inside c (Some d) e u v h = without_ends c d (chars inside) ∙ ap (λ l. peeled (c ∷ l)) (sym (last_char after inside d u v h)) ∙ ap peeled (sym e)
+peeled_is text after inside c None e u v h =
+    let none = chars_none after h.0 in ap chars h.1 ∙ none ∙ ap (λ l. peeled (c ∷ l)) (sym none) ∙ ap peeled (sym e)
   where
     chars_none : (l : List ℕ) → length l ≡ 0 → chars l ≡ []
     chars_none [] h = chars-nil
@@ -51,12 +51,12 @@ peeled_is text behind inside c None e u v h =
 -- ---- digits
 
 -- a number and how many digits write it, after so many digits
-abbrev pub behind : ℕ → Option (ℕ × ℕ) → Option (ℕ × ℕ)
-behind before o = option_map (λ (r : ℕ × ℕ). (r.0, before + r.1)) o
+abbrev pub after : ℕ → Option (ℕ × ℕ) → Option (ℕ × ℕ)
+after before o = option_map (λ (r : ℕ × ℕ). (r.0, before + r.1)) o
 
-behind_more : (before : ℕ) (o : Option (ℕ × ℕ)) → behind before (with_one_more o) ≡ behind (before + 1) o
-behind_more before None = refl
-behind_more before (Some r) = let e : before + suc r.1 ≡ before + 1 + r.1 = omega arith in ap (λ k. Some (r.0, k)) e
+after_more : (before : ℕ) (o : Option (ℕ × ℕ)) → after before (with_one_more o) ≡ after (before + 1) o
+after_more before None = refl
+after_more before (Some r) = let e : before + suc r.1 ≡ before + 1 + r.1 = omega arith in ap (λ k. Some (r.0, k)) e
 
 -- no digit stands in front
 one_stop : (base least most number : ℕ) (cs : Text) → ◌≡◌ {A = Option (ℕ × Text)} None (digit_front base cs) → 0 < most → digits_within base least most number cs ≡ (if least == 0 then Some (number, 0) else None)
@@ -94,30 +94,30 @@ larger : (base n d : ℕ) → 2 ≤ base → n ≤ n * base + d
 larger base n d h = grind arith
 
 -- a number that is past the limit stays past it
-too_large : (cs : Text) (base least most number limit before : ℕ) → 2 ≤ base → limit < number → up_to limit (behind before (digits_within base least most number cs)) ≡ None
+too_large : (cs : Text) (base least most number limit before : ℕ) → 2 ≤ base → limit < number → up_to limit (after before (digits_within base least most number cs)) ≡ None
 too_large cs base least zero number limit before some h = if_false (nat_le number limit) (Some (number, before + 0)) None (past number limit h)
 too_large [] base least (suc most) number limit before some h = by (least == 0)
   where
-    by : (t : Bool) → up_to limit (behind before (if t then Some (number, 0) else None)) ≡ None
+    by : (t : Bool) → up_to limit (after before (if t then Some (number, 0) else None)) ≡ None
     by true = if_false (nat_le number limit) (Some (number, before + 0)) None (past number limit h)
     by false = refl
 too_large (c ∷ cs) base least (suc most) number limit before some h =
     by (nat_lt (digit_value c) base) (least == 0) (too_large cs base (least - 1) most (number * base + digit_value c) limit (before + 1) some (let l = larger base number (digit_value c) some in omega (arith, l, h)))
   where
-    by : (t u : Bool) → up_to limit (behind (before + 1) (digits_within base (least - 1) most (number * base + digit_value c) cs)) ≡ None
-        → up_to limit (behind before (if t then with_one_more (digits_within base (least - 1) most (number * base + digit_value c) cs) else (if u then Some (number, 0) else None))) ≡ None
-    by true u go = ap (up_to limit) (behind_more before (digits_within base (least - 1) most (number * base + digit_value c) cs)) ∙ go
+    by : (t u : Bool) → up_to limit (after (before + 1) (digits_within base (least - 1) most (number * base + digit_value c) cs)) ≡ None
+        → up_to limit (after before (if t then with_one_more (digits_within base (least - 1) most (number * base + digit_value c) cs) else (if u then Some (number, 0) else None))) ≡ None
+    by true u go = ap (up_to limit) (after_more before (digits_within base (least - 1) most (number * base + digit_value c) cs)) ∙ go
     by false true go = if_false (nat_le number limit) (Some (number, before + 0)) None (past number limit h)
     by false false go = refl
 
 module _ (base least most limit count number : ℕ) (cs : Text) (more : count < most) where
   abbrev Left : Option (ℕ × ℕ)
-  Left = up_to limit (behind count (digits_within base (least - count) (most - count) number cs))
+  Left = up_to limit (after count (digits_within base (least - count) (most - count) number cs))
 
-  stopped : (t : Bool) → (least - count == 0) ≡ t → ◌≡◌ {A = Option (ℕ × Text)} None (digit_front base cs) → Left ≡ up_to limit (behind count (if t then Some (number, 0) else None))
+  stopped : (t : Bool) → (least - count == 0) ≡ t → ◌≡◌ {A = Option (ℕ × Text)} None (digit_front base cs) → Left ≡ up_to limit (after count (if t then Some (number, 0) else None))
   stopped t e h =
-      ap (λ o. up_to limit (behind count o)) (one_stop base (least - count) (most - count) number cs h (omega (arith, more)))
-      ∙ ap (λ t. up_to limit (behind count (if t then Some (number, 0) else None))) e
+      ap (λ o. up_to limit (after count o)) (one_stop base (least - count) (most - count) number cs h (omega (arith, more)))
+      ∙ ap (λ t. up_to limit (after count (if t then Some (number, 0) else None))) e
 
   pub too_few : ◌≡◌ {A = Option (ℕ × Text)} None (digit_front base cs) → count < least → Left ≡ None
   too_few h few = stopped false (grind (arith, nat_tests)) h
@@ -128,13 +128,13 @@ module _ (base least most limit count number : ℕ) (cs : Text) (more : count < 
       stopped true (grind (arith, nat_tests)) h ∙ if_true (nat_le number limit) (Some (number, count + 0)) None (low number limit small) ∙ ap (λ k. Some (number, k)) same
 
   module _ (d : ℕ) (ds : Text) (h : ◌≡◌ {A = Option (ℕ × Text)} (Some (d, ds)) (digit_front base cs)) where
-    pub with_one : Left ≡ up_to limit (behind (count + 1) (digits_within base (least - (count + 1)) (most - (count + 1)) (number * base + d) ds))
+    pub with_one : Left ≡ up_to limit (after (count + 1) (digits_within base (least - (count + 1)) (most - (count + 1)) (number * base + d) ds))
     with_one =
         let a : least - count - 1 ≡ least - (count + 1) = omega arith in
         let b : most - count - 1 ≡ most - (count + 1) = omega arith in
-        ap (λ o. up_to limit (behind count o)) (one_digit base (least - count) (most - count) number cs ds d h (omega (arith, more)))
-        ∙ ap (up_to limit) (behind_more count (digits_within base (least - count - 1) (most - count - 1) (number * base + d) ds))
-        ∙ (λ i. up_to limit (behind (count + 1) (digits_within base (a i) (b i) (number * base + d) ds)))
+        ap (λ o. up_to limit (after count o)) (one_digit base (least - count) (most - count) number cs ds d h (omega (arith, more)))
+        ∙ ap (up_to limit) (after_more count (digits_within base (least - count - 1) (most - count - 1) (number * base + d) ds))
+        ∙ (λ i. up_to limit (after (count + 1) (digits_within base (a i) (b i) (number * base + d) ds)))
 
     pub passed : 2 ≤ base → limit < number * base + d → Left ≡ None
     passed some large = with_one ∙ too_large ds base (least - (count + 1)) (most - (count + 1)) (number * base + d) limit (count + 1) some large

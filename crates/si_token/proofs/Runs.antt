@@ -5,7 +5,7 @@ use Rattle.std.specs.List.{list_all, prefix_len}
 use Rattle.std.proofs.lemmas.Bool.Decides.{nat_tests}
 use Rattle.std.proofs.lemmas.Bool.{eqb-true}
 use Rattle.si_semantics.specs.Tokens.{Symbol}
-use Rattle.si_semantics.specs.Literals.{is_quote, is_raw, is_of_bytes, is_prefix, is_double_prefix, prefix_at, unprefixed}
+use Rattle.si_semantics.specs.Literals.{is_quote, is_raw, is_of_bytes, is_prefix, is_double_prefix, unprefixed}
 use Rattle.si_semantics.specs.Words.{Sort, Name, Int, Text, Operator, Spaces, Tabs, Comment, LineEnd, is_digit, begins_name, continues_name, is_space, is_tab, is_hash, in_comment, is_quoted, is_text, is_prefixing, same, spelled, symbols, line_ends, each, IsRun, IsIn, IsWord, IsLongest, has_value, is_allowed}
 use Rattle.si_token.specs.inner.Reading.{then_read, sort_of_byte, begins_quoted, sort_at, text_length, some_if, symbol_length, line_end_length, length_of, if_allowed, longest_at, word_at}
 use Rattle.si_token.proofs.Texts.{if_true, if_false, and_both, some_inj, prefix_stays, text_found, text_reaches, text_is}

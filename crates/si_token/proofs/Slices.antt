@@ -39,8 +39,8 @@ drop_more (suc at) n (b ∷ s) = (λ i. drop (sum i) (b ∷ s)) ∙ drop_more at
     sum = omega arith
 
 -- after a word is what follows it
-pub behind_word : (source word after : List ℕ) (at : ℕ) → drop at source ≡ word ++ after → drop (at + length word) source ≡ after
-behind_word source word after at h = drop_more at (length word) source ∙ ap (drop (length word)) h ∙ drop_append word after
+pub word_dropped : (source word after : List ℕ) (at : ℕ) → drop at source ≡ word ++ after → drop (at + length word) source ≡ after
+word_dropped source word after at h = drop_more at (length word) source ∙ ap (drop (length word)) h ∙ drop_append word after
 
 part_slice : (source word after : List ℕ) (at line : ℕ) (t : Token) → drop at source ≡ word ++ after → IsPart at line word t → IsSliceOf source t
 part_slice source word after at line t h p =
@@ -109,7 +109,7 @@ ends_further (suc m) n (b ∷ source) =
     ∙ sym (add_assoc (if ends_line b source then 1 else 0) (ends_before m source) (ends_before n (drop m source)))
 
 -- the line after a word is as many lines further as the word has line ends
-pub line_behind : (source rest : List ℕ) (at count line ends : ℕ) → drop at source ≡ rest → line ≡ line_at source at → ends ≡ ends_before count rest → line + ends ≡ line_at source (at + count)
-line_behind source rest at count line ends h l e =
+pub line_after : (source rest : List ℕ) (at count line ends : ℕ) → drop at source ≡ rest → line ≡ line_at source at → ends ≡ ends_before count rest → line + ends ≡ line_at source (at + count)
+line_after source rest at count line ends h l e =
     (λ i. l i + e i) ∙ ap (λ r. line_at source at + ends_before count r) (sym h)
     ∙ add_assoc 1 (ends_before at source) (ends_before count (drop at source)) ∙ ap (λ k. 1 + k) (sym (ends_further at count source))

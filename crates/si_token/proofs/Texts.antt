@@ -49,11 +49,11 @@ is_turn count quote row b bs closes escapes stands =
 found_turn : (count quote row b : ℕ) (w rest : List ℕ) (over closes escapes stands : Bool) → ((row : ℕ) → is_body count quote row false w ≡ true → body_length count quote row false (w ++ rest) ≡ Some (length w))
     → (is_escaped count quote w ≡ true → escaped_length count quote (w ++ rest) ≡ Some (length w)) → (not over && is_turn count quote row b w closes escapes stands) ≡ true
     → (if over then Some 0 else turn count quote row b (w ++ rest) closes escapes stands) ≡ Some (suc (length w))
-found_turn count quote row b w rest true closes escapes stands go behind h = cc
-found_turn count quote row b w rest false true escapes stands go behind h = ap add_one (go (row + 1) h)
-found_turn count quote row b w rest false false true stands go behind h = ap add_one (behind h)
-found_turn count quote row b w rest false false false true go behind h = ap add_one (go 0 h)
-found_turn count quote row b w rest false false false false go behind h = cc
+found_turn count quote row b w rest true closes escapes stands go after h = cc
+found_turn count quote row b w rest false true escapes stands go after h = ap add_one (go (row + 1) h)
+found_turn count quote row b w rest false false true stands go after h = ap add_one (after h)
+found_turn count quote row b w rest false false false true go after h = ap add_one (go 0 h)
+found_turn count quote row b w rest false false false false go after h = cc
 
 found_escaped : (o : Option ℕ) (n : ℕ) (nul is : Bool) → (is ≡ true → o ≡ Some n) → (not nul && is) ≡ true → (if nul then None else add_one o) ≡ Some (suc n)
 found_escaped o n true is go h = cc
@@ -82,12 +82,12 @@ some_zero n h = some_inj 0 n h
 turn_is : (count quote row b : ℕ) (bs : List ℕ) (n : ℕ) (closes escapes stands : Bool) → ((row n : ℕ) → body_length count quote row false bs ≡ Some n → FoundBody count quote row false bs n)
     → ((n : ℕ) → escaped_length count quote bs ≡ Some n → FoundEscaped count quote bs n) → turn count quote row b bs closes escapes stands ≡ Some n
     → (m : ℕ) × (n ≡ suc m) × (is_turn count quote row b (take m bs) closes escapes stands ≡ true) × (m ≤ length bs)
-turn_is count quote row b bs n true escapes stands go behind h =
+turn_is count quote row b bs n true escapes stands go after h =
     let m = from_add_one (body_length count quote (row + 1) false bs) n h in let r = go (row + 1) m.0 m.1 in (m.0, m.2, r.0, r.1)
-turn_is count quote row b bs n false true stands go behind h = let m = from_add_one (escaped_length count quote bs) n h in let r = behind m.0 m.1 in (m.0, m.2, r.0, r.1)
-turn_is count quote row b bs n false false true go behind h =
+turn_is count quote row b bs n false true stands go after h = let m = from_add_one (escaped_length count quote bs) n h in let r = after m.0 m.1 in (m.0, m.2, r.0, r.1)
+turn_is count quote row b bs n false false true go after h =
     let m = from_add_one (body_length count quote 0 false bs) n h in let r = go 0 m.0 m.1 in (m.0, m.2, r.0, r.1)
-turn_is count quote row b bs n false false false go behind h = cc
+turn_is count quote row b bs n false false false go after h = cc
 
 body_is : (count quote : ℕ) (bs : List ℕ)
     → ((row : ℕ) (joins : Bool) (n : ℕ) → body_length count quote row joins bs ≡ Some n → FoundBody count quote row joins bs n) × ((n : ℕ) → escaped_length count quote bs ≡ Some n → FoundEscaped count quote bs n)
@@ -105,9 +105,9 @@ body_is count quote (b ∷ bs) =
     by : (row : ℕ) (joins : Bool) (n : ℕ) (t : Bool) → (row == count) ≡ t → ((row n : ℕ) → body_length count quote row false bs ≡ Some n → FoundBody count quote row false bs n)
         → ((n : ℕ) → escaped_length count quote bs ≡ Some n → FoundEscaped count quote bs n)
         → (if t then Some 0 else turn count quote row b bs (b == quote) (b == 92) (is_plain count b || (joins && (b == 10)))) ≡ Some n → FoundBody count quote row joins (b ∷ bs) n
-    by row joins n true e go behind h = subst (FoundBody count quote row joins (b ∷ bs)) (some_zero n h) (e, omega arith)
-    by row joins n false e go behind h =
-        let r = turn_is count quote row b bs n (b == quote) (b == 92) (is_plain count b || (joins && (b == 10))) go behind h in
+    by row joins n true e go after h = subst (FoundBody count quote row joins (b ∷ bs)) (some_zero n h) (e, omega arith)
+    by row joins n false e go after h =
+        let r = turn_is count quote row b bs n (b == quote) (b == 92) (is_plain count b || (joins && (b == 10))) go after h in
         subst (FoundBody count quote row joins (b ∷ bs)) (sym r.1)
         (ap (λ t. not t && is_turn count quote row b (take r.0 bs) (b == quote) (b == 92) (is_plain count b || (joins && (b == 10)))) e ∙ r.2, (let l = r.3 in omega (arith, l)))
 

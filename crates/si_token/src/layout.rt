@@ -5,7 +5,7 @@ ghost use Rattle.std.specs.Option.{option_map, option_to_list};
 ghost use Rattle.si_semantics.specs.Layout.{token, brackets_after, opens, closes, innermost, closing};
 ghost use Rattle.si_semantics.specs.Tokens.{Dedent};
 ghost use Rattle.si_token.specs.Views.{kind_of, sort_of, symbol_of, token_of, place_of, laid_of};
-ghost use Rattle.si_token.specs.inner.Laying.{line_start, behind, behind_spaces, behind_tabs, behind_token, behind_dedents, with_line_end, laid, missing_newline, Adds};
+ghost use Rattle.si_token.specs.inner.Laying.{line_start, after, after_spaces, after_tabs, after_token, after_dedents, with_line_end, laid, missing_newline, Adds};
 ghost use Rattle.si_token.specs.inner.Places.{IsWithin};
 ghost use Rattle.si_token.specs.Spans.{IsPart};
 
@@ -104,10 +104,10 @@ fn brackets_after(kind: TokenKind, brackets: usize) -> usize
 }
 
 // After a word that makes no token and moves no column.
-fn behind(place: Place, word: &str) -> Place
+fn after(place: Place, word: &str) -> Place
     requires room { place.at + length word.now < 2 ^ 63 }
     requires within { IsWithin place }
-    ensures gives { place_of result ≡ behind (place_of place) word.now }
+    ensures gives { place_of result ≡ after (place_of place) word.now }
     ensures within { IsWithin result }
 {
     Place {
@@ -117,10 +117,10 @@ fn behind(place: Place, word: &str) -> Place
 }
 
 // After spaces, which count at a line's beginning.
-fn behind_spaces(place: Place, word: &str) -> Place
+fn after_spaces(place: Place, word: &str) -> Place
     requires room { place.at + length word.now < 2 ^ 63 }
     requires within { IsWithin place }
-    ensures gives { place_of result ≡ behind_spaces (place_of place) word.now }
+    ensures gives { place_of result ≡ after_spaces (place_of place) word.now }
     ensures within { IsWithin result }
 {
     Place {
@@ -131,10 +131,10 @@ fn behind_spaces(place: Place, word: &str) -> Place
 }
 
 // After tabs, which leave a line's first token no column.
-fn behind_tabs(place: Place, word: &str) -> Place
+fn after_tabs(place: Place, word: &str) -> Place
     requires room { place.at + length word.now < 2 ^ 63 }
     requires within { IsWithin place }
-    ensures gives { place_of result ≡ behind_tabs (place_of place) word.now }
+    ensures gives { place_of result ≡ after_tabs (place_of place) word.now }
     ensures within { IsWithin result }
 {
     Place {
@@ -149,7 +149,7 @@ fn with_token<'a>(place: Place, kind: TokenKind, word: &'a str) -> (Option<Token
     requires room { place.at + length word.now < 2 ^ 63 }
     requires some { 0 < length word.now }
     requires within { IsWithin place }
-    ensures gives { laid_of result ≡ (token place.at word.now (kind_of kind) ∷ [], behind_token (place_of place) (kind_of kind) word.now) }
+    ensures gives { laid_of result ≡ (token place.at word.now (kind_of kind) ∷ [], after_token (place_of place) (kind_of kind) word.now) }
     ensures part { IfSome result.0 (IsPart place.at place.line word.now) }
     ensures within { IsWithin result.1 }
 {
@@ -202,10 +202,10 @@ pub fn laid<'a>(
         return with_token(place, kind, word);
     }
     match sort {
-        Sort::Spaces => (None, behind_spaces(place, word)),
-        Sort::Tabs => (None, behind_tabs(place, word)),
+        Sort::Spaces => (None, after_spaces(place, word)),
+        Sort::Tabs => (None, after_tabs(place, word)),
         Sort::LineEnd => with_line_end(place, word),
-        _ => (None, behind(place, word)),
+        _ => (None, after(place, word)),
     }
 }
 
@@ -233,7 +233,7 @@ pub fn innermost(columns: &[usize]) -> usize
 
 /// Closes the blocks that are deeper than this column, and counts them.
 pub fn close_deeper(columns: &mut Vec<usize>, column: usize) -> usize
-    ensures closed { closing column (reverse columns.old.items) ≡ behind_dedents result (closing column (reverse columns.new.items)) }
+    ensures closed { closing column (reverse columns.old.items) ≡ after_dedents result (closing column (reverse columns.new.items)) }
     ensures deepest { innermost (reverse columns.new.items) ≤ column }
 {
     let mut closed = 0;

@@ -3,7 +3,7 @@
 ghost use Rattle.std.specs.Prelude.{◌≡◌, ◌+◌, ◌*◌, ◌<◌, ◌≤◌, length, chars, nat_lt, IfSome, SomeIff, IsUtf8};
 ghost use Rattle.std.specs.List.{list_all};
 ghost use Rattle.std.specs.Option.{option_map, is_some};
-ghost use Rattle.si_semantics.specs.Literals.{is_raw, is_of_bytes, is_prefix, is_double_prefix, is_of_texts, begins_raw, unprefixed, quotes_at, peeled, between_quotes, letter_escape, digits_within, numbered, behind_letter, escape, value_of_literal};
+ghost use Rattle.si_semantics.specs.Literals.{is_raw, is_of_bytes, is_prefix, is_double_prefix, is_of_texts, begins_raw, unprefixed, quotes_at, peeled, between_quotes, letter_escape, digits_within, numbered, after_letter, escape, value_of_literal};
 ghost use Rattle.si_semantics.specs.Words.{has_value};
 ghost use Rattle.si_token.specs.inner.Literals.{characters, front_of, digit_front, up_to, written_of};
 
@@ -29,16 +29,16 @@ pub fn next_character<'a>(text: &'a str) -> Option<(char, &'a str)>
     ensures utf8 { IfSome result (λ r. IsUtf8 r.1.now) }
     ensures shorter { IfSome result (λ r. length r.1.now < length text.now) }
 {
-    let (first, behind) = front(text)?;
+    let (first, rest) = front(text)?;
     if first != '\r' {
-        return Some((first, behind));
+        return Some((first, rest));
     }
-    if let Some((second, after)) = front(behind) {
+    if let Some((second, after)) = front(rest) {
         if second == '\n' {
             return Some(('\n', after));
         }
     }
-    Some(('\n', behind))
+    Some(('\n', rest))
 }
 
 fn is_raw(c: char) -> bool
@@ -85,9 +85,9 @@ pub fn unprefixed<'a>(literal: &'a str) -> &'a str
     let Some((first, rest)) = front(literal) else {
         return literal;
     };
-    if let Some((second, behind)) = front(rest) {
+    if let Some((second, after)) = front(rest) {
         if is_double_prefix(first, second) {
-            return behind;
+            return after;
         }
     }
     if is_prefix(first) { rest } else { literal }
@@ -113,10 +113,10 @@ fn quotes_at(literal: &str) -> usize
 fn peeled<'a>(text: &'a str) -> &'a str
     ensures { chars result.now ≡ peeled (chars text.now) }
 {
-    let Some((_, behind)) = front(text) else {
+    let Some((_, after)) = front(text) else {
         return text;
     };
-    let mut inside = behind.chars();
+    let mut inside = after.chars();
     let _ = inside.next_back();
     inside.as_str()
 }
@@ -162,7 +162,7 @@ fn digits(base: u32, least: usize, most: usize, limit: u32, text: &str) -> Optio
     let mut number = 0;
     let mut rest = text;
     for count in 0..most {
-        let Some((digit, behind)) = next_digit(base, rest) else {
+        let Some((digit, after)) = next_digit(base, rest) else {
             return if count < least {
                 None
             } else {
@@ -170,7 +170,7 @@ fn digits(base: u32, least: usize, most: usize, limit: u32, text: &str) -> Optio
             };
         };
         number = with_digit(base, number, digit, limit)?;
-        rest = behind;
+        rest = after;
     }
     Some((number, most))
 }
@@ -195,7 +195,7 @@ fn numbered(
 // The same, of exactly so many hexadecimal digits, and with the letter before them.
 fn hexadecimal(count: usize, text: &str) -> Option<(Option<char>, usize)>
     requires { count ≤ 8 }
-    ensures { option_map written_of result ≡ behind_letter (numbered MAX_CHARACTER (digits_within 16 count count 0 (characters text.now))) }
+    ensures { option_map written_of result ≡ after_letter (numbered MAX_CHARACTER (digits_within 16 count count 0 (characters text.now))) }
 {
     let (character, digits) = numbered(16, count, count, MAX_CHARACTER, text)?;
     Some((character, digits + 1))
@@ -227,10 +227,10 @@ fn is_of_texts(c: char) -> bool
 
 /// What the characters after a backslash stand for in bytes, or in a text: a character or none, and how many of them
 /// belong to the escape (Python Language Reference 3.14, 2.5.4 "Escape sequences"); `None` where the escape is refused.
-pub fn escape(bytes: bool, behind: &str) -> Option<(Option<char>, usize)>
-    ensures { option_map written_of result ≡ escape bytes (characters behind.now) }
+pub fn escape(bytes: bool, after: &str) -> Option<(Option<char>, usize)>
+    ensures { option_map written_of result ≡ escape bytes (characters after.now) }
 {
-    let Some((letter, rest)) = next_character(behind) else {
+    let Some((letter, rest)) = next_character(after) else {
         return Some((Some('\\'), 0));
     };
     if bytes && is_of_texts(letter) {
@@ -241,7 +241,7 @@ pub fn escape(bytes: bool, behind: &str) -> Option<(Option<char>, usize)>
     }
     match letter {
         '\n' => Some((None, 1)),
-        '0'..='7' => numbered(8, 1, 3, 255, behind),
+        '0'..='7' => numbered(8, 1, 3, 255, after),
         'x' => hexadecimal(2, rest),
         'u' => hexadecimal(4, rest),
         'U' => hexadecimal(8, rest),
@@ -280,12 +280,12 @@ fn is_written(bytes: bool, literal: &str) -> bool
     let mut rest = between_quotes(unprefixed(literal));
     // how many of the next characters belong to the escape before
     let mut skipped = 0;
-    while let Some((character, behind)) = next_character(rest) {
-        rest = behind;
+    while let Some((character, after)) = next_character(rest) {
+        rest = after;
         if skipped > 0 {
             skipped -= 1;
         } else if character == '\\' {
-            let Some((_, count)) = escape(bytes, behind) else {
+            let Some((_, count)) = escape(bytes, after) else {
                 return false;
             };
             skipped = count;

@@ -2,7 +2,7 @@
 
 ghost use Rattle.std.specs.Prelude.{◌≡◌, ◌+◌, ◌*◌, ◌<◌, ◌≤◌, SomeIff, false};
 ghost use Rattle.std.specs.Char.{digit_value};
-ghost use Rattle.si_semantics.specs.Literals.{value_of_int, in_range, behind_prefix, digits_behind};
+ghost use Rattle.si_semantics.specs.Literals.{value_of_int, in_range, after_prefix, digits_after};
 
 /// The greatest value of an integer literal.
 pub const MAX_INT: u64 = 9_223_372_036_854_775_807;
@@ -25,7 +25,7 @@ pub fn int_value(literal: &[u8]) -> Option<i64>
 fn prefixed_value(base: u64, digits: &[u8]) -> Option<i64>
     requires some { 0 < base }
     requires small { base ≤ 36 }
-    ensures { result ≡ in_range (behind_prefix base digits.now) }
+    ensures { result ≡ in_range (after_prefix base digits.now) }
 {
     if digits.is_empty() {
         return None;
@@ -37,7 +37,7 @@ fn prefixed_value(base: u64, digits: &[u8]) -> Option<i64>
 fn digits_value(base: u64, first_is_due: bool, digits: &[u8]) -> Option<i64>
     requires some { 0 < base }
     requires small { base ≤ 36 }
-    ensures { result ≡ in_range (digits_behind base first_is_due 0 digits.now) }
+    ensures { result ≡ in_range (digits_after base first_is_due 0 digits.now) }
 {
     let mut due = first_is_due;
     let mut value: u64 = 0;

@@ -1,6 +1,6 @@
 // From a text to its tokens.
 
-ghost use Rattle.std.specs.Prelude.{◌≡◌, ◌<◌, ◌≤◌, ◌^◌, [], ◌++◌, length, List, reverse, All, map, IfSome, IfNone, IfOk, IfErr, OnOk};
+ghost use Rattle.std.specs.Prelude.{◌≡◌, ◌<◌, ◌^◌, ◌++◌, length, List, reverse, All, map, IfSome, IfNone, IfOk, IfErr, OnOk};
 ghost use Rattle.std.specs.Option.{option_map, option_to_list};
 ghost use Rattle.std.specs.Str.{IsUtf8};
 ghost use Rattle.si_token.specs.inner.Reading.{word_at};

@@ -19,7 +19,7 @@ fn kind_at(arena: &Arena, address: usize) -> Option<&'static str>
     }
 }
 
-// One text behind another, if there is room.
+// One text after another, if there is room.
 fn joined(arena: &mut Arena, left: Ref, right: Ref) -> Option<Ref>
     requires left { Lies arena.old left }
     requires right { Lies arena.old right }

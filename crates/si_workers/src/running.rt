@@ -1,6 +1,6 @@
 // Workers, each in a thread of its own.
 
-ghost use Rattle.std.specs.Prelude.{◌≡◌, IfOk, IsTrue, true, false};
+ghost use Rattle.std.specs.Prelude.{◌≡◌, IfOk, true, false};
 ghost use Rattle.si_plain.specs.Characters.{characters_of};
 ghost use Rattle.si_parcel.specs.Shared.{action_of};
 ghost use Rattle.si_interp.specs.Meaning.{At};

@@ -1,6 +1,6 @@
 // How a recording ends.
 
-ghost use Rattle.std.specs.Prelude.{◌≡◌, ◌≢◌, ◌≤◌, length, take};
+ghost use Rattle.std.specs.Prelude.{◌≡◌, ◌≢◌, ◌≤◌, length};
 ghost use Rattle.si_parcel.specs.Shared.{action_of};
 ghost use Rattle.si_interp.specs.Meaning.{At};
 ghost use Rattle.si_world.specs.Marks.{AtRest};

@@ -1,6 +1,6 @@
 // What is seen of a world.
 
-ghost use Rattle.std.specs.Prelude.{◌≡◌, ◌≤◌, ◌<◌, IfOk, IfSome, MatchOption, None, Some, length, slice_get, take};
+ghost use Rattle.std.specs.Prelude.{◌≡◌, ◌≤◌, ◌<◌, IfOk, MatchOption, None, Some, length, slice_get, take};
 ghost use Rattle.si_plain.specs.Characters.{characters_of};
 ghost use Rattle.si_world.specs.Worlds.{created, world};
 ghost use Rattle.si_world.specs.Reports.{end_of, queue_items, recorded, IsRecorded};

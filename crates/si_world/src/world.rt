@@ -1,6 +1,6 @@
 // All interpreters of a script, and what they share.
 
-ghost use Rattle.std.specs.Prelude.{◌≡◌, ◌≢◌, ◌≤◌, ◌<◌, ℕ, IfOk, MatchOption, None, Some, length, slice_get};
+ghost use Rattle.std.specs.Prelude.{◌≡◌, ◌≢◌, ◌≤◌, ◌<◌, ℕ, IfOk, MatchOption, None, Some, slice_get};
 ghost use Rattle.si_plain.specs.Characters.{characters_of};
 ghost use Rattle.si_hub.specs.Hubs.{state_of};
 ghost use Rattle.si_world.specs.Legal.{Legal};

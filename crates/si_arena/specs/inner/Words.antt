@@ -48,7 +48,7 @@ abbrev pub FindsWord : Rows → Words → List ℕ → Option ℕ → Type 0
 FindsWord rows ws t (Some i) = slice_get (words_of rows ws) i ≡ Some t
 FindsWord rows ws t None = IsStrange rows ws t
 
--- there may be more words, behind those that were there
+-- there may be more words, after those that were there
 pub record Grown (rows : Rows) (old new : Words) : Type 0 where
   pub texts : (more : List Ref) × (new.texts ≡ old.texts ++ more)
   pub lie : WordsLie rows new

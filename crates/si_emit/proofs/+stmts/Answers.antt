@@ -13,19 +13,19 @@ use Rattle.si_syntax.specs.Trees.{body_of, branch_of, expr_of, others_of, target
 use Rattle.si_emit.specs.inner.Silence.{silent_suite}
 use Rattle.si_emit.proofs.Silent.{loud_code}
 use Rattle.si_emit.proofs.Seen.{while_seen, for_seen, try_seen, finally_seen}
-use Rattle.si_emit.proofs.LoopStmts.{while_stmt, loop_number, for_stmt, for_number, entry_behind}
+use Rattle.si_emit.proofs.LoopStmts.{while_stmt, loop_number, for_stmt, for_number, entry_after}
 use Rattle.si_plain.proofs.Lengths.{empty, not_empty}
 use Rattle.si_slots.specs.Machine as machine
 use Rattle.si_slots.specs.Code.{stmts_code, named_code}
 use Rattle.si_slots.specs.Views.{Gains}
 use Rattle.si_slots.proofs.Gained.{Extends-trans, Gains-append, locals_kept}
 use Rattle.si_slots.proofs.Growth.{Extends-same}
-use Rattle.si_emit.proofs.Noted.{noted_gains, noted_extends, noted_behind}
+use Rattle.si_emit.proofs.Noted.{noted_gains, noted_extends, noted_after}
 use Rattle.si_emit.proofs.Branches.{MakesAll-step, all_aimed}
 use Rattle.si_emit.proofs.LoopCode.{put_extends}
-use Rattle.si_emit.proofs.TryCode.{clause_test_behind}
-use Rattle.si_emit.proofs.Tried.{front_gains, finally_stmt, finally_number, finally_gains, plain_try, plain_number, tried_stmt, tried_number, tried_gains, tried_front, entered_gains, with_clauses, stays, place_stays, jump_more, nameless_suite, named_suite, tested_clause, next_clause, next_clause_number, last_clause_number, clause_behind, clauses_end, no_items, some_items}
-use Rattle.si_emit.proofs.Elifs.{next_stmt, last_stmt, next_number, last_number, opens_kept, skips_over, jump_at, if_gains, alone_gains, next_elif, last_elif, elifs_end, next_elif_number, last_elif_number, two_number, alone_number, end_behind, follows, none_left, stays_quiet}
+use Rattle.si_emit.proofs.TryCode.{clause_test_after}
+use Rattle.si_emit.proofs.Tried.{front_gains, finally_stmt, finally_number, finally_gains, plain_try, plain_number, tried_stmt, tried_number, tried_gains, tried_front, entered_gains, with_clauses, stays, place_stays, jump_more, nameless_suite, named_suite, tested_clause, next_clause, next_clause_number, last_clause_number, clause_after, clauses_end, no_items, some_items}
+use Rattle.si_emit.proofs.Elifs.{next_stmt, last_stmt, next_number, last_number, opens_kept, skips_over, jump_at, if_gains, alone_gains, next_elif, last_elif, elifs_end, next_elif_number, last_elif_number, two_number, alone_number, end_after, follows, none_left, stays_quiet}
 use Rattle.si_emit.proofs.+stmts.Goals as goal
 
 pub handlers::emit_finally-emit_suite-requires : goal.handlers::emit_finally-emit_suite-requires
@@ -86,7 +86,7 @@ handlers::emit_clause-returns-clause-ok t c =
 
 pub handlers::emit_clause-returns-clause-extends : goal.handlers::emit_clause-returns-clause-extends
 handlers::emit_clause-returns-clause-extends t c =
-    c.in_ok-aim.ensures.extends _ (clause_test_behind c.args.locals.now (expr_of c.in-Some.value) c.in_ok-skip.skip c.in_ok-skip.ensures.at c.in_ok-skip.ensures.ok) (Extends-trans _ _ _ c.in_ok-skip.ensures.extends c.in_ok-end.ensures.extends)
+    c.in_ok-aim.ensures.extends _ (clause_test_after c.args.locals.now (expr_of c.in-Some.value) c.in_ok-skip.skip c.in_ok-skip.ensures.at c.in_ok-skip.ensures.ok) (Extends-trans _ _ _ c.in_ok-skip.ensures.extends c.in_ok-end.ensures.extends)
 
 pub handlers::emit_clauses-loop-clause-preserved : goal.handlers::emit_clauses-loop-clause-preserved
 handlers::emit_clauses-loop-clause-preserved t c =
@@ -99,7 +99,7 @@ handlers::emit_clauses-loop-clause-preserved t c =
           (next_clause c.args.locals.now cs c.loop-clause.clause-index c.clause-item.result at _ _ c.loop-clause-test.true (sym c.clause-item.is)
           c.in_ok-emit_clause.ensures.next c.in_ok-emit_clause.ensures.at gains)
           old.due;
-      behind = jump_more c.loop-clause.ends.items at c.in_ok-push.ensures.items (clause_behind _ at c.in_ok-emit_clause.ensures.at gains) old.extends old.behind;
+      after = jump_more c.loop-clause.ends.items at c.in_ok-push.ensures.items (clause_after _ at c.in_ok-emit_clause.ensures.at gains) old.extends old.after;
       number = next_clause_number cs c.loop-clause.clause-index c.clause-item.result _ _ _ c.loop-clause-test.true (sym c.clause-item.is) c.in_ok-emit_clause.ensures.next old.number;
       extends = Extends-trans _ _ _ old.extends (noted_extends c.note_statement.ensures c.in_ok-emit_clause.ensures.extends);
       names = locals_kept gains old.names;
@@ -116,7 +116,7 @@ handlers::emit_clauses-returns-clause-next t c =
 
 pub handlers::emit_clauses-returns-clause-extends : goal.handlers::emit_clauses-returns-clause-extends
 handlers::emit_clauses-returns-clause-extends t c =
-    c.aim_all.ensures.extends _ (subst (AllByRecursion (λ at. length c.args.table.now.lines ≤ at)) (sym c.deref.ensures.value) c.loop-clause.invariant.behind) (Extends-trans _ _ _ c.loop-clause.invariant.extends c.in_ok-put.ensures.extends)
+    c.aim_all.ensures.extends _ (subst (AllByRecursion (λ at. length c.args.table.now.lines ≤ at)) (sym c.deref.ensures.value) c.loop-clause.invariant.after) (Extends-trans _ _ _ c.loop-clause.invariant.extends c.in_ok-put.ensures.extends)
 
 pub handlers::emit_try-returns-then-is_empty-clause-ok : goal.handlers::emit_try-returns-then-is_empty-clause-ok
 handlers::emit_try-returns-then-is_empty-clause-ok t c =
@@ -222,7 +222,7 @@ choosing::emit_branch-emit_suite-requires t c =
 
 pub choosing::emit_branch-returns-in_err-aim_all-clause-extends : goal.choosing::emit_branch-returns-in_err-aim_all-clause-extends
 choosing::emit_branch-returns-in_err-aim_all-clause-extends t c =
-    c.aim_all.ensures.extends _ (subst (AllByRecursion (λ at. length c.args.table.now.lines ≤ at)) (sym c.deref-2.ensures.value) c.in_ok-jumps.ensures.behind)
+    c.aim_all.ensures.extends _ (subst (AllByRecursion (λ at. length c.args.table.now.lines ≤ at)) (sym c.deref-2.ensures.value) c.in_ok-jumps.ensures.after)
     (Extends-trans _ _ _ c.in_ok-jumps.ensures.extends (Extends-trans _ _ _ c.in_ok-emit_suite.ensures.extends c.in_ok-put.ensures.extends))
 
 pub choosing::emit_branch-returns-clause-ok : goal.choosing::emit_branch-returns-clause-ok
@@ -237,12 +237,12 @@ choosing::emit_branch-returns-clause-at t c =
     let suite = stmts_code c.args.locals.now c.args.next.now (body_of c.args.branch.now.body.items) in
     jump_at c.args.locals.now c.in_ok-jumps.jumps.items _ (expr_of c.args.branch.now.test) suite c.len-end.result c.len-end.ensures c.deref-2.ensures.value c.in_ok-jumps.ensures.ok emitted c.in_ok-put.ensures.ok c.in_ok-aim_all.ensures.ok
 
-pub choosing::emit_branch-returns-clause-behind : goal.choosing::emit_branch-returns-clause-behind
-choosing::emit_branch-returns-clause-behind t c = end_behind c.len-end.result c.len-end.ensures (Extends-trans _ _ _ c.in_ok-jumps.ensures.extends c.in_ok-emit_suite.ensures.extends)
+pub choosing::emit_branch-returns-clause-after : goal.choosing::emit_branch-returns-clause-after
+choosing::emit_branch-returns-clause-after t c = end_after c.len-end.result c.len-end.ensures (Extends-trans _ _ _ c.in_ok-jumps.ensures.extends c.in_ok-emit_suite.ensures.extends)
 
 pub choosing::emit_branch-returns-clause-extends : goal.choosing::emit_branch-returns-clause-extends
 choosing::emit_branch-returns-clause-extends t c =
-    c.in_ok-aim_all.ensures.extends _ (subst (AllByRecursion (λ at. length c.args.table.now.lines ≤ at)) (sym c.deref-2.ensures.value) c.in_ok-jumps.ensures.behind)
+    c.in_ok-aim_all.ensures.extends _ (subst (AllByRecursion (λ at. length c.args.table.now.lines ≤ at)) (sym c.deref-2.ensures.value) c.in_ok-jumps.ensures.after)
     (Extends-trans _ _ _ c.in_ok-jumps.ensures.extends (Extends-trans _ _ _ c.in_ok-emit_suite.ensures.extends c.in_ok-put.ensures.extends))
 
 pub choosing::emit_alone-emit_suite-requires : goal.choosing::emit_alone-emit_suite-requires
@@ -263,7 +263,7 @@ choosing::emit_alone-returns-clause-next t c =
 
 pub choosing::emit_alone-returns-clause-extends : goal.choosing::emit_alone-returns-clause-extends
 choosing::emit_alone-returns-clause-extends t c =
-    c.aim_all.ensures.extends _ (subst (AllByRecursion (λ at. length c.args.table.now.lines ≤ at)) (sym c.deref-2.ensures.value) c.in_ok-jumps.ensures.behind)
+    c.aim_all.ensures.extends _ (subst (AllByRecursion (λ at. length c.args.table.now.lines ≤ at)) (sym c.deref-2.ensures.value) c.in_ok-jumps.ensures.after)
     (Extends-trans _ _ _ c.in_ok-jumps.ensures.extends c.in_ok-emit_suite.ensures.extends)
 
 pub choosing::emit_if-returns-then-stands_alone-clause-ok : goal.choosing::emit_if-returns-then-stands_alone-clause-ok
@@ -293,7 +293,7 @@ choosing::emit_if-returns-clause-next t c =
 
 pub choosing::emit_if-returns-clause-extends : goal.choosing::emit_if-returns-clause-extends
 choosing::emit_if-returns-clause-extends t c =
-    c.aim.ensures.extends c.args.table.now c.in_ok-end.ensures.behind (Extends-trans _ _ _ c.in_ok-end.ensures.extends c.in_ok-emit_others.ensures.extends)
+    c.aim.ensures.extends c.args.table.now c.in_ok-end.ensures.after (Extends-trans _ _ _ c.in_ok-end.ensures.extends c.in_ok-emit_others.ensures.extends)
 
 pub choosing::emit_others-loop-branch-preserved : goal.choosing::emit_others-loop-branch-preserved
 choosing::emit_others-loop-branch-preserved t c =
@@ -309,7 +309,7 @@ choosing::emit_others-loop-branch-preserved t c =
           (next_elif c.args.locals.now elifs c.loop-branch.branch-index c.branch-item.result last at _ _ c.loop-branch-test.true (sym c.branch-item.is) c.in_ok-emit_branch.ensures.next c.in_ok-emit_branch.ensures.at
           (follows elifs last c.loop-branch.branch-index (c.loop-branch.left - 1) c.is_silent-quiet.result c.ends_here.result many quiet c.ends_here.ensures c.if-ends_here.false) gains)
           old.due;
-      behind = jump_more c.loop-branch.ends.items at c.in_ok-push.ensures.items (noted_behind c.note_statement.ensures c.in_ok-emit_branch.ensures.behind) old.extends old.behind;
+      after = jump_more c.loop-branch.ends.items at c.in_ok-push.ensures.items (noted_after c.note_statement.ensures c.in_ok-emit_branch.ensures.after) old.extends old.after;
       number = next_elif_number elifs c.loop-branch.branch-index c.branch-item.result last _ _ _ c.loop-branch-test.true (sym c.branch-item.is) c.in_ok-emit_branch.ensures.next old.number;
       extends = Extends-trans _ _ _ old.extends (noted_extends c.note_statement.ensures c.in_ok-emit_branch.ensures.extends);
       names = locals_kept gains old.names;
@@ -329,7 +329,7 @@ choosing::emit_others-loop-branch-preserved-then-ends_here t c =
           (none_left elifs c.loop-branch.branch-index (c.loop-branch.left - 1) c.is_silent-quiet.result c.ends_here.result many c.ends_here.ensures c.if-ends_here.true)
           (stays_quiet last (c.loop-branch.left - 1) c.is_silent-quiet.result c.ends_here.result quiet c.ends_here.ensures c.if-ends_here.true)
           gains old.due;
-      behind = old.behind;
+      after = old.after;
       number = next_elif_number elifs c.loop-branch.branch-index c.branch-item.result last _ _ _ c.loop-branch-test.true (sym c.branch-item.is) c.in_ok-emit_alone.ensures.next old.number;
       extends = Extends-trans _ _ _ old.extends (noted_extends c.note_statement.ensures c.in_ok-emit_alone.ensures.extends);
       names = locals_kept gains old.names;
@@ -353,7 +353,7 @@ choosing::emit_others-returns-clause-next t c =
 pub choosing::emit_others-returns-clause-extends : goal.choosing::emit_others-returns-clause-extends
 choosing::emit_others-returns-clause-extends t c =
     c.aim_all.ensures.extends c.args.table.now
-    (subst (AllByRecursion (λ at. length c.args.table.now.lines ≤ at)) (sym c.deref-3.ensures.value) c.loop-branch.invariant.behind)
+    (subst (AllByRecursion (λ at. length c.args.table.now.lines ≤ at)) (sym c.deref-3.ensures.value) c.loop-branch.invariant.after)
     (Extends-trans _ _ _ c.loop-branch.invariant.extends c.in_ok-emit_suite.ensures.extends)
 
 pub repeats::emit_while-returns-clause-ok : goal.repeats::emit_while-returns-clause-ok
@@ -389,5 +389,5 @@ repeats::emit_for-returns-clause-next t c =
 
 pub repeats::emit_for-returns-clause-extends : goal.repeats::emit_for-returns-clause-extends
 repeats::emit_for-returns-clause-extends t c =
-    c.aim_loop.ensures.extends _ (entry_behind c.args.table.now c.args.locals.now (expr_of c.args.statement.now.items) c.in_ok-entry.entry c.in_ok-entry.ensures.at)
+    c.aim_loop.ensures.extends _ (entry_after c.args.table.now c.args.locals.now (expr_of c.args.statement.now.items) c.in_ok-entry.entry c.in_ok-entry.ensures.at)
     (Extends-trans _ _ _ c.in_ok-entry.ensures.extends (Extends-trans _ _ _ c.in_ok-emit_suite.ensures.extends (Extends-trans _ _ _ c.in_ok-emit_next.ensures.extends c.in_ok-emit_suite-2.ensures.extends)))

@@ -16,7 +16,7 @@ use Rattle.si_emit.proofs.+stmts.Given as goal
 abbrev pub invariant-handlers::emit_clauses-loop-clause : goal.invariant-handlers::emit_clauses-loop-clause
 invariant-handlers::emit_clauses-loop-clause l = record {
   due : (end : Contents) (later : List ℕ) → Due l.table later (Handlers l.locals l.next (drop l.clause-index l.clauses)) end → Due l.initial.table (l.ends.items ++ later) (Handlers l.locals l.initial.next l.clauses) end;
-  behind : AllByRecursion (λ at. length l.initial.table.lines ≤ at) l.ends.items;
+  after : AllByRecursion (λ at. length l.initial.table.lines ≤ at) l.ends.items;
   number : l.next + length (functions_in_clauses (clauses_of (map clause_of (drop l.clause-index l.clauses)))) ≡ l.initial.next + length (functions_in_clauses (clauses_of (map clause_of l.clauses)));
   extends : Extends l.initial.table l.table;
   names : locals_now l.table ≡ l.locals;
@@ -36,7 +36,7 @@ abbrev pub invariant-choosing::emit_others-loop-branch : goal.invariant-choosing
 invariant-choosing::emit_others-loop-branch l = record {
   due : (end : Contents) (later : List ℕ) → Due l.table later (Elifs l.locals l.next (drop l.branch-index l.branch-items) (body_of (out-If l.statement).last.items)) end
       → Due l.initial.table (l.ends.items ++ later) (Elifs l.locals l.initial.next l.branch-items (body_of (out-If l.statement).last.items)) end;
-  behind : AllByRecursion (λ at. length l.initial.table.lines ≤ at) l.ends.items;
+  after : AllByRecursion (λ at. length l.initial.table.lines ≤ at) l.ends.items;
   number : l.next + length (functions_in (elifs_of (map branch_of (drop l.branch-index l.branch-items)) (body_of (out-If l.statement).last.items)))
       ≡ l.initial.next + length (functions_in (elifs_of (map branch_of l.branch-items) (body_of (out-If l.statement).last.items)));
   extends : Extends l.initial.table l.table;

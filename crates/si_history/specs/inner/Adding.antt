@@ -1,4 +1,4 @@
--- A text that is written behind another, in UTF-8.
+-- A text that is written after another, in UTF-8.
 use Rattle.std.specs.Prelude.{◌≡◌, ℕ, List, ◌++◌, Bool, encode_utf8_all, nat_lt}
 use Rattle.std.specs.List.{list_all}
 use Rattle.si_semantics.specs.Value.{Text}

@@ -24,7 +24,7 @@ pub block::elifs-loop-turn-preserved : goal.block::elifs-loop-turn-preserved
 block::elifs-loop-turn-preserved t c =
     let next = sym c.after_word.ensures ∙ ap (option_map (from c.args.tokens.now)) c.in-Some.is in
     let pushed = ap (map branch_of) c.in_ok-push.ensures.items ∙ map-append branch_of c.loop-turn.elifs.items (c.in_ok-next.next ∷ []) in
-    let read = elif_read (block_at c.args.parts) (map branch_of c.loop-turn.elifs.items) (from c.args.tokens.now c.loop-turn.at) (from c.args.tokens.now c.in-Some.behind) _ _ next c.in_ok-next.ensures in
+    let read = elif_read (block_at c.args.parts) (map branch_of c.loop-turn.elifs.items) (from c.args.tokens.now c.loop-turn.at) (from c.args.tokens.now c.in-Some.rest) _ _ next c.in_ok-next.ensures in
     ap (λ l. many_by (elif_by (block_at c.args.parts)) no_elif (length c.args.tokens.now - (c.loop-turn._turn + 1)) l (from c.args.tokens.now c.in_ok-next.end)) pushed
     ∙ sym (many_on (elif_by (block_at c.args.parts)) no_elif (length c.args.tokens.now - c.loop-turn._turn) (length c.args.tokens.now - (c.loop-turn._turn + 1)) (map branch_of c.loop-turn.elifs.items) (from c.args.tokens.now c.loop-turn.at)
     (omega arith) (ap is_none next) _ _ read)
@@ -41,7 +41,7 @@ pub handler::catches-loop-turn-preserved : goal.handler::catches-loop-turn-prese
 handler::catches-loop-turn-preserved t c =
     let next = sym c.after_catch.ensures ∙ ap (option_map (from c.args.tokens.now)) c.in-Some.is in
     let pushed = ap (map clause_of) c.in_ok-push.ensures.items ∙ map-append clause_of c.loop-turn.clauses.items (c.in_ok-next.next ∷ []) in
-    let read = catch_read (block_at c.args.parts) (map clause_of c.loop-turn.clauses.items) (from c.args.tokens.now c.loop-turn.at) (from c.args.tokens.now c.in-Some.behind) _ _ next c.in_ok-next.ensures in
+    let read = catch_read (block_at c.args.parts) (map clause_of c.loop-turn.clauses.items) (from c.args.tokens.now c.loop-turn.at) (from c.args.tokens.now c.in-Some.rest) _ _ next c.in_ok-next.ensures in
     ap (λ l. many_by (catch_by (block_at c.args.parts)) no_catch (length c.args.tokens.now - (c.loop-turn._turn + 1)) l (from c.args.tokens.now c.in_ok-next.end)) pushed
     ∙ sym (many_on (catch_by (block_at c.args.parts)) no_catch (length c.args.tokens.now - c.loop-turn._turn) (length c.args.tokens.now - (c.loop-turn._turn + 1)) (map clause_of c.loop-turn.clauses.items) (from c.args.tokens.now c.loop-turn.at)
     (omega arith) (ap is_none next) _ _ read)

@@ -1,7 +1,7 @@
 -- Compound statements and their suites, as the parser reads them.
-use Rattle.std.specs.Prelude.{◌+◌, List, [], ◌∷◌, ◌++◌, length, Option, Some, None, option_map, Bool, not, if◌then◌else◌}
+use Rattle.std.specs.Prelude.{◌+◌, List, [], ◌∷◌, ◌++◌, length, Option, Some, None, Bool, not, if◌then◌else◌}
 use Rattle.si_semantics.specs.Value.{Text}
-use Rattle.si_semantics.specs.Tree.{Expr, Stmt, Target}
+use Rattle.si_semantics.specs.Tree.{Stmt, Target}
 use Rattle.si_semantics.specs.Tree as tree
 use Rattle.si_semantics.specs.Tokens as token
 use Rattle.si_semantics.specs.Grammar.{Terminal, Sign, Word, NEWLINE, INDENT, DEDENT, max_depth, Branch, stmts_of, elifs_of, expression_level}

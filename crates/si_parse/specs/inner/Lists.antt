@@ -19,16 +19,16 @@ closing_from close ts None = close ts
 abbrev pub closing : Step → Step → Step
 closing separator close ts = closing_from close ts (separator ts)
 
-abbrev pub behind_item : {B : Type 0} → (B → List Terminal → Option (B × List Terminal)) → B → Option (List Terminal) → Option (List Terminal) → Option (B × List Terminal)
-behind_item go b (Some rest) more = Some (b, rest)
-behind_item go b None (Some more) = go b more
-behind_item go b None None = None
+abbrev pub after_item : {B : Type 0} → (B → List Terminal → Option (B × List Terminal)) → B → Option (List Terminal) → Option (List Terminal) → Option (B × List Terminal)
+after_item go b (Some rest) more = Some (b, rest)
+after_item go b None (Some more) = go b more
+after_item go b None None = None
 
 -- Items with separators between them, and a closing terminal. The number bounds them.
 unfoldable pub separated_by : {R B : Type 0} → (B → R → B) → (R → List Terminal) → (List Terminal → Option R) → Step → Step → ℕ → B → List Terminal → Option (B × List Terminal)
 separated_by add rest item separator close zero b ts = None
 separated_by add rest item separator close (suc k) b ts =
-    then_read (item ts) (λ r. behind_item (separated_by add rest item separator close k) (add b r) (closing separator close (rest r)) (separator (rest r)))
+    then_read (item ts) (λ r. after_item (separated_by add rest item separator close k) (add b r) (closing separator close (rest r)) (separator (rest r)))
 
 -- A tree, its depth, and the terminals after it: an expression that was read.
 abbrev pub Found : Type 0

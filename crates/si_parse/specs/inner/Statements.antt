@@ -37,7 +37,7 @@ assignment_at [] = None
 assignment_at (Sign s ∷ ts) = option_map (λ op. (op, ts)) (assignment_symbol s)
 assignment_at (_ ∷ ts) = None
 
--- the targets that were read, and what stands behind the last `=`
+-- the targets that were read, and what stands after the last `=`
 abbrev pub Chained : Type 0
 Chained = List Target × Expr
 
@@ -45,7 +45,7 @@ Chained = List Target × Expr
 abbrev pub chained_from : Parser → Chained → List Terminal → Target → Option (Chained × List Terminal)
 chained_from sub b ts t = then_read (expressions_by sub expression_level ts) (λ r. Some ((b.0 ++ t ∷ [], r.0), r.2))
 
--- what stood behind the last `=` is one more target, where another `=` follows
+-- what stood after the last `=` is one more target, where another `=` follows
 abbrev pub chained_by : Parser → Chained → List Terminal → Option (Chained × List Terminal)
 chained_by sub b ts = then_read (after (Sign token.Equal) ts) (λ rest. then_read (target_of b.1) (chained_from sub b rest))
 

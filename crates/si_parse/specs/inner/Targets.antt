@@ -1,5 +1,5 @@
 -- Targets, as the parser reads them.
-use Rattle.std.specs.Prelude.{List, [], ◌∷◌, Option, Some, None, option_map}
+use Rattle.std.specs.Prelude.{List, [], ◌∷◌, Option, Some, option_map}
 use Rattle.si_semantics.specs.Tree.{Expr, Target, Targets}
 use Rattle.si_semantics.specs.Tokens as token
 use Rattle.si_semantics.specs.Grammar.{Terminal, Word, max_depth, target_of, more_targets, factor_level}
@@ -15,7 +15,7 @@ with_targets (t ∷ ts) more = more_targets (Some t) (with_targets ts more)
 
 -- the target that an expression is, where the word `in` stands after it
 abbrev pub target_from : Expr → Option (List Terminal) → Option (Target × List Terminal)
-target_from e behind = then_read (target_of e) (λ t. option_map (λ rest. (t, rest)) behind)
+target_from e more = then_read (target_of e) (λ t. option_map (λ rest. (t, rest)) more)
 
 -- The targets of a `for`, and the terminals after the `in`. A target is of every level: one is asked at which no operator but `**` is read.
 abbrev pub target_by : List Terminal → Option (Target × List Terminal)

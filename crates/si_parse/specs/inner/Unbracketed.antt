@@ -17,14 +17,14 @@ ends_items (Sign token.Equal ∷ ts) = true
 ends_items (Word token.InWord ∷ ts) = true
 ends_items (_ ∷ ts) = false
 
--- the terminals after a comma behind which an item has to stand
+-- the terminals after a comma that an item has to follow
 abbrev pub after_comma : Step
 after_comma ts = then_read (after (Sign token.Comma) ts) (λ rest. if ends_items rest then None else Some rest)
 
 abbrev pub item_follows : Option (List Terminal) → Option (Bool × List Terminal)
 item_follows rest = option_map (λ ts. (true, ts)) rest
 
--- the items of a level after others, each behind its comma
+-- the items of a level after others, each after its comma
 abbrev pub further_by : Parser → ℕ → Collected → List Terminal → Option (Collected × List Terminal)
 further_by sub l b ts = chain_by (λ o e. e) (λ ts. item_follows (after_comma ts)) (λ o. sub l) (length ts) b ts
 

@@ -104,8 +104,8 @@ pub record BuiltInCases : Type 0 where
   -- `int('1__0')`, `int('_1')`, `int('1_')`, `int('- 1')`, `int('1 2')` and `int('0x1')`, which write no integer
   pub two_underscores : read_integer (codes "1__0") ≡ Err ValueError
   pub underscore_in_front : read_integer (codes "_1") ≡ Err ValueError
-  pub underscore_behind : read_integer (codes "1_") ≡ Err ValueError
-  pub space_behind_the_sign : read_integer (codes "- 1") ≡ Err ValueError
+  pub underscore_after : read_integer (codes "1_") ≡ Err ValueError
+  pub space_after_the_sign : read_integer (codes "- 1") ≡ Err ValueError
   pub space_between_digits : read_integer (codes "1 2") ≡ Err ValueError
   pub other_base : read_integer (codes "0x1") ≡ Err ValueError
   -- what writes no integer is past none

@@ -157,7 +157,7 @@ pub record ExceptionCases : Type 0 where
   --         print('a')
   --     except 1:
   --         print('b')
-  pub no_kind_behind_a_match :
+  pub no_kind_after_a_match :
       ends
       (try_except (divides_by_zero ∷ []) (except_of zero_division_error (says (codes "a") ∷ []) (except_of (int 1) (says (codes "b") ∷ []) tree.NoClauses))
       ∷ [])
@@ -282,7 +282,7 @@ pub record ExceptionCases : Type 0 where
   --     except ZeroDivisionError as e:
   --         print(e)
   --     print(e)
-  pub unbound_behind_a_clause :
+  pub unbound_after_a_clause :
       ends
       (tree.Assign (tree.only (tree.Named e)) (int 1)
       ∷ try_except (divides_by_zero ∷ []) (except_as zero_division_error e (prints (tree.Name e ∷ []) ∷ []) tree.NoClauses)
@@ -295,7 +295,7 @@ pub record ExceptionCases : Type 0 where
   --         except ZeroDivisionError as e:
   --             break
   --     print(e)
-  pub unbound_behind_a_break :
+  pub unbound_after_a_break :
       ends_within 1
       (each i (a_range (int 1 ∷ [])) (try_except (divides_by_zero ∷ []) (except_as zero_division_error e (tree.Break ∷ []) tree.NoClauses) ∷ [])
       ∷ prints (tree.Name e ∷ [])
@@ -308,7 +308,7 @@ pub record ExceptionCases : Type 0 where
   --             raise KeyError
   --     except KeyError:
   --         print(e)
-  pub unbound_behind_an_exception :
+  pub unbound_after_an_exception :
       ends
       (try_except
       (try_except (divides_by_zero ∷ []) (except_as zero_division_error e (raises key_error ∷ []) tree.NoClauses) ∷ [])
@@ -425,7 +425,7 @@ pub record ExceptionCases : Type 0 where
   --     except ZeroDivisionError:
   --         print('a')
   --     raise
-  pub none_active_behind :
+  pub none_active_after :
       ends (try_except (divides_by_zero ∷ []) (except_of zero_division_error (says (codes "a") ∷ []) tree.NoClauses) ∷ raises_again ∷ [])
       ≡ codes "a\nraised RuntimeError: no active exception\n"
   --     try:
@@ -446,7 +446,7 @@ pub record ExceptionCases : Type 0 where
   --         except ZeroDivisionError:
   --             print('b')
   --         raise
-  pub active_again_behind_a_clause :
+  pub active_again_after_a_clause :
       ends
       (try_except
       (raises (new key_error (str (codes "a") ∷ [])) ∷ [])
@@ -494,7 +494,7 @@ pub record ExceptionCases : Type 0 where
   --     except KeyError:
   --         f()
   --         raise
-  pub active_again_behind_a_call :
+  pub active_again_after_a_call :
       ends
       (define f [] (try_except (divides_by_zero ∷ []) (except_of zero_division_error (tree.Return (Some (int 1)) ∷ []) tree.NoClauses) ∷ [])
       ∷ try_except (raises (new key_error (str (codes "a") ∷ [])) ∷ []) (except_of key_error (tree.Evaluate (called f []) ∷ raises_again ∷ []) tree.NoClauses)
@@ -576,7 +576,7 @@ pub record ExceptionCases : Type 0 where
   --         f()
   --     except RuntimeError as e:
   --         print(e)
-  pub none_active_behind_a_return :
+  pub none_active_after_a_return :
       ends
       (define f
       []
@@ -619,7 +619,7 @@ pub record ExceptionCases : Type 0 where
   --         print('a')
   --     else:
   --         print('b')
-  pub no_else_behind_an_exception :
+  pub no_else_after_an_exception :
       ends (try_else (divides_by_zero ∷ []) (except_of zero_division_error (says (codes "a") ∷ []) tree.NoClauses) (says (codes "b") ∷ []) ∷ []) ≡ codes "a\n"
   --     for i in 'abc':
   --         try:
@@ -629,7 +629,7 @@ pub record ExceptionCases : Type 0 where
   --             print('x')
   --         else:
   --             print('y')
-  pub no_else_behind_a_break :
+  pub no_else_after_a_break :
       ends_within 1
       (each i (str (codes "abc"))
       (try_else (prints (tree.Name i ∷ []) ∷ tree.Break ∷ []) (except_of value_error (says (codes "x") ∷ []) tree.NoClauses) (says (codes "y") ∷ []) ∷ [])
@@ -643,7 +643,7 @@ pub record ExceptionCases : Type 0 where
   --         else:
   --             print('c')
   --     print(f())
-  pub no_else_behind_a_return :
+  pub no_else_after_a_return :
       ends
       (define f
       []

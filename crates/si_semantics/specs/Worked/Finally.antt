@@ -21,9 +21,9 @@ defined y = define y [] (tree.Pass ∷ [])
 
 -- a function in each suite of a `try`, with these statements after the first, and one after the `try`
 abbrev pub defining : List Stmt → List Stmt
-defining behind =
+defining after =
     try_finally
-    (defined a ∷ behind)
+    (defined a ∷ after)
     (except_of key_error (defined b ∷ []) (except_of zero_division_error (defined c ∷ []) tree.NoClauses))
     (defined d ∷ [])
     (defined f ∷ [])
@@ -53,7 +53,7 @@ pub record FinallyCases : Type 0 where
   --         print('h')
   --     finally:
   --         print('i')
-  pub finally_behind_each :
+  pub finally_after_each :
       ends
       (ensured (says (codes "a") ∷ []) (says (codes "b") ∷ [])
       ∷ try_finally
@@ -73,7 +73,7 @@ pub record FinallyCases : Type 0 where
   --     finally:
   --         print('a')
   --     print('b')
-  pub finally_behind_an_exception :
+  pub finally_after_an_exception :
       ends (ensured (divides_by_zero ∷ []) (says (codes "a") ∷ []) ∷ says (codes "b") ∷ []) ≡ codes "a\nraised ZeroDivisionError: division by zero\n"
   -- the value is there before the finally suite runs
   --     def f():
@@ -84,7 +84,7 @@ pub record FinallyCases : Type 0 where
   --             x = 2
   --             print('a')
   --     print(f())
-  pub finally_behind_a_return :
+  pub finally_after_a_return :
       ends
       (define f [] (tree.Assign (tree.only (tree.Named x)) (int 1) ∷ ensured (tree.Return (Some (tree.Name x)) ∷ []) (tree.Assign (tree.only (tree.Named x)) (int 2) ∷ says (codes "a") ∷ []) ∷ [])
       ∷ prints (called f [] ∷ [])
@@ -125,7 +125,7 @@ pub record FinallyCases : Type 0 where
   --             print('a', i)
   --     else:
   --         print('b')
-  pub finally_behind_continue :
+  pub finally_after_continue :
       ends_within 3
       (each_else i (a_range (int 2 ∷ [])) (ensured (tree.Continue ∷ []) (prints (str (codes "a") ∷ tree.Name i ∷ []) ∷ []) ∷ []) (says (codes "b") ∷ []) ∷ [])
       ≡ codes "a 0\na 1\nb\n"
@@ -207,7 +207,7 @@ pub record FinallyCases : Type 0 where
   --             print('b')
   --     except KeyError as e:
   --         print(e)
-  pub finally_behind_a_clause :
+  pub finally_after_a_clause :
       ends
       (try_except
       (try_finally
@@ -225,7 +225,7 @@ pub record FinallyCases : Type 0 where
   --         print('a')
   --     finally:
   --         print('b')
-  pub finally_behind_no_match :
+  pub finally_after_no_match :
       ends (try_finally (divides_by_zero ∷ []) (except_of key_error (says (codes "a") ∷ []) tree.NoClauses) [] (says (codes "b") ∷ []) ∷ [])
       ≡ codes "b\nraised ZeroDivisionError: division by zero\n"
   -- the name is unbound before the finally suite runs
@@ -293,7 +293,7 @@ pub record FinallyCases : Type 0 where
   pub none_in_another_clause : left_in (run_of (defining (divides_by_zero ∷ []))) b ≡ None
   pub number_in_a_clause : left_in (run_of (defining (divides_by_zero ∷ []))) c ≡ Some (Function c 2)
   pub number_in_a_finally_suite : left_in (run_of (defining (divides_by_zero ∷ []))) f ≡ Some (Function f 4)
-  pub number_behind_a_try : left_in (run_of (defining (divides_by_zero ∷ []))) g ≡ Some (Function g 5)
+  pub number_after_a_try : left_in (run_of (defining (divides_by_zero ∷ []))) g ≡ Some (Function g 5)
   -- and without `1 // 0`
   pub none_in_a_clause : left_in (run_of (defining [])) c ≡ None
   pub number_in_an_else_suite : left_in (run_of (defining [])) d ≡ Some (Function d 3)

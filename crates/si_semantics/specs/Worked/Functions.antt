@@ -54,8 +54,8 @@ abbrev pub counted : ℕ → List Stmt
 counted k = define f (n ∷ []) counts ∷ prints (called f (int k ∷ []) ∷ []) ∷ []
 
 -- `if n: f(n - 1)`, `print(n)`
-abbrev pub prints_behind : List Stmt
-prints_behind =
+abbrev pub prints_after : List Stmt
+prints_after =
     tree.If (tree.Name n) (suite (tree.Evaluate (called f (tree.Binary tree.Subtract (tree.Name n) (int 1) ∷ [])) ∷ [])) tree.NoStmts
     ∷ prints (tree.Name n ∷ [])
     ∷ []
@@ -95,11 +95,11 @@ pub record FunctionCases : Type 0 where
   -- 33, its test 34, 35 and 36, `return` 37, the literal 38. Then the piece is printed, and to tell the end of the run
   -- is visit 39.
   pub calls_itself : report_of (counted 3) ≡ codes "== interpreter 0 ==\n3\nend: finished\n"
-  pub number_behind_calls : pieces_of (run_of (counted 3)) ≡ record { text = codes "3\n"; number = 38 } ∷ []
+  pub number_after_calls : pieces_of (run_of (counted 3)) ≡ record { text = codes "3\n"; number = 38 } ∷ []
   pub visits_of_calls : end_of (run_of (counted 3)) ≡ Some (Some (End Returned), 39)
   -- `def f(n):` `if n: f(n - 1)`, `print(n)`, then `f(2)`: each call has locals of its own, and the caller has its own
   -- again after it
-  pub locals_of_each_call : report_of (define f (n ∷ []) prints_behind ∷ tree.Evaluate (called f (int 2 ∷ [])) ∷ []) ≡ codes "== interpreter 0 ==\n0\n1\n2\nend: finished\n"
+  pub locals_of_each_call : report_of (define f (n ∷ []) prints_after ∷ tree.Evaluate (called f (int 2 ∷ [])) ∷ []) ≡ codes "== interpreter 0 ==\n0\n1\n2\nend: finished\n"
   -- 200 calls within each other are made, and no more
   pub deepest : report_of (counted 200) ≡ codes "== interpreter 0 ==\n200\nend: finished\n"
   pub too_deep : report_of (counted 201) ≡ codes "== interpreter 0 ==\nraised RecursionError: too deep\nend: finished\n"
@@ -126,7 +126,7 @@ pub record FunctionCases : Type 0 where
   -- a function that is read has its number, whether its `def` is run or not
   pub not_defined : left_in (run_of three_functions) f ≡ None
   pub number_in_an_else_suite : left_in (run_of three_functions) g ≡ Some (Function g 1)
-  pub number_behind_an_if : left_in (run_of three_functions) h ≡ Some (Function h 2)
+  pub number_after_an_if : left_in (run_of three_functions) h ≡ Some (Function h 2)
   -- the functions of a second text go on counting, and those of the first can still be called
   pub second_text : texts_of (life_of 0 0 two_texts) ≡ codes "1 2\n" ∷ []
   pub number_in_a_second_text : left_in (life_of 0 0 two_texts) g ≡ Some (Function g 1)

@@ -136,4 +136,4 @@ pub record GrammarCases : Type 0 where
   -- so `()` and `[]` spell no target, and no `del` stands in front of a name alone
   pub empty_brackets_before_an_equal_sign : (t : Target) → IsTarget t (Sign tokens.LeftParenthesis ∷ Sign tokens.RightParenthesis ∷ []) → ⊥
   pub empty_square_brackets_before_an_equal_sign : (t : Target) → IsTarget t (Sign tokens.LeftBracket ∷ Sign tokens.RightBracket ∷ []) → ⊥
-  pub name_behind_del : (object index : Expr) → Small (tree.Delete object index) (Word tokens.DelWord ∷ NAME x ∷ []) → ⊥
+  pub name_after_del : (object index : Expr) → Small (tree.Delete object index) (Word tokens.DelWord ∷ NAME x ∷ []) → ⊥

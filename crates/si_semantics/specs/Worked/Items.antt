@@ -63,7 +63,7 @@ pub record ItemCases : Type 0 where
   --     for i in range(2):
   --         pass
   --     print(i)
-  pub bound_behind_the_loop : ends_within 3 (each i (a_range (int 2 ∷ [])) (tree.Pass ∷ []) ∷ prints (tree.Name i ∷ []) ∷ []) ≡ codes "1\n"
+  pub bound_after_the_loop : ends_within 3 (each i (a_range (int 2 ∷ [])) (tree.Pass ∷ []) ∷ prints (tree.Name i ∷ []) ∷ []) ≡ codes "1\n"
   --     for x in '':
   --         pass
   --     print(x)
@@ -125,7 +125,7 @@ pub record ItemCases : Type 0 where
   --         print(i)
   --     else:
   --         print('a')
-  pub else_behind_the_items :
+  pub else_after_the_items :
       ends_within 3
       (each_else i (a_range (int 2 ∷ []))
       (tree.If (compared tree.Equal (tree.Name i) (int 0)) (suite (tree.Continue ∷ [])) tree.NoStmts ∷ prints (tree.Name i ∷ []) ∷ [])
@@ -139,7 +139,7 @@ pub record ItemCases : Type 0 where
   --     else:
   --         print('a')
   --     print('b')
-  pub no_else_behind_break :
+  pub no_else_after_break :
       ends_within 2
       (each_else i (a_range (int 2 ∷ []))
       (tree.If (compared tree.Equal (tree.Name i) (int 1)) (suite (tree.Break ∷ [])) tree.NoStmts ∷ prints (tree.Name i ∷ []) ∷ [])

@@ -76,8 +76,8 @@ abbrev pub four_ends : List ℕ
 four_ends = codes "a\r\nb\n\r\rc"
 
 -- `x` after a literal that goes over two line ends, CR LF each
-abbrev pub behind_a_literal : List ℕ
-behind_a_literal = codes "'''\r\n\r\n'''x"
+abbrev pub after_a_literal : List ℕ
+after_a_literal = codes "'''\r\n\r\n'''x"
 
 -- ---- the cases
 
@@ -98,7 +98,7 @@ pub record LayoutCases : Type 0 where
   -- no tab stands before a line's first token, and any stands before a comment or after a token
   pub tab_first : kinds [] (spaces (codes " ") ∷ tab ∷ x ∷ []) ≡ None
   pub tab_before_comment : kinds [] (tab ∷ comment ∷ []) ≡ Some ([], [])
-  pub tab_behind : kinds [] (x ∷ tab ∷ []) ≡ Some (Name ∷ Newline ∷ [], [])
+  pub tab_after : kinds [] (x ∷ tab ∷ []) ≡ Some (Name ∷ Newline ∷ [], [])
   -- at the end of the text each block is closed
   pub all_closed : ending (5 ∷ 2 ∷ []) 9 ≡ token 9 [] Dedent ∷ token 9 [] Dedent ∷ token 9 [] End ∷ []
   -- the text of four lines, of which one goes over a line end
@@ -107,11 +107,11 @@ pub record LayoutCases : Type 0 where
   -- each place stands in a line: CR LF is one line end, and lies where its LF does
   pub line_of_the_first_byte : line_at four_ends 0 ≡ 1
   pub line_of_a_line_end : line_at four_ends 2 ≡ 1
-  pub line_behind_cr_lf : line_at four_ends 3 ≡ 2
-  pub line_behind_lf : line_at four_ends 5 ≡ 3
-  pub line_behind_cr : line_at four_ends 6 ≡ 4
-  pub line_behind_two_cr : line_at four_ends 7 ≡ 5
+  pub line_after_cr_lf : line_at four_ends 3 ≡ 2
+  pub line_after_lf : line_at four_ends 5 ≡ 3
+  pub line_after_cr : line_at four_ends 6 ≡ 4
+  pub line_after_two_cr : line_at four_ends 7 ≡ 5
   pub line_at_the_end : line_at four_ends 8 ≡ 5
-  pub line_in_a_literal : line_at behind_a_literal 5 ≡ 2
-  pub line_behind_a_literal : line_at behind_a_literal 10 ≡ 3
+  pub line_in_a_literal : line_at after_a_literal 5 ≡ 2
+  pub line_after_a_literal : line_at after_a_literal 10 ≡ 3
   pub line_in_no_text : line_at [] 0 ≡ 1

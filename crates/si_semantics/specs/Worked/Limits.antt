@@ -50,12 +50,12 @@ pub record LimitCases : Type 0 where
   -- simple statements; 21 of `if` in each other; one with 30 of `elif`
   pub simple_statements : nesting_in (suite (set_text ∷ tree.Pass ∷ [])) ≡ 0
   pub ifs_in_each_other : nesting_in (nested 21) ≡ 21
-  pub elifs_behind_each_other : nesting_in (chained 30) ≡ 1
+  pub elifs_after_each_other : nesting_in (chained 30) ≡ 1
   -- `if i: pass`, `else:` with `if i: pass` and `pass`; with `while i: pass`
   pub if_in_an_else_suite : nesting_in (suite (tree.If i_name nothing (suite (tree.If i_name nothing tree.NoStmts ∷ tree.Pass ∷ [])) ∷ [])) ≡ 2
   pub loop_in_an_else_suite : nesting_in (suite (tree.If i_name nothing (suite (tree.While i_name nothing tree.NoStmts ∷ [])) ∷ [])) ≡ 2
   -- `if i: pass`, `elif i: while i: pass`, `else: pass`
-  pub loop_behind_an_elif : nesting_in (suite (tree.If i_name nothing (suite (tree.If i_name (suite (tree.While i_name nothing tree.NoStmts ∷ [])) nothing ∷ [])) ∷ [])) ≡ 2
+  pub loop_after_an_elif : nesting_in (suite (tree.If i_name nothing (suite (tree.If i_name (suite (tree.While i_name nothing tree.NoStmts ∷ [])) nothing ∷ [])) ∷ [])) ≡ 2
   -- `if i: pass` in the else suite of a loop, in a function
   pub if_in_a_loops_else_suite : nesting_in (suite (of_two (tree.While i_name nothing (chained 0) ∷ []) ∷ [])) ≡ 3
   -- `if i:` in `if i:` in a clause; a finally suite with three

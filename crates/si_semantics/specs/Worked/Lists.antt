@@ -186,7 +186,7 @@ pub record ListCases : Type 0 where
       ∷ does (compared tree.Equal (tree.Name a) (tree.Name b))
       ∷ [])
       ≡ codes "True\nraised RecursionError: too deep\n"
-  -- lists of different lengths are not compared, and nothing behind the first items that differ
+  -- lists of different lengths are not compared, and nothing after the first items that differ
   --     def f(): pass
   --     print([f] == [f, 1], [1, f] == [2, f])
   pub lengths_before_items :

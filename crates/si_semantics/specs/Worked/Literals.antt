@@ -12,7 +12,7 @@ pub record LiteralCases : Type 0 where
   pub decimal : value_of_int (codes "1_000_000") ≡ Some (pos 1000000)
   pub zeros : value_of_int (codes "00_0") ≡ Some (pos 0)
   pub hexadecimal : value_of_int (codes "0xFf_e") ≡ Some (pos 4094)
-  pub underscore_behind_a_prefix : value_of_int (codes "0X_7f") ≡ Some (pos 127)
+  pub underscore_after_a_prefix : value_of_int (codes "0X_7f") ≡ Some (pos 127)
   pub octal : value_of_int (codes "0o17") ≡ Some (pos 15)
   pub binary : value_of_int (codes "0B1_01") ≡ Some (pos 5)
   pub greatest : value_of_int (codes "0x7fff_ffff_ffff_ffff") ≡ Some (pos 9223372036854775807)
@@ -24,21 +24,21 @@ pub record LiteralCases : Type 0 where
   pub prefix_alone : value_of_int (codes "0x") ≡ None
   pub prefix_and_underscore : value_of_int (codes "0b_") ≡ None
   pub digit_past_the_base : value_of_int (codes "0o8") ≡ None
-  pub letter_behind : value_of_int (codes "1if") ≡ None
+  pub letter_after : value_of_int (codes "1if") ≡ None
   pub text : is_text (codes "'a\\'\"'") ≡ true
   pub raw_text : is_text (codes "R'\\''") ≡ true
   pub empty_text : is_text (codes "u\"\"") ≡ true
   pub three_quotes : is_text (codes "'''a''\n'''") ≡ true
   pub six_quotes : is_text (codes "''''''") ≡ true
-  pub quote_behind_three : is_text (codes "''''a'''") ≡ true
+  pub quote_after_three : is_text (codes "''''a'''") ≡ true
   pub escaped_quote_before_three : is_text (codes "r'''\\''''") ≡ true
   pub escaped_line_end : is_text (codes "'a\\\r\n'") ≡ true
   pub line_end : is_text (codes "'a\n'") ≡ false
-  pub line_end_behind_an_escaped_one : is_text (codes "'\\\n\n'") ≡ false
+  pub line_end_after_an_escaped_one : is_text (codes "'\\\n\n'") ≡ false
   pub two_texts : is_text (codes "'a''b'") ≡ false
   pub text_that_is_open : is_text (codes "'a\\'") ≡ false
   pub three_quotes_open : is_text (codes "'''a'") ≡ false
-  pub quote_behind_a_text : is_text (codes "'''a''''") ≡ false
+  pub quote_after_a_text : is_text (codes "'''a''''") ≡ false
   pub two_prefixes : is_text (codes "ru''") ≡ false
   pub value_in_single_quotes : value_of_str (codes "'it\\'s'") ≡ Some (codes "it's")
   pub value_in_three_quotes : value_of_str (codes "'''a''\r\nb\r'''") ≡ Some (codes "a''\nb\n")
@@ -59,21 +59,21 @@ pub record LiteralCases : Type 0 where
   pub named_character : value_of_str (codes "'\\N{DIGIT ONE}'") ≡ None
   pub greatest_octal : may_stand (codes "'\\377'") ≡ true
   pub past_the_greatest_octal : may_stand (codes "'\\400'") ≡ false
-  pub two_digits_behind_x : may_stand (codes "'\\x41'") ≡ true
-  pub one_digit_behind_x : may_stand (codes "'\\x4'") ≡ false
-  pub no_digit_behind_x : may_stand (codes "'\\x'") ≡ false
+  pub two_digits_after_x : may_stand (codes "'\\x41'") ≡ true
+  pub one_digit_after_x : may_stand (codes "'\\x4'") ≡ false
+  pub no_digit_after_x : may_stand (codes "'\\x'") ≡ false
   pub before_the_surrogates : may_stand (codes "'\\ud7ff'") ≡ true
   pub first_surrogate : may_stand (codes "'\\ud800'") ≡ false
   pub last_surrogate : may_stand (codes "'\\udfff'") ≡ false
-  pub behind_the_surrogates : may_stand (codes "'\\ue000'") ≡ true
-  pub three_digits_behind_u : may_stand (codes "'\\u123'") ≡ false
+  pub after_the_surrogates : may_stand (codes "'\\ue000'") ≡ true
+  pub three_digits_after_u : may_stand (codes "'\\u123'") ≡ false
   pub greatest_character : may_stand (codes "'\\U0010ffff'") ≡ true
   pub past_the_greatest_character : may_stand (codes "'\\U00110000'") ≡ false
-  pub seven_digits_behind_upper_u : may_stand (codes "'\\U0010fff'") ≡ false
+  pub seven_digits_after_upper_u : may_stand (codes "'\\U0010fff'") ≡ false
   pub named_character_refused : may_stand (codes "'\\N{a}'") ≡ false
-  pub behind_a_good_escape : may_stand (codes "'a\\n\\x4'") ≡ false
+  pub after_a_good_escape : may_stand (codes "'a\\n\\x4'") ≡ false
   pub in_three_quotes : may_stand (codes "'''\r\n\\400'''") ≡ false
-  pub behind_the_prefix_u : may_stand (codes "u'\\400'") ≡ false
+  pub after_the_prefix_u : may_stand (codes "u'\\400'") ≡ false
   pub raw_octal : may_stand (codes "r'\\400'") ≡ true
   pub raw_named_character : may_stand (codes "R'\\N{a}'") ≡ true
   pub backslash_before_the_escape : may_stand (codes "'\\\\400'") ≡ true
@@ -91,7 +91,7 @@ pub record LiteralCases : Type 0 where
   pub value_of_raw_bytes : value_of_bytes (codes "bR'\\x00\\''") ≡ Some (codes "\\x00\\'")
   pub bytes_past_ascii : value_of_bytes (98 ∷ 39 ∷ 195 ∷ 169 ∷ 39 ∷ []) ≡ None
   pub octal_too_large_in_bytes : value_of_bytes (codes "b'\\400'") ≡ None
-  pub no_digit_behind_x_in_bytes : value_of_bytes (codes "b'\\x4'") ≡ None
+  pub no_digit_after_x_in_bytes : value_of_bytes (codes "b'\\x4'") ≡ None
   pub bytes_may_stand : may_stand (codes "rb'\\400'") ≡ true
   pub bytes_past_ascii_refused : may_stand (114 ∷ 98 ∷ 39 ∷ 195 ∷ 169 ∷ 39 ∷ []) ≡ false
   pub bytes_with_a_bad_escape : may_stand (codes "b'\\x4'") ≡ false

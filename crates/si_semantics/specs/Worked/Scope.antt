@@ -100,12 +100,12 @@ pub record ScopeCases : Type 0 where
   -- `global n` in `f(n)`
   pub global_of_a_parameter : scoped_in_f (tree.Global (n ∷ []) ∷ []) ≡ false
   -- `x = 1`, then `global x`; `print(x)`, then `global x`
-  pub global_behind_a_binding : scoped_in_f (set_x ∷ global_x ∷ []) ≡ false
-  pub global_behind_a_use : scoped_in_f (prints (tree.Name x ∷ []) ∷ global_x ∷ []) ≡ false
+  pub global_after_a_binding : scoped_in_f (set_x ∷ global_x ∷ []) ≡ false
+  pub global_after_a_use : scoped_in_f (prints (tree.Name x ∷ []) ∷ global_x ∷ []) ≡ false
   -- `if n:` `global x`, then `x = 1`; `if x:` `global x`; `while x:` `global x`
   pub global_in_a_branch : scoped_in_f (tree.If (tree.Name n) (suite (global_x ∷ [])) tree.NoStmts ∷ set_x ∷ []) ≡ true
-  pub global_behind_its_test : scoped_in_f (tree.If (tree.Name x) (suite (global_x ∷ [])) tree.NoStmts ∷ []) ≡ false
-  pub global_behind_the_test_of_a_loop : scoped_in_f (tree.While (tree.Name x) (suite (global_x ∷ [])) tree.NoStmts ∷ []) ≡ false
+  pub global_after_its_test : scoped_in_f (tree.If (tree.Name x) (suite (global_x ∷ [])) tree.NoStmts ∷ []) ≡ false
+  pub global_after_the_test_of_a_loop : scoped_in_f (tree.While (tree.Name x) (suite (global_x ∷ [])) tree.NoStmts ∷ []) ≡ false
   -- `if n:` `global x`, `else:` `x = 1`; `if n:` `x = 1`, `else:` `global x`
   pub global_before_an_else_suite : scoped_in_f (tree.If (tree.Name n) (suite (global_x ∷ [])) (suite (set_x ∷ [])) ∷ []) ≡ true
   pub global_in_an_else_suite : scoped_in_f (tree.If (tree.Name n) (suite (set_x ∷ [])) (suite (global_x ∷ [])) ∷ []) ≡ false
@@ -136,26 +136,26 @@ pub record ScopeCases : Type 0 where
   pub global_of_what_is_gone_over : scoped_in_f (tree.For (tree.Named (codes "i")) (tree.Name x) (suite (global_x ∷ [])) tree.NoStmts ∷ []) ≡ false
   -- `try: pass`, `except n as x: i = 1`, `else: g = 1`; the same with `finally: g = 1` after an empty else suite: `as`
   -- binds, and so do the suites
-  pub name_behind_as_is_local :
+  pub name_after_as_is_local :
       locals_in_f (tree.Try nothing (as_x (tree.Assign (tree.only (tree.Named (codes "i"))) (int 1) ∷ [])) (suite (tree.Assign (tree.only (tree.Named g)) (int 1) ∷ [])) ∷ []) ≡ n ∷ x ∷ codes "i" ∷ g ∷ []
   pub name_bound_in_a_finally_suite :
       locals_in_f (tree.Finally nothing (as_x (tree.Assign (tree.only (tree.Named (codes "i"))) (int 1) ∷ [])) tree.NoStmts (suite (tree.Assign (tree.only (tree.Named g)) (int 1) ∷ [])) ∷ []) ≡ n ∷ x ∷ codes "i" ∷ g ∷ []
   -- `global x`, then `try: pass`, `except n as x: pass`; `try: pass`, `except n as x: global x`
-  pub global_name_behind_as : locals_in_f (global_x ∷ tree.Try nothing (as_x (tree.Pass ∷ [])) tree.NoStmts ∷ []) ≡ n ∷ []
-  pub global_of_a_name_behind_as : scoped_in_f (tree.Try nothing (as_x (global_x ∷ [])) tree.NoStmts ∷ []) ≡ false
+  pub global_name_after_as : locals_in_f (global_x ∷ tree.Try nothing (as_x (tree.Pass ∷ [])) tree.NoStmts ∷ []) ≡ n ∷ []
+  pub global_of_a_name_after_as : scoped_in_f (tree.Try nothing (as_x (global_x ∷ [])) tree.NoStmts ∷ []) ≡ false
   -- `try: x = 1`, `except: global x`
   pub global_in_a_clause : scoped_in_f (tree.Try (suite (set_x ∷ [])) (except None (global_x ∷ []) tree.NoClauses) tree.NoStmts ∷ []) ≡ false
   -- `try: pass`, `except x: pass`, `except: global x`; `try: pass`, `except n: x = 1`, `except: global x`
-  pub global_behind_the_expression_of_a_clause :
+  pub global_after_the_expression_of_a_clause :
       scoped_in_f (tree.Try nothing (except (Some x) (tree.Pass ∷ []) (except None (global_x ∷ []) tree.NoClauses)) tree.NoStmts ∷ []) ≡ false
-  pub global_behind_a_clause : scoped_in_f (tree.Try nothing (except (Some n) (set_x ∷ []) (except None (global_x ∷ []) tree.NoClauses)) tree.NoStmts ∷ []) ≡ false
+  pub global_after_a_clause : scoped_in_f (tree.Try nothing (except (Some n) (set_x ∷ []) (except None (global_x ∷ []) tree.NoClauses)) tree.NoStmts ∷ []) ≡ false
   -- `try: global x`, `except: x = 1`, `else: x = 1`
   pub global_in_front_of_a_clause : scoped_in_f (tree.Try (suite (global_x ∷ [])) (except None (set_x ∷ []) tree.NoClauses) (suite (set_x ∷ [])) ∷ []) ≡ true
   -- `try: pass`, `except: x = 1`, `else: global x`; `try: x = 1`, `finally: global x`
   pub global_in_the_else_suite_of_a_try : scoped_in_f (tree.Try nothing (except None (set_x ∷ []) tree.NoClauses) (suite (global_x ∷ [])) ∷ []) ≡ false
   pub global_in_a_finally_suite : scoped_in_f (tree.Finally (suite (set_x ∷ [])) tree.NoClauses tree.NoStmts (suite (global_x ∷ [])) ∷ []) ≡ false
   -- `raise x`, then `global x`
-  pub global_behind_a_raise : scoped_in_f (tree.Raise (Some (tree.Name x)) ∷ global_x ∷ []) ≡ false
+  pub global_after_a_raise : scoped_in_f (tree.Raise (Some (tree.Name x)) ∷ global_x ∷ []) ≡ false
   -- `try: return`, `except: return`, `else: return`, and then `finally: pass`
   pub return_in_a_try :
       scoped_in_f (tree.Finally (suite (tree.Return None ∷ [])) (except None (tree.Return None ∷ []) tree.NoClauses) (suite (tree.Return None ∷ [])) nothing ∷ []) ≡ true
@@ -188,14 +188,14 @@ pub record ScopeCases : Type 0 where
   pub item_beside_a_name : locals_in_f (unpacks (tree.Named x ∷ tree.Item (tree.Name i) (int 0) ∷ []) (tree.Name n) ∷ []) ≡ n ∷ x ∷ []
   -- `global x`, then `x, i = n`; `x, i = n`, then `global i`; `for x, i in n: global x`
   pub global_among_targets : locals_in_f (global_x ∷ unpack_x_i ∷ []) ≡ n ∷ i ∷ []
-  pub global_behind_an_unpacking : scoped_in_f (unpack_x_i ∷ tree.Global (i ∷ []) ∷ []) ≡ false
+  pub global_after_an_unpacking : scoped_in_f (unpack_x_i ∷ tree.Global (i ∷ []) ∷ []) ≡ false
   pub global_of_an_unpacked_target : scoped_in_f (each_x_i (global_x ∷ []) ∷ []) ≡ false
   -- `x[0] = n`, `x[0] += n` or `del x[0]`, then `global x`: each uses the name
-  pub global_behind_an_item : scoped_in_f (set_x_item ∷ global_x ∷ []) ≡ false
-  pub global_behind_an_augmented_item : scoped_in_f (augment_x_item ∷ global_x ∷ []) ≡ false
-  pub global_behind_a_deletion : scoped_in_f (delete_x_item ∷ global_x ∷ []) ≡ false
+  pub global_after_an_item : scoped_in_f (set_x_item ∷ global_x ∷ []) ≡ false
+  pub global_after_an_augmented_item : scoped_in_f (augment_x_item ∷ global_x ∷ []) ≡ false
+  pub global_after_a_deletion : scoped_in_f (delete_x_item ∷ global_x ∷ []) ≡ false
   -- `[x]` or `{n: x}`, then `global x`
-  pub global_behind_a_list :
+  pub global_after_a_list :
       scoped_in_f (tree.Evaluate (tree.ListDisplay (tree.MoreExprs (tree.Name x) tree.NoExprs)) ∷ global_x ∷ []) ≡ false
-  pub global_behind_a_dict :
+  pub global_after_a_dict :
       scoped_in_f (tree.Evaluate (tree.DictDisplay (tree.MoreExprs (tree.Name n) (tree.MoreExprs (tree.Name x) tree.NoExprs))) ∷ global_x ∷ []) ≡ false

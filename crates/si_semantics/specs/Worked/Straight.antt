@@ -202,7 +202,7 @@ pub record Cases : Type 0 where
   -- test 7, 8 and 9, `i += 1` 10, its target 11, its literal 12; the second turn is 13 to 19; the third 20, with its
   -- test 21, 22 and 23, ends the loop. The last statement is 24, the call 25, its callee 26, i 27. Then the piece is
   -- printed, and the end is 28.
-  pub number_behind_a_loop : pieces_of (run_within 3 counting) ≡ record { text = codes "2\n"; number = 27 } ∷ []
+  pub number_after_a_loop : pieces_of (run_within 3 counting) ≡ record { text = codes "2\n"; number = 27 } ∷ []
   pub visits_of_a_loop : end_of (run_within 3 counting) ≡ Some (Some (End Returned), 28)
   -- the test that ends a loop is a turn
   pub last_turn_counts : end_of (run_within 2 counting) ≡ None

@@ -118,7 +118,7 @@ pub record TargetCases : Type 0 where
   --     a = [1, 2]
   --     a[f(0)], a[f(1)] = f('x'), f('y')
   --     print(a)
-  pub targets_behind_the_right_side :
+  pub targets_after_the_right_side :
       ends
       (define f (n ∷ []) (prints (tree.Name n ∷ []) ∷ tree.Return (Some (tree.Name n)) ∷ [])
       ∷ set a (list_of (int 1 ∷ int 2 ∷ []))
@@ -135,7 +135,7 @@ pub record TargetCases : Type 0 where
   --     a = [1, 2]
   --     i = a[i] = 1
   --     print(a, i)
-  pub each_target_behind_the_other :
+  pub each_target_after_the_other :
       ends
       (set i (int 0)
       ∷ set a (list_of (int 1 ∷ int 2 ∷ []))

@@ -16,31 +16,31 @@ line_start at = record { at = at; begun = false; column = 0; has_tab = false; br
 
 -- ---- after a word
 
-abbrev pub behind : Place → List ℕ → Place
-behind p w = record p { at = p.at + length w }
+abbrev pub after : Place → List ℕ → Place
+after p w = record p { at = p.at + length w }
 
-abbrev pub behind_spaces : Place → List ℕ → Place
-behind_spaces p w = record p { at = p.at + length w; column = p.column + length w }
+abbrev pub after_spaces : Place → List ℕ → Place
+after_spaces p w = record p { at = p.at + length w; column = p.column + length w }
 
-abbrev pub behind_tabs : Place → List ℕ → Place
-behind_tabs p w = record p { at = p.at + length w; has_tab = true }
+abbrev pub after_tabs : Place → List ℕ → Place
+after_tabs p w = record p { at = p.at + length w; has_tab = true }
 
-abbrev pub behind_token : Place → tokens.TokenKind → List ℕ → Place
-behind_token p k w = record p { at = p.at + length w; begun = true; brackets = brackets_after (Some k) p.brackets }
+abbrev pub after_token : Place → tokens.TokenKind → List ℕ → Place
+after_token p k w = record p { at = p.at + length w; begun = true; brackets = brackets_after (Some k) p.brackets }
 
 -- a line end, which makes a NEWLINE after a token and outside brackets
 abbrev pub with_line_end : Place → List ℕ → List tokens.Token × Place
 with_line_end p w =
-    if nat_lt 0 p.brackets then ([], behind p w)
+    if nat_lt 0 p.brackets then ([], after p w)
     else (if p.begun then token p.at w tokens.Newline ∷ [] else [], line_start (p.at + length w))
 
 -- the token that a word makes, where it makes one, and the place after the word
 abbrev pub laid : Place → Option tokens.TokenKind → Sort → List ℕ → List tokens.Token × Place
-laid p (Some k) s w = (token p.at w k ∷ [], behind_token p k w)
-laid p None words.Spaces w = ([], behind_spaces p w)
-laid p None words.Tabs w = ([], behind_tabs p w)
+laid p (Some k) s w = (token p.at w k ∷ [], after_token p k w)
+laid p None words.Spaces w = ([], after_spaces p w)
+laid p None words.Tabs w = ([], after_tabs p w)
 laid p None words.LineEnd w = with_line_end p w
-laid p None _ w = ([], behind p w)
+laid p None _ w = ([], after p w)
 
 -- ---- before a word
 
@@ -54,8 +54,8 @@ before_word p blocks None = Some ([], blocks)
 before_word p blocks (Some k) = if p.begun then Some ([], blocks) else begins p blocks
 
 -- so many DEDENTs before others
-abbrev pub behind_dedents : ℕ → Option (List tokens.TokenKind × List ℕ) → Option (List tokens.TokenKind × List ℕ)
-behind_dedents n o = option_map (λ r. (replicate n tokens.Dedent ++ r.0, r.1)) o
+abbrev pub after_dedents : ℕ → Option (List tokens.TokenKind × List ℕ) → Option (List tokens.TokenKind × List ℕ)
+after_dedents n o = option_map (λ r. (replicate n tokens.Dedent ++ r.0, r.1)) o
 
 -- ---- a text
 

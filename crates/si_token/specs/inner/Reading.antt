@@ -25,7 +25,7 @@ abbrev pub begins_quoted : List ℕ → Bool
 begins_quoted [] = false
 begins_quoted (b ∷ bs) = is_quote b
 
--- what sort of word stands at the front: a literal where a quote does, behind a prefix or without
+-- what sort of word stands at the front: a literal where a quote does, after a prefix or without
 abbrev pub sort_at : List ℕ → Sort
 sort_at [] = Operator
 sort_at (b ∷ bs) = if begins_quoted (unprefixed (b ∷ bs)) then Text else sort_of_byte b

@@ -3,14 +3,14 @@ use Rattle.std.specs.List.{AllByRecursion}
 use Rattle.si_semantics.specs.Grammar.{exprs_of}
 use Rattle.si_semantics.specs.Tree as tree
 use Rattle.si_syntax.specs.Trees.{expr_of}
-use Rattle.si_emit.proofs.Conditions.{and_repeats, and_last, behind_soon}
+use Rattle.si_emit.proofs.Conditions.{and_repeats, and_last, after_soon}
 use Rattle.si_emit.proofs.condition.emit_repeat.Goals as goal
 
 pub returns-in_err-aim_all-in-Some-And-default-default-clause-extends : goal.returns-in_err-aim_all-in-Some-And-default-default-clause-extends
 returns-in_err-aim_all-in-Some-And-default-default-clause-extends c =
     let row = c.in_ok-ends-in-Some-And-default-default in
     c.aim_all.ensures.extends c.args.table.now
-    (subst (AllByRecursion (λ at. length c.args.table.now.lines ≤ at)) (sym c.deref.ensures.value) (behind_soon (length c.args.table.now.lines) row.ends.items row.last row.ensures.behind)) row.ensures.extends
+    (subst (AllByRecursion (λ at. length c.args.table.now.lines ≤ at)) (sym c.deref.ensures.value) (after_soon (length c.args.table.now.lines) row.ends.items row.last row.ensures.after)) row.ensures.extends
 
 pub returns-in_ok-aim_all-in-Some-And-default-default-clause-ok : goal.returns-in_ok-aim_all-in-Some-And-default-default-clause-ok
 returns-in_ok-aim_all-in-Some-And-default-default-clause-ok c =
@@ -29,4 +29,4 @@ pub returns-in_ok-aim_all-in-Some-And-default-default-clause-extends : goal.retu
 returns-in_ok-aim_all-in-Some-And-default-default-clause-extends c =
     let row = c.in_ok-ends-in-Some-And-default-default in
     c.aim_all.ensures.extends c.args.table.now
-    (subst (AllByRecursion (λ at. length c.args.table.now.lines ≤ at)) (sym c.deref.ensures.value) (behind_soon (length c.args.table.now.lines) row.ends.items row.last row.ensures.behind)) row.ensures.extends
+    (subst (AllByRecursion (λ at. length c.args.table.now.lines ≤ at)) (sym c.deref.ensures.value) (after_soon (length c.args.table.now.lines) row.ends.items row.last row.ensures.after)) row.ensures.extends

@@ -9,7 +9,7 @@ use Rattle.si_emit.proofs.condition.emit_row.Given as goal
 abbrev pub invariant-loop-other : goal.invariant-loop-other
 invariant-loop-other l = record {
   due : RowSoFar l.locals l.soon l.initial.table l.jumps.items l.first l.others l.table l.operand (drop l.other-index l.others);
-  behind : AllByRecursion (λ at. length l.initial.table.lines ≤ at) l.jumps.items;
+  after : AllByRecursion (λ at. length l.initial.table.lines ≤ at) l.jumps.items;
   names : locals_now l.table ≡ l.locals;
   extends : Extends l.initial.table l.table;
 }

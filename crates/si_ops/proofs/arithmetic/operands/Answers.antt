@@ -1,4 +1,4 @@
-use Rattle.std.proofs.Common.{◌≡◌, ◌<◌, length, Option, Some, None, sym, ap, subst, ◌∙◌}
+use Rattle.std.proofs.Common.{ap, subst, ◌∙◌}
 use Rattle.si_semantics.specs.Value as pure
 use Rattle.si_semantics.specs.Operations.{operate}
 use Rattle.si_arena.specs.Memory.{value_of}

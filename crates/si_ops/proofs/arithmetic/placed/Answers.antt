@@ -1,4 +1,4 @@
-use Rattle.std.proofs.Common.{◌≡◌, refl, ap, ◌∙◌, to_z, of_z, w64, rules}
+use Rattle.std.proofs.Common.{◌≡◌, ap, ◌∙◌, to_z, of_z, w64, rules}
 use Rattle.si_semantics.specs.Value as pure
 use Rattle.si_arena.specs.Memory.{value_of}
 use Rattle.si_arena.specs.Texts.{text_of}
@@ -6,7 +6,6 @@ use Rattle.si_arena.specs.Bytes.{bytes_of}
 use Rattle.si_ops.proofs.Running.{stood, goes_at, ints_go, int_truth_go, truth_int_go, truths_go, text_int_go, text_truth_go, int_text_go, truth_text_go, count_fits}
 use Rattle.si_ops.proofs.RunningBytes.{bytes_int_go, bytes_truth_go, int_bytes_go, truth_bytes_go}
 use Rattle.si_ops.specs.Operands.{members_of}
-use Rattle.si_ops.proofs.RunningLists.{first_wrong, second_wrong}
 use Rattle.si_ops.proofs.RunningTuples.{tuple_int_go, tuple_truth_go, int_tuple_go, truth_tuple_go}
 use Rattle.si_ops.proofs.arithmetic.placed.Goals as goal
 

@@ -20,8 +20,8 @@ returns-in_err-push_str-clause-runs c =
     passed c.from_residual.result P f c.from_residual.ensures.1
     (text_refused (Unit {0}) (λ s. str_of max_nested s v) (spelled (str_of max_nested m.store v)) c.args.line.now c.push_str.new.out m f c.in_err-push_str.ensures)
 
-pub place_behind-requires : goal.place_behind-requires
-place_behind-requires c =
+pub place_after-requires : goal.place_after-requires
+place_after-requires c =
     let e : c.len-start.result ≡ length (string_bytes c.args.line.now) = omega arith in
     let h = c.in_ok-push_str.ensures in
     seam c.args.line.now c.push_str.new.out c.len-start.result e (encode_utf8_all h.0, h.2)
@@ -29,9 +29,9 @@ place_behind-requires c =
 pub returns-clause-runs : goal.returns-clause-runs
 returns-clause-runs c =
     let m = c.args.arena.now in
-    let n = c.place_behind.new.arena in
+    let n = c.place_after.new.arena in
     let e : c.len-start.result ≡ length (string_bytes c.args.line.now) = omega arith in
     let h = c.in_ok-push_str.ensures in
-    let P : pure.Text → Type 0 = λ t. PlacesText t m n c.place_behind.result in
-    text_placed (λ s. str_of max_nested s (value_of m c.args.value)) h.0 m n c.place_behind.result h.1
-    (subst P (text_at c.args.line.now c.push_str.new.out h.0 c.len-start.result e h.2) c.place_behind.ensures.text)
+    let P : pure.Text → Type 0 = λ t. PlacesText t m n c.place_after.result in
+    text_placed (λ s. str_of max_nested s (value_of m c.args.value)) h.0 m n c.place_after.result h.1
+    (subst P (text_at c.args.line.now c.push_str.new.out h.0 c.len-start.result e h.2) c.place_after.ensures.text)

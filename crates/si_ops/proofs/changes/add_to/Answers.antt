@@ -1,4 +1,4 @@
-use Rattle.std.proofs.Common.{◌≡◌, length, sym, ap, subst, ◌∙◌, slice_get}
+use Rattle.std.proofs.Common.{ap, slice_get}
 use Rattle.si_semantics.specs.Value as pure
 use Rattle.si_semantics.specs.Tree as tree
 use Rattle.si_semantics.specs.Operations.{operate}

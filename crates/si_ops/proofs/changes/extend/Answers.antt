@@ -1,17 +1,12 @@
 use Rattle.std.specs.Prelude.{nat_lt}
 use Rattle.si_semantics.specs.Text.{max_length}
 use Rattle.si_arena.specs.Memory.{with_object}
-use Rattle.std.proofs.Common.{◌≡◌, ◌<◌, ◌≤◌, ◌+◌, ◌++◌, Some, None, Ok, Err, Result, length, refl, sym, ap, subst, ◌∙◌, arith, slice_get}
+use Rattle.std.proofs.Common.{◌+◌, ◌++◌, length, refl, sym, ap, subst, ◌∙◌, arith, slice_get}
 use Rattle.si_semantics.specs.Value as pure
 use Rattle.si_semantics.specs.Operations.{items_from}
 use Rattle.si_semantics.specs.Containers.{added_to, extended}
-use Rattle.si_arena.specs.declared.value.Ref.{Ref}
-use Rattle.si_arena.specs.declared.cause.Fault.{Fault}
-use Rattle.si_arena.specs.declared.cause.Fault.TheVariants.{Raises, NoMemory}
 use Rattle.si_arena.specs.Memory.{value_of, all_of, list_at, AllLie}
 use Rattle.si_ops.specs.Items.{world_of, gone_over}
-use Rattle.si_ops.specs.Calls.{Makes}
-use Rattle.si_ops.proofs.Ends.{passed}
 use Rattle.si_ops.proofs.Changing.{throws_wrong, throws_long, changed_gives, extends_changed}
 use Rattle.si_ops.proofs.GoneOver.{items_same, count_of, counted, not_counted}
 use Rattle.si_ops.proofs.Setting.{added_at, extended_fits, extended_over}

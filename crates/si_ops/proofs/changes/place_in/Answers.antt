@@ -1,7 +1,7 @@
-use Rattle.std.proofs.Common.{◌≡◌, ◌<◌, Some, None, length, sym, ap, subst, ◌∙◌, FitsSigned, w64, to_z-of_z, rules}
+use Rattle.std.proofs.Common.{◌≡◌, ◌<◌, Some, None, length, sym, ap, subst, ◌∙◌, rules}
 use Rattle.std.proofs.lemmas.List.{length-map}
 use Rattle.si_semantics.specs.Subscription.{item_meant}
-use Rattle.si_arena.specs.Memory.{value_of, all_of, list_at}
+use Rattle.si_arena.specs.Memory.{value_of, list_at}
 use Rattle.si_ops.proofs.Holding.{list_there, list_is}
 use Rattle.si_ops.proofs.changes.place_in.Goals as goal
 

@@ -1,10 +1,9 @@
-use Rattle.std.proofs.Common.{◌≡◌, ◌<◌, Some, None, Ok, Err, length, refl, sym, ap, subst, FitsSigned, w64, to_z-of_z, rules, ◌∙◌, slice_get}
+use Rattle.std.proofs.Common.{refl}
 use Rattle.si_semantics.specs.Value as pure
-use Rattle.si_semantics.specs.Dicts.{key_of, with_pair, without_key}
+use Rattle.si_semantics.specs.Dicts.{key_of}
 use Rattle.si_semantics.specs.Operations.{integer_in}
 use Rattle.si_semantics.specs.Containers as containers
-use Rattle.si_arena.specs.declared.cause.Cause.{Cause}
-use Rattle.si_arena.specs.Memory.{value_of, list_at, dict_at, key_meant}
+use Rattle.si_arena.specs.Memory.{value_of, list_at, dict_at}
 use Rattle.si_ops.proofs.Changing.{changes_as, throws_wrong}
 use Rattle.si_ops.proofs.Setting.{no_dict_here, set_at, set_plain}
 use Rattle.si_ops.proofs.changes.set_any.Goals as goal

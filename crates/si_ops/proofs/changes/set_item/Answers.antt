@@ -1,4 +1,4 @@
-use Rattle.std.proofs.Common.{◌≡◌, FitsSigned, w64, to_z-of_z, rules, sym, ap, subst, ◌∙◌, slice_get, slice_set}
+use Rattle.std.proofs.Common.{FitsSigned, w64, to_z-of_z, rules, ap, subst, ◌∙◌, slice_set}
 use Rattle.si_semantics.specs.Value as pure
 use Rattle.si_semantics.specs.Operations.{integer_in}
 use Rattle.si_semantics.specs.Containers as containers

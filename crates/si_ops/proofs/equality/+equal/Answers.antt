@@ -1,17 +1,16 @@
-use Rattle.std.proofs.Common.{◌≡◌, ◌≢◌, ◌<◌, ◌≤◌, ◌-◌, ℕ, List, Bool, Option, Some, None, Result, Ok, length, slice_get, refl, arith, sym, ap, subst, ◌∙◌}
+use Rattle.std.proofs.Common.{◌≡◌, ◌<◌, ◌-◌, ℕ, List, Bool, Option, Some, Result, Ok, length, slice_get, refl, arith, sym, ap, subst, ◌∙◌}
 use Rattle.std.specs.Prelude.{option_map}
 use Rattle.si_plain.specs.declared.kind.Kind.{Kind}
 use Rattle.si_semantics.specs.Value.{Value, Key, Address, Object, Items, Pairs}
 use Rattle.si_semantics.specs.Dicts.{key_of, value_at}
-use Rattle.si_semantics.specs.World.{World}
 use Rattle.si_arena.specs.declared.view.View.TheVariants as view
 use Rattle.std.proofs.lemmas.List.{length-map}
-use Rattle.si_semantics.specs.Operations.{Compared, equal_by, equal_objects, equal_within}
+use Rattle.si_semantics.specs.Operations.{equal_within}
 use Rattle.si_arena.specs.declared.value.Ref.{Ref}
 use Rattle.si_arena.specs.Memory.{Memory, value_of, all_of, pair_of, pairs_of, object_of, list_at, dict_at, value_by, key_meant, IsKey}
 use Rattle.si_arena.proofs.Sizes.{lies_at}
 use Rattle.si_ops.specs.inner.Equal.{compared_at}
-use Rattle.si_ops.proofs.Equal.{shown_tuples, shown_objects, shown_bare, tuple_bare, object_bare, other_bare, one_object, two_objects, list_and_other, dict_and_plain, plain_and_other, plain_object, lengths_apart, lengths_same, each_next, each_other, each_refused, each_end, keys_apart, keys_same, found_none, found_next, found_other, found_refused, found_end}
+use Rattle.si_ops.proofs.Equal.{shown_tuples, shown_objects, shown_bare, one_object, two_objects, list_and_other, dict_and_plain, plain_and_other, plain_object, lengths_apart, lengths_same, each_next, each_other, each_refused, each_end, keys_apart, keys_same, found_none, found_next, found_other, found_refused, found_end}
 use Rattle.si_ops.proofs.equality.+equal.Goals as goal
 
 pub are_equal_within-returns-in-Tuple-view : goal.are_equal_within-returns-in-Tuple-view

@@ -1,7 +1,6 @@
-use Rattle.std.proofs.Common.{◌≡◌, Some, None, length, sym, ap, ◌∙◌}
+use Rattle.std.proofs.Common.{Some, length, sym, ap, ◌∙◌}
 use Rattle.std.specs.Prelude.{option_map}
 use Rattle.si_semantics.specs.Operations.{items_from}
-use Rattle.si_semantics.specs.Value.{Value}
 use Rattle.si_arena.specs.Texts.{characters_in}
 use Rattle.si_ops.specs.Items.{world_of}
 use Rattle.si_ops.proofs.Tupled.{items_length}

@@ -1,6 +1,6 @@
-use Rattle.std.proofs.Common.{◌≡◌, ◌<◌, ℕ, [], Some, length, get_or, sym, ap, subst, ◌∙◌, arith, rules, to_z, of_z, w64, slice_get}
+use Rattle.std.proofs.Common.{◌≡◌, ◌<◌, Some, length, sym, ap, subst, ◌∙◌, arith, rules, to_z, of_z, w64, slice_get}
 use Rattle.si_semantics.specs.Value as pure
-use Rattle.si_arena.specs.Memory.{value_of, all_of}
+use Rattle.si_arena.specs.Memory.{all_of}
 use Rattle.si_arena.specs.Texts.{text_of}
 use Rattle.si_arena.proofs.Sizes.{lies_at}
 use Rattle.si_ops.specs.Items.{gone_over}

@@ -1,12 +1,11 @@
-use Rattle.std.proofs.Common.{◌≡◌, ◌<◌, [], Some, None, length, get_or, sym, ap, subst, ◌∙◌, arith, slice_get}
+use Rattle.std.proofs.Common.{◌<◌, [], length, ap, subst, ◌∙◌, arith, slice_get}
 use Rattle.std.specs.Prelude.{unwrap_or}
 use Rattle.std.proofs.lemmas.List.{length-map}
 use Rattle.si_semantics.specs.Operations.{items_of_object}
-use Rattle.si_arena.specs.Memory.{value_of, all_of, object_of, pairs_of}
+use Rattle.si_arena.specs.Memory.{value_of, pairs_of}
 use Rattle.si_arena.proofs.Sizes.{lies_at}
-use Rattle.si_ops.proofs.Equal.{plain_object}
 use Rattle.si_ops.proofs.Holding.{slice_there, count_pairs, key_at}
-use Rattle.si_ops.proofs.GoneOver.{keys_count, plain_gives}
+use Rattle.si_ops.proofs.GoneOver.{keys_count}
 use Rattle.si_ops.proofs.gone_over.nth_of_object.Goals as goal
 
 pub bounds-items-index : goal.bounds-items-index

@@ -1,4 +1,3 @@
-use Rattle.std.proofs.Common.{sym}
 use Rattle.si_arena.specs.Memory.{value_of}
 use Rattle.si_ops.proofs.GoneOver.{unpacks_all, unpacks_apart, unpacks_none}
 use Rattle.si_ops.proofs.gone_over.unpacks.Goals as goal

@@ -1,5 +1,5 @@
 use Rattle.std.proofs.Common.{refl, sym, subst}
-use Rattle.si_arena.specs.Memory.{all_of, pairs_of, object_of}
+use Rattle.si_arena.specs.Memory.{all_of, pairs_of}
 use Rattle.si_ops.specs.inner.Held.{IsPlainObject}
 use Rattle.si_ops.proofs.Equal.{plain_object}
 use Rattle.si_ops.proofs.Holding.{list_there, dict_there}

@@ -1,4 +1,4 @@
-use Rattle.std.proofs.Common.{◌≡◌, ap, ◌∙◌}
+use Rattle.std.proofs.Common.{ap, ◌∙◌}
 use Rattle.std.specs.Prelude.{is_some}
 use Rattle.si_semantics.specs.Dicts.{key_of}
 use Rattle.si_ops.proofs.Holding.{no_key_shown}

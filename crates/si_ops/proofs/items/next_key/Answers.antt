@@ -1,9 +1,9 @@
-use Rattle.std.proofs.Common.{◌≡◌, ◌+◌, ◌<◌, ◌≤◌, Some, None, length, sym, ap, subst, ◌∙◌, arith, slice_get}
+use Rattle.std.proofs.Common.{◌≡◌, ◌+◌, ◌≤◌, Some, length, sym, ap, ◌∙◌, arith, slice_get}
 use Rattle.std.proofs.lemmas.List.{length-map}
 use Rattle.si_semantics.specs.Value.{value_of_key}
 use Rattle.si_semantics.specs.Dicts.{keys_in}
 use Rattle.si_semantics.specs.Operations.{next_of_dict, item_or_end, Keys}
-use Rattle.si_arena.specs.Memory.{value_of, all_of, object_of, pairs_of}
+use Rattle.si_arena.specs.Memory.{object_of, pairs_of}
 use Rattle.si_ops.proofs.Equal.{plain_object}
 use Rattle.si_ops.proofs.Holding.{slice_over, keys_left, keys_changed, count_pairs, key_at, plain_dict_next}
 use Rattle.si_ops.proofs.items.next_key.Goals as goal

@@ -1,4 +1,4 @@
-use Rattle.std.proofs.Common.{◌≡◌, Some, refl, sym, ap, subst, FitsSigned, w64, to_z-of_z, rules, ◌∙◌}
+use Rattle.std.proofs.Common.{refl, sym, subst, FitsSigned, w64, to_z-of_z, rules}
 use Rattle.si_plain.specs.declared.operators.BinaryOperator.{BinaryOperator}
 use Rattle.si_semantics.specs.Value as pure
 use Rattle.si_semantics.specs.Tree as tree

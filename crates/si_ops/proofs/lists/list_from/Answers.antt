@@ -1,15 +1,10 @@
-use Rattle.std.proofs.Common.{◌≡◌, ◌<◌, ◌≤◌, ◌+◌, ◌*◌, ◌++◌, List, [], ◌∷◌, ℕ, Bool, true, false, Option, Some, None, Ok, Err, Result, length, refl, sym, ap, subst, ◌∙◌, arith, rules, slice_get}
-use Rattle.std.specs.Prelude.{nat_lt, pos}
+use Rattle.std.proofs.Common.{◌<◌, ◌≤◌, length, refl, sym, ap, ◌∙◌, arith}
 use Rattle.std.proofs.Common.{lt-ltb, le-ltb}
-use Rattle.std.proofs.lemmas.List.{length-map}
 use Rattle.si_semantics.specs.Value as pure
 use Rattle.si_semantics.specs.Text.{max_length}
 use Rattle.si_semantics.specs.Operations as operations
-use Rattle.si_semantics.specs.Operations.{list_within, list_repeated, items_from, list_from, list_made as listed}
-use Rattle.si_arena.specs.declared.value.Ref.{Ref}
-use Rattle.si_arena.specs.declared.cause.Fault.{Fault}
-use Rattle.si_arena.specs.declared.cause.Fault.TheVariants.{Raises, NoMemory}
-use Rattle.si_arena.specs.Memory.{value_of, all_of, list_at, AllLie}
+use Rattle.si_semantics.specs.Operations.{items_from, list_from, list_made as listed}
+use Rattle.si_arena.specs.Memory.{value_of, all_of}
 use Rattle.si_ops.specs.Items.{world_of, gone_over}
 use Rattle.si_ops.proofs.GoneOver.{items_same, count_of, counted, not_counted}
 use Rattle.si_ops.proofs.Changing.{list_made, list_thrown, throws_wrong}

@@ -1,15 +1,7 @@
-use Rattle.std.proofs.Common.{◌≡◌, ◌<◌, ◌≤◌, ◌+◌, ◌*◌, ◌++◌, List, [], ◌∷◌, ℕ, Bool, true, false, Option, Some, None, Ok, Err, Result, length, refl, sym, ap, subst, ◌∙◌, arith, rules, slice_get}
-use Rattle.std.specs.Prelude.{nat_lt, pos}
-use Rattle.std.proofs.Common.{lt-ltb, le-ltb}
-use Rattle.std.proofs.lemmas.List.{length-map}
+use Rattle.std.proofs.Common.{[], subst}
 use Rattle.si_semantics.specs.Value as pure
-use Rattle.si_semantics.specs.Text.{max_length}
 use Rattle.si_semantics.specs.Operations as operations
-use Rattle.si_semantics.specs.Operations.{list_within, list_repeated, items_from, list_from, list_made as listed}
-use Rattle.si_arena.specs.declared.value.Ref.{Ref}
-use Rattle.si_arena.specs.declared.cause.Fault.{Fault}
-use Rattle.si_arena.specs.declared.cause.Fault.TheVariants.{Raises, NoMemory}
-use Rattle.si_arena.specs.Memory.{value_of, all_of, list_at, AllLie}
+use Rattle.si_arena.specs.Memory.{all_of}
 use Rattle.si_semantics.specs.Dicts.{with_pairs}
 use Rattle.si_arena.specs.Memory.{MakesDict}
 use Rattle.si_ops.proofs.Changing.{dict_makes, dict_wrong}

@@ -3,11 +3,9 @@ use Rattle.std.proofs.lemmas.List.{length-map}
 use Rattle.si_plain.specs.declared.kind.Kind.{Kind}
 use Rattle.si_plain.specs.Integers.{in_range}
 use Rattle.si_semantics.specs.Value as pure
-use Rattle.si_semantics.specs.World.{World}
-use Rattle.si_semantics.specs.Operations.{gave, length_of_object, integer, wrong_type}
+use Rattle.si_semantics.specs.Operations.{gave, length_of_object, integer}
 use Rattle.si_arena.specs.Memory.{value_of, object_of, pairs_of}
 use Rattle.si_ops.specs.Runs.{Tells}
-use Rattle.si_ops.specs.inner.Held.{IsPlainObject}
 use Rattle.si_ops.proofs.Equal.{plain_object}
 use Rattle.si_ops.proofs.Changing.{tells_as, throws_wrong}
 use Rattle.si_ops.proofs.Holding.{count_pairs, plain_length}

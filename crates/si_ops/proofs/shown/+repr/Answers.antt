@@ -1,10 +1,9 @@
-use Rattle.std.proofs.Common.{◌≡◌, ℕ, zero, suc, ◌+◌, ◌-◌, ◌<◌, ◌≤◌, List, [], ◌∷◌, ◌++◌, Some, Result, Ok, Err, length, refl, sym, ap, subst, ◌∙◌, codes, drop, arith, encode_utf8_all, slice_get}
+use Rattle.std.proofs.Common.{◌≡◌, ℕ, zero, suc, ◌+◌, ◌-◌, ◌<◌, ◌≤◌, List, [], ◌∷◌, ◌++◌, Some, Result, Ok, Err, length, refl, sym, ap, subst, ◌∙◌, codes, drop, arith, slice_get}
 use Rattle.std.specs.declared.string.String.{String}
-use Rattle.si_plain.specs.declared.kind.Kind.{Kind}
 use Rattle.si_plain.specs.Kinds.{name_of}
 use Rattle.si_semantics.specs.Value as pure
 use Rattle.si_semantics.specs.Opened.{InList, InDict, opened_at}
-use Rattle.si_semantics.specs.Text.{Written, Whole, followed, behind, between, rest_by, items_by, pair_by, tuple_end, repr_of, repr_atom, repr_text}
+use Rattle.si_semantics.specs.Text.{Written, Whole, followed, after, between, rest_by, items_by, pair_by, tuple_end, repr_of, repr_atom, repr_text}
 use Rattle.si_arena.specs.declared.cause.Cause.TheVariants.{TooLong}
 use Rattle.si_arena.specs.declared.cause.Fault.{Fault}
 use Rattle.si_arena.specs.declared.cause.Fault.TheVariants.{Raises, NoMemory}
@@ -15,7 +14,7 @@ use Rattle.si_arena.specs.declared.value.Ref.{Ref}
 use Rattle.si_arena.specs.Views.{value_in}
 use Rattle.si_arena.specs.declared.dict.Pair.{Pair}
 use Rattle.si_arena.specs.declared.atom.Atom.{Atom}
-use Rattle.si_arena.specs.Memory.{Memory, value_of, all_of, object_of, pair_of, pairs_of, key_meant, IsKey, Lies, ObjectLies, PairLies}
+use Rattle.si_arena.specs.Memory.{Memory, value_of, all_of, object_of, pair_of, pairs_of, IsKey, Lies}
 use Rattle.std.proofs.lemmas.List.{length-map}
 use Rattle.si_ops.proofs.KeysOf.{key_back}
 use Rattle.si_ops.specs.Writing.{Puts, Lacks}
@@ -23,8 +22,8 @@ use Rattle.si_ops.specs.inner.Written.{addresses_of, repr_within}
 use Rattle.si_ops.proofs.Adding.{adds_as, adds_none}
 use Rattle.si_ops.proofs.Ends.{passed}
 use Rattle.si_ops.proofs.Lines.{lies_at}
-use Rattle.si_ops.proofs.Puts.{puts_behind, puts_next, puts_ends, whole_put, whole_lacks, row_lacks, row_breaks, row_closes, past_all}
-use Rattle.si_ops.proofs.Showing.{repr_shown, repr_deeper, repr_bottom, repr_at, repr_tuple, tuple_bottom, comma_is, opening_is, closing_is, end_is, bracket_is, end_bracket_is, list_again_is, brace_is, end_brace_is, dict_again_is, thread_is, kind_opens, rest_left, none_left, bare_made, argument_made, caused_made, bare_is, caused_is, argument_lies, cause_lies, short_inside, not_inside, pairs_first, pair_left, no_pair_left}
+use Rattle.si_ops.proofs.Puts.{puts_after, puts_next, puts_ends, whole_put, whole_lacks, row_lacks, row_breaks, row_closes, past_all}
+use Rattle.si_ops.proofs.Showing.{repr_shown, repr_deeper, repr_bottom, repr_at, repr_tuple, tuple_bottom, comma_is, opening_is, closing_is, end_is, bracket_is, end_bracket_is, list_again_is, brace_is, end_brace_is, dict_again_is, kind_opens, rest_left, none_left, bare_made, argument_made, caused_made, bare_is, caused_is, argument_lies, cause_lies, short_inside, not_inside, pairs_first, pair_left, no_pair_left}
 use Rattle.si_ops.proofs.shown.+repr.Goals as goal
 
 -- ---- exceptions and threads
@@ -355,7 +354,7 @@ put_other_pairs-returns-in_err-put_pair t c =
     let e = c.in_err-put_pair.field-0.0 in
     passed c.from_residual-in_err-put_pair.result P e c.from_residual-in_err-put_pair.ensures.1
     (c.loop-i.invariant c.put_pair.new.out (Err e) (subst (λ w. Puts {U = Unit {0}} w c.args.start c.loop-i.out c.put_pair.new.out (Err e)) (sym parts)
-    (puts_behind (Unit {0}) (codes ", ") (followed (f p) later) c.args.start c.loop-i.out c.put.new.out c.put_pair.new.out (Err e) (adds_as comma_is c.in_ok-put.ensures.ok)
+    (puts_after (Unit {0}) (codes ", ") (followed (f p) later) c.args.start c.loop-i.out c.put.new.out c.put_pair.new.out (Err e) (adds_as comma_is c.in_ok-put.ensures.ok)
     (puts_ends (Unit {0}) (Unit {0}) (f p) later c.args.start c.put.new.out c.put_pair.new.out e c.in_err-put_pair.ensures))))
 
 pub put_other_pairs-loop-i-preserved : goal.put_other_pairs-loop-i-preserved
@@ -368,7 +367,7 @@ put_other_pairs-loop-i-preserved t c =
     let later = rest_by f (drop (i + 1) ps) in
     let parts = pair_left f ps i p (c.pair.ensures.pair m) in
     λ end q h. c.loop-i.invariant end q (subst (λ w. Puts {U = Unit {0}} w c.args.start c.loop-i.out end q) (sym parts)
-    (puts_behind (Unit {0}) (codes ", ") (followed (f p) later) c.args.start c.loop-i.out c.put.new.out end q (adds_as comma_is c.in_ok-put.ensures.ok)
+    (puts_after (Unit {0}) (codes ", ") (followed (f p) later) c.args.start c.loop-i.out c.put.new.out end q (adds_as comma_is c.in_ok-put.ensures.ok)
     (puts_next (Unit {0}) (Unit {0}) (f p) later c.args.start c.put.new.out c.put_pair.new.out end c.in_ok-put_pair.field-0 q c.in_ok-put_pair.ensures h)))
 
 pub put_other_pairs-returns : goal.put_other_pairs-returns
@@ -381,8 +380,8 @@ put_other_pairs-returns t c =
     let l : length ps ≤ c.loop-i.i = omega (arith, a, b, length-map c.args.pairs.now (λ e. pair_of m e.1)) in
     c.loop-i.invariant c.loop-i.out (Ok tt) ([], sym (no_pair_left f ps c.loop-i.i l), adds_none c.loop-i.out)
 
-pair_is : (f : pure.Value → Written) (m : Memory) (p : Pair) → IsKey (value_of m p.key) → pair_by f (pair_of m p) ≡ behind (repr_atom (value_of m p.key) ++ codes ": ") (f (value_of m p.value))
-pair_is f m p h = ap (λ v. behind (repr_atom v ++ codes ": ") (f (value_of m p.value))) (key_back (value_of m p.key) h)
+pair_is : (f : pure.Value → Written) (m : Memory) (p : Pair) → IsKey (value_of m p.key) → pair_by f (pair_of m p) ≡ after (repr_atom (value_of m p.key) ++ codes ": ") (f (value_of m p.value))
+pair_is f m p h = ap (λ v. after (repr_atom v ++ codes ": ") (f (value_of m p.value))) (key_back (value_of m p.key) h)
 
 pub put_pair-put_key-requires : goal.put_pair-put_key-requires
 put_pair-put_key-requires t c = c.requires.key
@@ -408,7 +407,7 @@ put_pair-returns t c =
     let p = c.args.pair in
     let front = repr_atom (value_of m p.key) ++ codes ": " in
     subst (λ w. Puts {U = Unit {0}} w c.args.start c.args.out.now c.put_repr.new.out c.put_repr.result) (sym (pair_is f m p c.requires.is_key))
-    (puts_behind (Unit {0}) front (f (value_of m p.value)) c.args.start c.args.out.now c.put_key.new.out c.put_repr.new.out c.put_repr.result c.in_ok-put_key.ensures.ok c.put_repr.ensures)
+    (puts_after (Unit {0}) front (f (value_of m p.value)) c.args.start c.args.out.now c.put_key.new.out c.put_repr.new.out c.put_repr.result c.in_ok-put_key.ensures.ok c.put_repr.ensures)
 
 -- ---- items
 
@@ -478,7 +477,7 @@ put_others-returns-in_err-put_repr t c =
     let e = c.in_err-put_repr.field-0.0 in
     passed c.from_residual-in_err-put_repr.result P e c.from_residual-in_err-put_repr.ensures.1
     (c.loop-item.invariant c.put_repr.new.out (Err e) (subst (λ w. Puts {U = Unit {0}} w c.args.start c.loop-item.out c.put_repr.new.out (Err e)) (sym parts)
-    (puts_behind (Unit {0}) (codes ", ") (followed (f v) later) c.args.start c.loop-item.out c.put.new.out c.put_repr.new.out (Err e) (adds_as comma_is c.in_ok-put.ensures.ok)
+    (puts_after (Unit {0}) (codes ", ") (followed (f v) later) c.args.start c.loop-item.out c.put.new.out c.put_repr.new.out (Err e) (adds_as comma_is c.in_ok-put.ensures.ok)
     (puts_ends (Unit {0}) (Unit {0}) (f v) later c.args.start c.put.new.out c.put_repr.new.out e c.in_err-put_repr.ensures))))
 
 pub put_others-loop-item-preserved : goal.put_others-loop-item-preserved
@@ -493,7 +492,7 @@ put_others-loop-item-preserved t c =
     let later = rest_by f (all_of m (drop (i + 1) rs)) in
     let parts = rest_left f m rs i r c.loop-item-test.true c.item-item.is in
     λ end q p. c.loop-item.invariant end q (subst (λ w. Puts {U = Unit {0}} w c.args.start c.loop-item.out end q) (sym parts)
-    (puts_behind (Unit {0}) (codes ", ") (followed (f v) later) c.args.start c.loop-item.out c.put.new.out end q (adds_as comma_is c.in_ok-put.ensures.ok)
+    (puts_after (Unit {0}) (codes ", ") (followed (f v) later) c.args.start c.loop-item.out c.put.new.out end q (adds_as comma_is c.in_ok-put.ensures.ok)
     (puts_next (Unit {0}) (Unit {0}) (f v) later c.args.start c.put.new.out c.put_repr.new.out end c.in_ok-put_repr.field-0 q c.in_ok-put_repr.ensures p)))
 
 pub put_others-returns : goal.put_others-returns

@@ -39,7 +39,7 @@ decreases-put_plain l = 8 * l.depth + 5
 abbrev pub decreases-put_object : goal.decreases-put_object
 decreases-put_object l = 8 * l.depth + 6
 
--- what is put behind the values so far and the rest, is behind all
+-- what is put after the values so far and the rest, is after all
 abbrev pub invariant-put_others-loop-item : goal.invariant-put_others-loop-item
 invariant-put_others-loop-item l =
     Leads (rest_by (repr_of l.depth l.arena.store (addresses_of l.inside)) (all_of l.arena (drop l.item-index l.items))) (rest_by (repr_of l.depth l.arena.store (addresses_of l.inside)) (all_of l.arena l.items)) l.start l.out l.initial.out

@@ -1,5 +1,4 @@
-use Rattle.std.proofs.Common.{◌≡◌, ◌≢◌, ℕ, suc, List, [], Some, Result, Ok, Err, refl, sym, ap, subst, ◌∙◌, codes, arith}
-use Rattle.si_plain.specs.declared.kind.Kind.{Kind}
+use Rattle.std.proofs.Common.{◌≡◌, ℕ, [], Some, Result, Ok, Err, refl, sym, ap, subst, ◌∙◌, codes, arith}
 use Rattle.si_plain.specs.declared.kind.Kind.TheVariants as kind
 use Rattle.std.specs.declared.string.String.{String}
 use Rattle.si_semantics.specs.Value as pure

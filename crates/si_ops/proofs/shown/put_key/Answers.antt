@@ -1,9 +1,9 @@
-use Rattle.std.proofs.Common.{◌≡◌, ◌++◌, Result, Ok, Err, OnOk, OnErr, encode_utf8_all, sym, ap, ◌∙◌, subst}
+use Rattle.std.proofs.Common.{◌++◌, Result, Ok, Err, OnOk, OnErr, encode_utf8_all, sym, ap}
 use Rattle.std.specs.Prelude.{codes}
 use Rattle.std.proofs.lemmas.Str.{encodes-append}
 use Rattle.si_semantics.specs.Text.{repr_atom}
 use Rattle.si_arena.specs.Memory.{value_of}
-use Rattle.si_ops.specs.Writing.{Adds, Lacks}
+use Rattle.si_ops.specs.Writing.{Lacks}
 use Rattle.si_ops.proofs.Adding.{adds_as, adds_more, lacks_as, lacks_first, lacks_next}
 use Rattle.si_ops.proofs.Ends.{passed}
 use Rattle.si_ops.proofs.Showing.{colon_is}

@@ -1,4 +1,4 @@
-use Rattle.std.proofs.Common.{◌≡◌, [], Some, sym, ap, subst, ◌∙◌}
+use Rattle.std.proofs.Common.{[], Some, sym, subst}
 use Rattle.si_semantics.specs.Opened.{opened_at}
 use Rattle.si_arena.specs.Memory.{object_of}
 use Rattle.si_ops.specs.Writing.{Puts}

@@ -1,4 +1,4 @@
-use Rattle.std.proofs.Common.{◌≡◌, Some, length, sym, ap, subst, ◌∙◌, FitsSigned, w64, to_z-of_z, rules}
+use Rattle.std.proofs.Common.{length, ap, ◌∙◌, FitsSigned, w64, to_z-of_z, rules}
 use Rattle.std.proofs.lemmas.List.{length-map}
 use Rattle.si_semantics.specs.Operations.{integer_in}
 use Rattle.si_semantics.specs.Subscription as subscription

@@ -1,4 +1,4 @@
-use Rattle.std.proofs.Common.{ℕ, Ok, Some, length, FitsSigned, w64, to_z-of_z, sym, ap, ◌∙◌, rules, slice_get}
+use Rattle.std.proofs.Common.{Ok, length, FitsSigned, w64, to_z-of_z, ap, ◌∙◌, rules, slice_get}
 use Rattle.std.proofs.lemmas.List.{length-map}
 use Rattle.si_semantics.specs.Value as pure
 use Rattle.si_semantics.specs.Subscription.{object_item, item_of, item_meant}

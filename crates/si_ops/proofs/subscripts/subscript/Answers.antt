@@ -1,4 +1,4 @@
-use Rattle.std.proofs.Common.{◌≡◌, FitsSigned, w64, to_z-of_z, rules, sym, ap, subst, ◌∙◌, slice_get}
+use Rattle.std.proofs.Common.{FitsSigned, w64, to_z-of_z, rules, ap, subst, ◌∙◌, slice_get}
 use Rattle.si_semantics.specs.Value as pure
 use Rattle.si_semantics.specs.Subscription.{subscript, object_item}
 use Rattle.si_arena.specs.Memory.{value_of, Lies}

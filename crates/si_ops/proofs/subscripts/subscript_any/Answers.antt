@@ -1,4 +1,4 @@
-use Rattle.std.proofs.Common.{sym, ap, subst, ◌∙◌}
+use Rattle.std.proofs.Common.{sym, subst}
 use Rattle.si_semantics.specs.Value as pure
 use Rattle.si_semantics.specs.Dicts.{key_of}
 use Rattle.si_semantics.specs.Operations.{integer_in}

@@ -1,4 +1,4 @@
-use Rattle.std.proofs.Common.{◌≡◌, Some, None, sym, ap, subst, ◌∙◌}
+use Rattle.std.proofs.Common.{Some, None, ap}
 use Rattle.si_semantics.specs.Dicts.{key_of}
 use Rattle.si_semantics.specs.Subscription as subscription
 use Rattle.si_arena.specs.Memory.{value_of, dict_at}

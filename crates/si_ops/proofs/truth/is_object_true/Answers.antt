@@ -1,4 +1,4 @@
-use Rattle.std.proofs.Common.{◌≡◌, sym, ap, ◌∙◌}
+use Rattle.std.proofs.Common.{sym, ap, ◌∙◌}
 use Rattle.si_semantics.specs.Operations.{is_true_object}
 use Rattle.si_ops.proofs.Holding.{list_true, dict_true}
 use Rattle.si_ops.proofs.truth.is_object_true.Goals as goal

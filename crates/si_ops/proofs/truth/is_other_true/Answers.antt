@@ -1,4 +1,4 @@
-use Rattle.std.proofs.Common.{◌≡◌, sym, ap, ◌∙◌, slice_get}
+use Rattle.std.proofs.Common.{sym, ap, ◌∙◌, slice_get}
 use Rattle.si_semantics.specs.Operations.{is_true, is_true_object}
 use Rattle.si_ops.proofs.truth.is_other_true.Goals as goal
 

@@ -1,4 +1,4 @@
-use Rattle.std.proofs.Common.{◌≡◌, ◌≤◌, cond, length, refl, ap, ◌∙◌, arith}
+use Rattle.std.proofs.Common.{◌≤◌, cond, length, refl, ap, ◌∙◌, arith}
 use Rattle.si_semantics.specs.Value.{tuple_of}
 use Rattle.si_semantics.specs.Operations.{items_from, tuple_made, too_long, gave}
 use Rattle.si_arena.specs.Memory.{value_of}

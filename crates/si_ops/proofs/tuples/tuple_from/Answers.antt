@@ -1,4 +1,4 @@
-use Rattle.std.proofs.Common.{◌≡◌, refl, sym, ap, ◌∙◌}
+use Rattle.std.proofs.Common.{sym, ap, ◌∙◌}
 use Rattle.si_semantics.specs.Operations as operations
 use Rattle.si_arena.specs.Memory.{value_of}
 use Rattle.si_ops.proofs.Changing.{runs_as}

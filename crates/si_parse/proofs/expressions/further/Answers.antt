@@ -19,7 +19,7 @@ pub returns-in_err-next-clause-reads : goal.returns-in_err-next-clause-reads
 returns-in_err-next-clause-reads c =
     let next = sym c.after_comma.ensures ∙ ap (option_map (from c.args.tokens.now)) c.in-Some.is in
     let fails = chain_fails (λ o e. e) (λ ts. item_follows (after_comma ts)) (λ o. expression_at max_depth c.args.level)
-    (length c.args.tokens.now - c.loop-turn._turn) (map expr_of c.loop-turn.items.items, c.loop-turn.depth) (from c.args.tokens.now c.loop-turn.at) (length c.args.tokens.now - (c.loop-turn._turn + 1)) (omega arith) _ (from c.args.tokens.now c.in-Some.behind)
+    (length c.args.tokens.now - c.loop-turn._turn) (map expr_of c.loop-turn.items.items, c.loop-turn.depth) (from c.args.tokens.now c.loop-turn.at) (length c.args.tokens.now - (c.loop-turn._turn + 1)) (omega arith) _ (from c.args.tokens.now c.in-Some.rest)
     (ap item_follows next) _ c.in_err-next.ensures.reads in
     let p = err_from_is_err_and c.from_residual-in_err-next.result c.from_residual-in_err-next.ensures.1 in
     rw (p.1, p.2) (subst (Fails _) c.loop-turn.invariant.reads fails)
@@ -31,7 +31,7 @@ loop-turn-preserved c =
     record {
       shallow = omega (arith, c.in_ok-next.ensures.shallow);
       reads = chain_next (λ o e. e) (λ ts. item_follows (after_comma ts)) (λ o. expression_at max_depth c.args.level)
-          (length c.args.tokens.now - c.loop-turn._turn) (map expr_of c.loop-turn.items.items, c.loop-turn.depth) (from c.args.tokens.now c.loop-turn.at) (length c.args.tokens.now - (c.loop-turn._turn + 1)) (omega arith) _ (from c.args.tokens.now c.in-Some.behind)
+          (length c.args.tokens.now - c.loop-turn._turn) (map expr_of c.loop-turn.items.items, c.loop-turn.depth) (from c.args.tokens.now c.loop-turn.at) (length c.args.tokens.now - (c.loop-turn._turn + 1)) (omega arith) _ (from c.args.tokens.now c.in-Some.rest)
           (ap item_follows next) _ _ _ c.in_ok-next.ensures.reads _ _ pushed c.max-depth.ensures
           ∙ c.loop-turn.invariant.reads;
     }

@@ -20,27 +20,27 @@ returns-in_err-next c =
 
 pub returns-in-Some-after_items : goal.returns-in-Some-after_items
 returns-in-Some-after_items c =
-    let behind = sym c.after_items.ensures ∙ ap (option_map (from c.args.tokens.now)) c.in-Some-after_items.is in
+    let rest = sym c.after_items.ensures ∙ ap (option_map (from c.args.tokens.now)) c.in-Some-after_items.is in
     let pushed = ap (map string_bytes) c.in_ok-push.ensures.items ∙ map-append string_bytes c.loop-turn.names.items (c.in_ok-next.next ∷ []) in
     sym c.loop-turn.invariant
     ∙ separated_last with_parameter (λ r. r.1) name_at (after (Sign token.Comma)) (after (Sign token.RightParenthesis)) (length c.args.tokens.now - c.loop-turn._turn) (length c.args.tokens.now - (c.loop-turn._turn + 1)) (map string_bytes c.loop-turn.names.items) (from c.args.tokens.now c.loop-turn.at)
-    (omega arith) _ c.in_ok-next.ensures _ behind
+    (omega arith) _ c.in_ok-next.ensures _ rest
     ∙ ap (λ items. Some (items, from c.args.tokens.now c.in-Some-after_items.end)) (sym pushed)
 
 pub returns-in_default-after : goal.returns-in_default-after
 returns-in_default-after c =
-    let behind = sym c.after_items.ensures ∙ ap (option_map (from c.args.tokens.now)) c.in_default-after_items.is in
+    let rest = sym c.after_items.ensures ∙ ap (option_map (from c.args.tokens.now)) c.in_default-after_items.is in
     let next = sym c.after-in-loop-turn.ensures ∙ ap (option_map (from c.args.tokens.now)) c.in_default-after.is in
     sym c.loop-turn.invariant
     ∙ separated_stuck with_parameter (λ r. r.1) name_at (after (Sign token.Comma)) (after (Sign token.RightParenthesis)) (length c.args.tokens.now - c.loop-turn._turn) (length c.args.tokens.now - (c.loop-turn._turn + 1)) (map string_bytes c.loop-turn.names.items) (from c.args.tokens.now c.loop-turn.at)
-    (omega arith) _ c.in_ok-next.ensures behind next
+    (omega arith) _ c.in_ok-next.ensures rest next
 
 pub loop-turn-preserved : goal.loop-turn-preserved
 loop-turn-preserved c =
-    let behind = sym c.after_items.ensures ∙ ap (option_map (from c.args.tokens.now)) c.in_default-after_items.is in
+    let rest = sym c.after_items.ensures ∙ ap (option_map (from c.args.tokens.now)) c.in_default-after_items.is in
     let next = sym c.after-in-loop-turn.ensures ∙ ap (option_map (from c.args.tokens.now)) c.in-Some-after.is in
     let pushed = ap (map string_bytes) c.in_ok-push.ensures.items ∙ map-append string_bytes c.loop-turn.names.items (c.in_ok-next.next ∷ []) in
     ap (λ items. separated_by with_parameter (λ r. r.1) name_at (after (Sign token.Comma)) (after (Sign token.RightParenthesis)) (length c.args.tokens.now - (c.loop-turn._turn + 1)) items (from c.args.tokens.now c.in-Some-after.more)) pushed
     ∙ sym (separated_on with_parameter (λ r. r.1) name_at (after (Sign token.Comma)) (after (Sign token.RightParenthesis)) (length c.args.tokens.now - c.loop-turn._turn) (length c.args.tokens.now - (c.loop-turn._turn + 1)) (map string_bytes c.loop-turn.names.items) (from c.args.tokens.now c.loop-turn.at)
-    (omega arith) _ c.in_ok-next.ensures _ behind next)
+    (omega arith) _ c.in_ok-next.ensures _ rest next)
     ∙ c.loop-turn.invariant

@@ -21,7 +21,7 @@ pub loop-turn-preserved : goal.loop-turn-preserved
 loop-turn-preserved c =
     let next = sym c.after.ensures ∙ ap (option_map (from c.args.tokens.now)) c.in-Some.is in
     let pushed = ap (map target_of) c.in_ok-push.ensures.items ∙ map-append target_of c.loop-turn.targets.items (c.in_ok-target.target ∷ []) in
-    let read = chained_read (expression_at max_depth) (map target_of c.loop-turn.targets.items, expr_of c.loop-turn.value) (from c.args.tokens.now c.loop-turn.at) (from c.args.tokens.now c.in-Some.behind) _ _ _ _ next c.in_ok-target.ensures c.in_ok-next.ensures in
+    let read = chained_read (expression_at max_depth) (map target_of c.loop-turn.targets.items, expr_of c.loop-turn.value) (from c.args.tokens.now c.loop-turn.at) (from c.args.tokens.now c.in-Some.rest) _ _ _ _ next c.in_ok-target.ensures c.in_ok-next.ensures in
     ap (λ l. many_by (chained_by (expression_at max_depth)) no_equal (length c.args.tokens.now - (c.loop-turn._turn + 1)) (l, expr_of c.in_ok-next.next) (from c.args.tokens.now c.in_ok-next.end)) pushed
     ∙ sym (many_on (chained_by (expression_at max_depth)) no_equal (length c.args.tokens.now - c.loop-turn._turn) (length c.args.tokens.now - (c.loop-turn._turn + 1)) (map target_of c.loop-turn.targets.items, expr_of c.loop-turn.value) (from c.args.tokens.now c.loop-turn.at)
     (omega arith) (ap is_none next) _ _ read)

@@ -22,27 +22,27 @@ returns-in_err-next c =
 
 pub returns-in-Some : goal.returns-in-Some
 returns-in-Some c =
-    let behind = sym c.after_line.ensures ∙ ap (option_map (from c.args.tokens.now)) c.in-Some.is in
+    let rest = sym c.after_line.ensures ∙ ap (option_map (from c.args.tokens.now)) c.in-Some.is in
     let pushed = ap (map stmt_of) c.in_ok-push.ensures.items ∙ map-append stmt_of c.loop-turn.body.items (c.in_ok-next.next ∷ []) in
     sym c.loop-turn.invariant
     ∙ separated_last with_statement (λ r. r.1) (statement_by (expression_at max_depth)) (after (Sign token.Semicolon)) (after NEWLINE) (length c.args.tokens.now - c.loop-turn._turn) (length c.args.tokens.now - (c.loop-turn._turn + 1)) (map stmt_of c.loop-turn.body.items) (from c.args.tokens.now c.loop-turn.at)
-    (omega arith) _ c.in_ok-next.ensures _ behind
+    (omega arith) _ c.in_ok-next.ensures _ rest
     ∙ ap (λ items. Some (items, from c.args.tokens.now c.in-Some.end)) (sym pushed)
 
 pub returns-in_default-after : goal.returns-in_default-after
 returns-in_default-after c =
-    let behind = sym c.after_line.ensures ∙ ap (option_map (from c.args.tokens.now)) c.in_default.is in
+    let rest = sym c.after_line.ensures ∙ ap (option_map (from c.args.tokens.now)) c.in_default.is in
     let next = sym c.after.ensures ∙ ap (option_map (from c.args.tokens.now)) c.in_default-after.is in
     sym c.loop-turn.invariant
     ∙ separated_stuck with_statement (λ r. r.1) (statement_by (expression_at max_depth)) (after (Sign token.Semicolon)) (after NEWLINE) (length c.args.tokens.now - c.loop-turn._turn) (length c.args.tokens.now - (c.loop-turn._turn + 1)) (map stmt_of c.loop-turn.body.items) (from c.args.tokens.now c.loop-turn.at)
-    (omega arith) _ c.in_ok-next.ensures behind next
+    (omega arith) _ c.in_ok-next.ensures rest next
 
 pub loop-turn-preserved : goal.loop-turn-preserved
 loop-turn-preserved c =
-    let behind = sym c.after_line.ensures ∙ ap (option_map (from c.args.tokens.now)) c.in_default.is in
+    let rest = sym c.after_line.ensures ∙ ap (option_map (from c.args.tokens.now)) c.in_default.is in
     let next = sym c.after.ensures ∙ ap (option_map (from c.args.tokens.now)) c.in-Some-after.is in
     let pushed = ap (map stmt_of) c.in_ok-push.ensures.items ∙ map-append stmt_of c.loop-turn.body.items (c.in_ok-next.next ∷ []) in
     ap (λ items. separated_by with_statement (λ r. r.1) (statement_by (expression_at max_depth)) (after (Sign token.Semicolon)) (after NEWLINE) (length c.args.tokens.now - (c.loop-turn._turn + 1)) items (from c.args.tokens.now c.in-Some-after.more)) pushed
     ∙ sym (separated_on with_statement (λ r. r.1) (statement_by (expression_at max_depth)) (after (Sign token.Semicolon)) (after NEWLINE) (length c.args.tokens.now - c.loop-turn._turn) (length c.args.tokens.now - (c.loop-turn._turn + 1)) (map stmt_of c.loop-turn.body.items) (from c.args.tokens.now c.loop-turn.at)
-    (omega arith) _ c.in_ok-next.ensures _ behind next)
+    (omega arith) _ c.in_ok-next.ensures _ rest next)
     ∙ c.loop-turn.invariant

@@ -4,7 +4,7 @@ use Rattle.std.proofs.lemmas.List.{drop_all}
 use Rattle.std.proofs.lemmas.Bool.{false≢true}
 use Rattle.std.proofs.lemmas.Result.{err_from_is_err_and}
 use Rattle.si_semantics.specs.Value as pure
-use Rattle.si_semantics.specs.Value.{Value, NoValues, values_of}
+use Rattle.si_semantics.specs.Value.{NoValues, values_of}
 use Rattle.si_semantics.specs.Parcels.{trees_of}
 use Rattle.si_semantics.specs.Tuples.{is_too_large}
 use Rattle.si_semantics.specs.Shareable.{value_of_parcel, values_of_parcels}

@@ -15,7 +15,7 @@ use Rattle.si_token.specs.declared.token.TokenKind.TheVariants.{End}
 use Rattle.si_token.proofs.Steps.{AreBefore, all_ending, at_start, next_word, no_word, no_place, over_right, over_only}
 use Rattle.si_token.proofs.Added.{adds_parts, parts_ended}
 use Rattle.si_token.proofs.Loop.{some_rest, no_rest, laid_at, turned, not_turned, end_is, ended}
-use Rattle.si_token.proofs.Slices.{AreParts, parts_first, at_first, behind_word, line_behind, parts_kept, ends_in}
+use Rattle.si_token.proofs.Slices.{AreParts, parts_first, at_first, word_dropped, line_after, parts_kept, ends_in}
 use Rattle.si_token.proofs.scan.tokens.Goals as goal
 
 -- an error goes on by `?`
@@ -60,9 +60,9 @@ loop-rest-preserved c =
       utf8 = word.utf8;
       at = omega (arith, at, parts, whole);
       within = record { line = omega (arith, at, few, small); column = c.laid.ensures.within.column; brackets = c.laid.ensures.within.brackets };
-      line = line_behind c.args.text.now c.loop-rest.rest.now c.loop-rest.place.at (length front) c.loop-rest.place.line c.line_ends.result
+      line = line_after c.args.text.now c.loop-rest.rest.now c.loop-rest.place.at (length front) c.loop-rest.place.line c.line_ends.result
           c.loop-rest.invariant.left c.loop-rest.invariant.line ends ∙ ap (line_at c.args.text.now) (sym at);
-      left = ap (λ n. drop n c.args.text.now) at ∙ behind_word c.args.text.now front after c.loop-rest.place.at left;
+      left = ap (λ n. drop n c.args.text.now) at ∙ word_dropped c.args.text.now front after c.loop-rest.place.at left;
       parts = subst (AreParts c.args.text.now c.keep.new.all.items) (sym at)
           (parts_kept c.args.text.now front after c.before_word.new.all.items c.keep.new.all.items c.loop-rest.place.at c.loop-rest.place.line c.laid.result.0 left c.loop-rest.invariant.line c.laid.ensures.part c.in_ok-keep.ensures
           (adds_parts c.args.text.now c.loop-rest.rest.now c.loop-rest.place.at c.loop-rest.place.line begun.kinds c.loop-rest.all.items c.before_word.new.all.items c.loop-rest.invariant.left c.loop-rest.invariant.line begun.adds c.loop-rest.invariant.parts));

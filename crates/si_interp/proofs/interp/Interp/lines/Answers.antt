@@ -10,7 +10,7 @@ use Rattle.si_interp.specs.declared.interp.State.{State}
 use Rattle.si_interp.specs.inner.Keeps.{Keeps, moment_of}
 use Rattle.si_interp.specs.inner.Lines.{LastLine, LinesLed}
 use Rattle.si_interp.proofs.Keeping.{came_silent, comes, going, keeps_came, keeps_going, keeps_refused, stands_ready}
-use Rattle.si_interp.proofs.Lines.{IsReady, keeps_still, last_line, ready_now, stepped_asks, stepped_local, stepped_starved}
+use Rattle.si_interp.proofs.Lines.{keeps_still, last_line, ready_now, stepped_asks, stepped_local, stepped_starved}
 use Rattle.si_interp.proofs.interp.Interp.lines.Goals as goal
 use Rattle.si_interp.proofs.interp.Interp.lines.Goals.{In_default, In-Local, In-Starved}
 

@@ -1,6 +1,6 @@
 use Rattle.std.proofs.Common.{rules}
 use Rattle.std.proofs.lemmas.Str.{chars_from_encodes}
-use Rattle.si_ops.proofs.shown.count_behind.Goals as goal
+use Rattle.si_ops.proofs.shown.count_after.Goals as goal
 
 pub returns : goal.returns
 returns c = search (rules, chars_from_encodes)

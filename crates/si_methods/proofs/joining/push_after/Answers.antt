@@ -2,7 +2,7 @@ use Rattle.std.proofs.Common.{◌≡◌, ◌≤◌, ◌<◌, ◌+◌, ◌-◌, �
 use Rattle.si_semantics.specs.Text.{max_length}
 use Rattle.si_arena.specs.Texts.{characters_in}
 use Rattle.si_methods.proofs.Joined.{goes_on, counts_exactly, counts_past}
-use Rattle.si_methods.proofs.joining.push_behind.Goals as goal
+use Rattle.si_methods.proofs.joining.push_after.Goals as goal
 
 pub returns-then-more-gt-MAX_STR_LENGTH : goal.returns-then-more-gt-MAX_STR_LENGTH
 returns-then-more-gt-MAX_STR_LENGTH c = λ done h.
