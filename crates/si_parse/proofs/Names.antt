@@ -14,10 +14,10 @@ use Rattle.si_parse.proofs.Lists.{le_from, le_to, added, Pairwise, separated_sou
 
 -- ---- names with commas between them
 
-abbrev with_name : List Text → Text → List Text
-with_name xs x = xs ++ x ∷ []
+abbrev with_next : List Text → Text → List Text
+with_next xs x = xs ++ x ∷ []
 
-added_names : (xs ys : List Text) → added with_name xs ys ≡ xs ++ ys
+added_names : (xs ys : List Text) → added with_next xs ys ≡ xs ++ ys
 added_names xs [] = sym (append-nil xs)
 added_names xs (y ∷ ys) = added_names (xs ++ y ∷ []) ys ∙ append_assoc xs (y ∷ []) ys
 
@@ -25,7 +25,7 @@ abbrev AfterComma : Text → List Terminal → Type 0
 AfterComma = After (Sign token.Comma) IsName
 
 abbrev NextRead : List Text → List Terminal → List Text × List Terminal → Type 0
-NextRead xs ts r = (x : Text) × (f : List Terminal) × (r.0 ≡ with_name xs x) × (ts ≡ f ++ r.1) × AfterComma x f
+NextRead xs ts r = (x : Text) × (f : List Terminal) × (r.0 ≡ with_next xs x) × (ts ≡ f ++ r.1) × AfterComma x f
 
 next_reads : (xs : List Text) (ts : List Terminal) (r : List Text × List Terminal) → next_name_by xs ts ≡ Some r → NextRead xs ts r
 next_reads xs ts r h =
@@ -43,7 +43,7 @@ next_reads xs ts r h =
 pub names_reads : (ts : List Terminal) (r : List Text × List Terminal) → names_by ts ≡ Some r → (f : List Terminal) × (ts ≡ f ++ r.1) × Names r.0 f
 names_reads ts r h =
     let n = then_read_some (name_at ts) (λ n. many_by next_name_by no_comma (length n.1) (n.0 ∷ []) n.1) r h in
-    let m = many_sound with_name next_name_by no_comma AfterComma next_reads (length n.0.1) (n.0.0 ∷ []) n.0.1 r n.2 in
+    let m = many_sound with_next next_name_by no_comma AfterComma next_reads (length n.0.1) (n.0.0 ∷ []) n.0.1 r n.2 in
     let P : List Text → Type 0 = λ l. Names l (NAME n.0.0 ∷ m.1) in
     let all : r.0 ≡ n.0.0 ∷ m.0 = m.2 ∙ added_names (n.0.0 ∷ []) m.0 in
     (NAME n.0.0 ∷ m.1, name_at_some ts n.0 n.1 ∙ ap (λ t. NAME n.0.0 ∷ t) m.3, subst P (sym all) (m.1, refl, m.4))
@@ -51,7 +51,7 @@ names_reads ts r h =
 abbrev Any : List Terminal → Type 0
 Any ts = Unit {0}
 
-next_name : (xs : List Text) (x : Text) (f more : List Terminal) → AfterComma x f → Any more → (next_name_by xs (f ++ more) ≡ Some (with_name xs x, more)) × (no_comma (f ++ more) ≡ false) × (0 < length f)
+next_name : (xs : List Text) (x : Text) (f more : List Terminal) → AfterComma x f → Any more → (next_name_by xs (f ++ more) ≡ Some (with_next xs x, more)) × (no_comma (f ++ more) ≡ false) × (0 < length f)
 next_name xs x f more h any = (
   ap (λ t. next_name_by xs (t ++ more)) h.1 ∙ ap (λ t. then_read (name_at (t ++ more)) (and_name xs)) h.2,
   ap (λ t. no_comma (t ++ more)) h.1,
@@ -63,7 +63,7 @@ names_complete [] f more h some over = absurd h
 names_complete (x ∷ xs) f more h some over =
     let fuel : length h.0 < length (h.0 ++ more) = omega (arith, length-append h.0 more) in
     ap (λ t. names_by (t ++ more)) h.1
-    ∙ many_complete with_name next_name_by no_comma AfterComma Any (λ x f more h any. tt) next_name (length (h.0 ++ more)) (x ∷ []) xs h.0 more fuel h.2 tt over
+    ∙ many_complete with_next next_name_by no_comma AfterComma Any (λ x f more h any. tt) next_name (length (h.0 ++ more)) (x ∷ []) xs h.0 more fuel h.2 tt over
     ∙ ap (λ l. Some (l, more)) (added_names (x ∷ []) xs)
 
 -- ---- parameters

@@ -230,24 +230,24 @@ name_reads x ts rest h =
     let c = cond_some (same_text n.0.0 x) n.0.1 rest n.2 in
     name_at_some ts n.0 n.1 ∙ ap (λ y. NAME y ∷ n.0.1) (same_is n.0.0 x c.0) ∙ ap (λ l. NAME x ∷ l) c.1
 
-import_reads : (x : Text) (ts rest : List Terminal) → after_import x ts ≡ Some rest → ts ≡ Word token.ImportWord ∷ (NAME x ∷ rest)
-import_reads x ts rest h =
+import_name_reads : (x : Text) (ts rest : List Terminal) → after_import x ts ≡ Some rest → ts ≡ Word token.ImportWord ∷ (NAME x ∷ rest)
+import_name_reads x ts rest h =
     let s = then_read_some (after (Word token.ImportWord) ts) (after_name x) rest h in after_import_some ts s.0 s.1 ∙ ap (λ l. Word token.ImportWord ∷ l) (name_reads x s.0 rest s.2)
 
-from_reads : (x : Text) (ts rest : List Terminal) → after_from x ts ≡ Some rest → ts ≡ Word token.FromWord ∷ (NAME x ∷ rest)
-from_reads x ts rest h =
+from_name_reads : (x : Text) (ts rest : List Terminal) → after_from x ts ≡ Some rest → ts ≡ Word token.FromWord ∷ (NAME x ∷ rest)
+from_name_reads x ts rest h =
     let s = then_read_some (after (Word token.FromWord) ts) (after_name x) rest h in after_from_some ts s.0 s.1 ∙ ap (λ l. Word token.FromWord ∷ l) (name_reads x s.0 rest s.2)
 
 imported_reads : (ts : List Terminal) (o p : Option (List Terminal)) → after_import (codes "threading") ts ≡ o → after_interpreters ts ≡ p → (i : ModuleName × List Terminal) → imported o p ≡ Some i → SmallRead ts (tree.Import i.0, i.1)
 imported_reads ts (Some rest) p is also i h =
     let P : ModuleName × List Terminal → Type 0 = λ i. SmallRead ts (tree.Import i.0, i.1) in
-    subst P (some_inj (Threading, rest) i h) (import_of Threading, import_reads (codes "threading") ts rest is, refl)
+    subst P (some_inj (Threading, rest) i h) (import_of Threading, import_name_reads (codes "threading") ts rest is, refl)
 imported_reads ts None (Some rest) is also i h =
     let P : ModuleName × List Terminal → Type 0 = λ i. SmallRead ts (tree.Import i.0, i.1) in
     let s = then_read_some (after_from (codes "concurrent") ts) (after_import (codes "interpreters")) rest also in
     subst P (some_inj (Interpreters, rest) i h) (
       import_of Interpreters,
-      from_reads (codes "concurrent") ts s.0 s.1 ∙ ap (λ l. Word token.FromWord ∷ (NAME (codes "concurrent") ∷ l)) (import_reads (codes "interpreters") s.0 rest s.2),
+      from_name_reads (codes "concurrent") ts s.0 s.1 ∙ ap (λ l. Word token.FromWord ∷ (NAME (codes "concurrent") ∷ l)) (import_name_reads (codes "interpreters") s.0 rest s.2),
       refl,
     )
 imported_reads ts None None is also i h = cc
