@@ -1,11 +1,10 @@
 -- The functions of a script, one after the other.
 use Rattle.std.proofs.Common.{◌≡◌, ℕ, ◌+◌, ◌<◌, ◌≤◌, List, [], ◌∷◌, ◌++◌, map, length, drop, get_or, Option, Some, None, string_bytes, refl, sym, ap, subst, ◌∙◌, append_assoc, append-nil, length-append, arith}
-use Rattle.std.specs.List.{filter_map, flat_map, fold}
+use Rattle.std.specs.List.{flat_map, fold}
 use Rattle.std.specs.Prelude.{slice_get}
 use Rattle.std.specs.Option.{option_map}
 use Rattle.std.proofs.lemmas.Grind.{flat_map-append}
 use Rattle.std.proofs.lemmas.List.{drop_all, length-map, map-append}
-use Rattle.std.proofs.lemmas.List.Elements.{filter_map-append}
 use Rattle.std.proofs.lemmas.List.Sums.{fold-append}
 use Rattle.std.proofs.lemmas.Option.{slice_get-map}
 use Rattle.si_plain.specs.Names.{with_name}
@@ -26,7 +25,7 @@ use Rattle.si_slots.specs.Code.{stmts_code, function_code, functions_code, entri
 use Rattle.si_slots.specs.Contents.{Contents}
 use Rattle.si_slots.specs.Machine as machine
 use Rattle.si_slots.specs.declared.routine.Routine.{Routine}
-use Rattle.si_slots.specs.Views.{code_of, entry_of, entries_of, literal_of, names_of, table_of, Gains}
+use Rattle.si_slots.specs.Views.{code_of, entry_of, entries_of, literals_of, names_of, table_of, Gains}
 use Rattle.si_slots.proofs.Gained.{Gains-append, length-code_of}
 use Rattle.si_emit.specs.inner.Functions.{StandAt, GainsRoutines, GainsFunctions}
 use Rattle.si_emit.proofs.Seen.{finally_seen, elif_defines}
@@ -50,7 +49,7 @@ closed_matches a b closed = record { lines = ap code_of closed; literals = ap (�
 Gains-between : (a b c d : Contents) (xs : List machine.Instr) → Matches a b → Gains b c xs → Matches c d → GainsRoutines a d xs []
 Gains-between a b c d xs before h after = record {
   lines = after.lines ∙ h.lines ∙ ap (λ l. l ++ xs) before.lines;
-  literals = after.literals ∙ h.literals ∙ ap (λ l. l ++ filter_map literal_of xs) before.literals;
+  literals = after.literals ∙ h.literals ∙ ap (λ l. l ++ flat_map literals_of xs) before.literals;
   names = after.names ∙ h.names ∙ ap (λ l. fold with_name l (flat_map names_of xs)) before.names;
   more = ap (map entry_of) (after.routines ∙ h.routines ∙ before.routines) ∙ sym (append-nil (entries_of a));
 }
@@ -59,7 +58,7 @@ Gains-between a b c d xs before h after = record {
 GainsRoutines-append : (a b c : Contents) (xs ys : List machine.Instr) (es fs : List machine.Entry) → GainsRoutines a b xs es → GainsRoutines b c ys fs → GainsRoutines a c (xs ++ ys) (es ++ fs)
 GainsRoutines-append a b c xs ys es fs h k = record {
   lines = k.lines ∙ ap (λ l. l ++ ys) h.lines ∙ append_assoc (code_of a) xs ys;
-  literals = k.literals ∙ ap (λ l. l ++ filter_map literal_of ys) h.literals ∙ append_assoc a.literals (filter_map literal_of xs) (filter_map literal_of ys) ∙ ap (λ l. a.literals ++ l) (sym (filter_map-append literal_of xs ys));
+  literals = k.literals ∙ ap (λ l. l ++ flat_map literals_of ys) h.literals ∙ append_assoc a.literals (flat_map literals_of xs) (flat_map literals_of ys) ∙ ap (λ l. a.literals ++ l) (sym (flat_map-append literals_of xs ys));
   names = k.names ∙ ap (λ l. fold with_name l (flat_map names_of ys)) h.names ∙ sym (fold-append with_name a.names (flat_map names_of xs) (flat_map names_of ys)) ∙ ap (fold with_name a.names) (sym (flat_map-append names_of xs ys));
   more = k.more ∙ ap (λ l. l ++ fs) h.more ∙ append_assoc (entries_of a) es fs;
 }

@@ -6,3 +6,4 @@ pub mod Functions
 pub mod Clauses
 pub mod Silence
 pub mod Stores
+pub mod Sums

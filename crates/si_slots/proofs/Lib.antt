@@ -2,6 +2,7 @@ pub mod Temporaries
 pub mod Steps
 pub mod Refusals
 pub mod Operands
+pub mod Sums
 pub mod Exprs
 pub mod Blocks
 pub mod Raising
@@ -27,6 +28,7 @@ pub mod Codes
 pub mod Growth
 pub mod Taken
 pub mod Gained
+pub mod Gathered
 pub mod Jumped
 pub mod Fetched
 pub mod Fulls

@@ -5,7 +5,7 @@ ghost use Rattle.si_slots.specs.CodeCases.{CodeCases};
 ghost use Rattle.si_slots.specs.Interpreter.{StaysAfter, AfterShows};
 ghost use Rattle.si_slots.specs.Laws.{AnswersWait, OnePieceALine, OneMoment};
 
-/// The worked cases of code: which instructions four functions have.
+/// The worked cases of code: which instructions some functions have.
 pub fn worked_code()
     ensures { CodeCases }
 {}

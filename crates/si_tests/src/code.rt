@@ -104,25 +104,33 @@ fn instruction_by_instruction(rt: HostRuntime) -> Result<(), Fail> {
 }
 
 // The code of two texts, of which the second uses the names of the first.
-const SHARED: [FullInstr; 6] = [
+const SHARED: [FullInstr; 7] = [
     FullInstr::StoreGlobal(0, Source::Global(1)),
     FullInstr::Finish,
-    FullInstr::LoadGlobal(Target::Temporary(0), 0),
-    FullInstr::Copy(Target::Temporary(1), Source::Literal(Constant::Placed(0))),
+    // b = a ** 'c'
     FullInstr::Binary(
         BinaryOperator::Power,
         Target::Temporary(0),
-        Source::Temporary(0),
-        Source::Temporary(1),
+        Source::Global(0),
+        Source::Literal(Constant::Placed(0)),
     ),
     FullInstr::StoreGlobal(1, Source::Temporary(0)),
+    // b = b[a + 1]
+    FullInstr::SubscriptSum(
+        Target::Temporary(0),
+        Source::Global(1),
+        Source::Global(0),
+        1,
+    ),
+    FullInstr::StoreGlobal(1, Source::Temporary(0)),
+    FullInstr::Finish,
 ];
 
 #[test]
 fn texts_share_slots(rt: HostRuntime) -> Result<(), Fail> {
     let mut table = CodeTable::new(rt.alloc());
     let first = add(rt.alloc(), &mut table, "a = b\n")?;
-    let second = add(rt.alloc(), &mut table, "b = a ** 'c'\n")?;
+    let second = add(rt.alloc(), &mut table, "b = a ** 'c'\nb = b[a + 1]\n")?;
     assert!(rt; (first, second) == (0, 2) && has_names(&table, &["a", "b"]));
     assert_eq!(rt; first_other(&table, &SHARED), None);
     Ok(())
@@ -130,7 +138,7 @@ fn texts_share_slots(rt: HostRuntime) -> Result<(), Fail> {
 
 // Whether a table has the code of `a = 'x'` and no other.
 fn has_one_text(table: &CodeTable) -> bool {
-    table.len() == 3 && has_names(table, &["a"]) && has_literals(table, &["x"])
+    table.len() == 2 && has_names(table, &["a"]) && has_literals(table, &["x"])
 }
 
 // For runs in which an allocation is refused: a table then is as it was, and serves again.
@@ -149,7 +157,7 @@ fn refused_memory_leaves_no_half_of_a_try(rt: HostRuntime) -> Result<(), Fail> {
         }
     };
     let (text, statement) = (1, 0);
-    assert!(rt; at == 3 && table.spot(at) == Some(Spot { text, statement }));
+    assert!(rt; at == 2 && table.spot(at) == Some(Spot { text, statement }));
     assert!(rt; has_literals(&table, &["x", "y", "z"]));
     Ok(())
 }

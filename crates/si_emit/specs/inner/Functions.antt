@@ -1,12 +1,12 @@
 -- The functions of a script, one after the other. Devices of the proofs: si_slots/specs/Code.antt says what their code is.
 use Rattle.std.specs.Prelude.{◌≡◌, ℕ, ◌+◌, List, [], ◌∷◌, ◌++◌, length, Some, slice_get}
-use Rattle.std.specs.List.{filter_map, flat_map, fold}
+use Rattle.std.specs.List.{flat_map, fold}
 use Rattle.si_plain.specs.Names.{with_name}
 use Rattle.si_semantics.specs.Tree.{Function}
 use Rattle.si_slots.specs.Code.{functions_code, entries_from}
 use Rattle.si_slots.specs.Contents.{Contents}
 use Rattle.si_slots.specs.Machine as machine
-use Rattle.si_slots.specs.Views.{code_of, entries_of, literal_of, names_of}
+use Rattle.si_slots.specs.Views.{code_of, entries_of, literals_of, names_of}
 
 -- the functions stand in a row among all, the first of them at this number
 abbrev pub StandAt : List Function → ℕ → List Function → Type 0
@@ -17,7 +17,7 @@ StandAt all number (f ∷ fs) = (slice_get all number ≡ Some f) × StandAt all
 -- entries; the function whose code is being added may be another
 pub record GainsRoutines (old new : Contents) (code : List machine.Instr) (entries : List machine.Entry) : Type 0 where
   pub lines : code_of new ≡ code_of old ++ code
-  pub literals : new.literals ≡ old.literals ++ filter_map literal_of code
+  pub literals : new.literals ≡ old.literals ++ flat_map literals_of code
   pub names : new.names ≡ fold with_name old.names (flat_map names_of code)
   pub more : entries_of new ≡ entries_of old ++ entries
 
