@@ -14,7 +14,7 @@ use Rattle.si_semantics.specs.Subscription.{subscript}
 use Rattle.si_semantics.specs.Attributes.{Method, attribute, called, method_of, call_method}
 use Rattle.si_semantics.specs.Operations.{Iterator, Next, Item, Exhausted, Refuses, is_true}
 use Rattle.si_semantics.specs.Meaning.{Leave, choose, decides, slot_at}
-use Rattle.si_slots.specs.Machine.{Source, Local, Global, Temporary, Kept, Literal, Target, ToTemporary, ToLocal, ToJump, ToNowhere, Instr, Block, Place, At, Calling, Taking, Ending, Closed, Line, Entry, Stamped, Course, next, on, stamped, act, aimed, below, bound, calls, calls_by, calls_method, defined, ends_finally, enters, fetched, gives_item, goes, having, lands, on_callee, raises, reads, starts_for, stuck, unpacks, yields}
+use Rattle.si_slots.specs.Machine.{Source, Local, Global, Temporary, Kept, Literal, Target, ToTemporary, ToLocal, ToJump, ToNowhere, Instr, Block, Place, At, Calling, Taking, Ending, Closed, Line, Entry, Stamped, Course, next, on, stamped, act, aimed, below, bound, calls, calls_by, calls_method, defined, ends_finally, enters, fetched, gives_item, goes, having, lands, on_callee, raises, reads, starts_for, stuck, unpacks, yields, subscripts}
 use Rattle.si_slots.specs.Machine as machine
 use Rattle.si_slots.specs.Code.{compiled}
 use Rattle.si_slots.specs.Shows.{standing_of, texts}
@@ -52,6 +52,11 @@ silent_yields : (r : Ran) (g : Target) (pc : ℕ) (ts : List Value) (slots : Lis
 silent_yields (Gave v out w) g pc ts slots bs = λ n. absurd (n (lands_line g v w pc ts slots bs))
 silent_yields (Threw k v w) g pc ts slots bs = λ n. refl
 silent_yields (Asked r w) g pc ts slots bs = λ n. refl
+
+silent_subscripts : (r : Ran) (u : Value) (g : Target) (pc : ℕ) (ts : List Value) (slots : List (Option Value)) (bs : List Block) → Silent (subscripts r u g pc ts slots bs)
+silent_subscripts (Gave v out w) u g pc ts slots bs = silent_yields (subscript u v w) g pc ts slots bs
+silent_subscripts (Threw k v w) u g pc ts slots bs = silent_yields (Threw k v w) g pc ts slots bs
+silent_subscripts (Asked r w) u g pc ts slots bs = silent_yields (Asked r w) g pc ts slots bs
 
 silent_having : (v : Option Value) (w : World) (go : Value → Line) → ((u : Value) → Silent (go u)) → Silent (having v w go)
 silent_having None w go h = λ n. refl
@@ -140,6 +145,8 @@ silent_act es (machine.Binary u g a b) next ts slots bs w = silent_reads a ts sl
 silent_act es (machine.AddInPlace g a b) next ts slots bs w = silent_reads a ts slots bs w _ (λ v. silent_reads b ts slots bs w _ (λ z. silent_yields (augment Add v z w) g next (below a (below b ts)) slots bs))
 silent_act es (machine.Compare u g a b) next ts slots bs w = silent_reads a ts slots bs w _ (λ v. silent_reads b ts slots bs w _ (λ z. silent_yields (operations.compare u v z w) g next (below a (below b ts)) slots bs))
 silent_act es (machine.Subscript g a b) next ts slots bs w = silent_reads a ts slots bs w _ (λ v. silent_reads b ts slots bs w _ (λ z. silent_yields (subscript v z w) g next (below a (below b ts)) slots bs))
+silent_act es (machine.SubscriptSum g a b n) next ts slots bs w =
+    silent_reads a ts slots bs w _ (λ v. silent_reads b ts slots bs w _ (λ z. silent_subscripts (operations.operate Add z (value.Int n) w) v g next (below a (below b ts)) slots bs))
 silent_act es (machine.StoreItem a b c) next ts slots bs w =
     silent_reads a ts slots bs w _ (λ x. silent_reads b ts slots bs w _ (λ v. silent_reads c ts slots bs w _ (λ z. silent_yields (set_item v z x w) ToNowhere next (below a (below b (below c ts))) slots bs)))
 silent_act es (machine.DeleteItem a b) next ts slots bs w = silent_reads a ts slots bs w _ (λ v. silent_reads b ts slots bs w _ (λ z. silent_yields (delete_item v z w) ToNowhere next (below a (below b ts)) slots bs))
