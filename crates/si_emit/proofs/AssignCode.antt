@@ -32,6 +32,12 @@ store_is (Some a) (Some b) None code = refl
 store_is (Some a) None c code = refl
 store_is None b c code = refl
 
+-- no one instruction, where the object does not lie in place
+pub object_not_stored : (o p r : Option Source) → None ≡ p → stored o p r ≡ None
+object_not_stored (Some a) (Some b) r h = absurd cc
+object_not_stored (Some a) None r h = refl
+object_not_stored None p r h = refl
+
 -- none does it, where the index is not in place
 pub not_stored : (a b c : Option Source) (s t : Source) → Some s ≡ a → Some t ≡ b → None ≡ c → stored a b c ≡ None
 not_stored a b c s t is_a is_b is_c = ap (λ o. stored o b c) (sym is_a) ∙ ap (λ o. stored (Some s) o c) (sym is_b) ∙ ap (stored (Some s) (Some t)) (sym is_c)

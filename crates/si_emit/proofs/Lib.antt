@@ -1,4 +1,6 @@
 pub mod Fronts
+pub mod Foldings
+pub mod Sums
 pub mod Emitted
 pub mod Branches
 pub mod Places

@@ -7,3 +7,4 @@ pub mod Clauses
 pub mod Silence
 pub mod Stores
 pub mod Sums
+pub mod Foldings

@@ -4,7 +4,7 @@
 // code and the functions that si_slots/specs/Code.antt gives the script's tree; or memory was refused, and the table is as
 // it was. Within the crate a refused call may leave the table with more than it had: `compile` returns to a mark.
 //
-// In reading order: `operand`, where the operand of an instruction lies; `expression`, the code of each expression and
+// In reading order: `folding`, constants that are computed; `operand`, where the operand of an instruction lies; `expression`, the code of each expression and
 // of a test; `condition`, the tests of statements, with `and` and `or`; `naming`, how names are bound; `targets`, how
 // targets are bound to what lies in temporaries; `assigning`, `updating` and `simple`, statements without suites; `suite`,
 // statements one after another; `silence`, which of them have no code; `choosing`, the code of `if`; `repeats` and
@@ -16,6 +16,7 @@ mod assigning;
 mod choosing;
 mod condition;
 mod expression;
+mod folding;
 mod handlers;
 mod loops;
 mod naming;

@@ -1,6 +1,7 @@
 pub mod Temporaries
 pub mod Steps
 pub mod Refusals
+pub mod Folded
 pub mod Operands
 pub mod Sums
 pub mod Exprs

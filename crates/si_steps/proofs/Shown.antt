@@ -42,7 +42,7 @@ global_here m (z ∷ names) (r ∷ cells) (suc k) x y d e at this =
     let long : length cells ≡ length names = omega (arith, e) in
     global_here m names cells k x y d long at this
 
--- after all slots each name is as at first
+-- past all slots each name is as at first
 pub global_first : (m : Memory) (names : List Text) (cells : List Ref) (k : ℕ) (y : Text) → length names ≤ k → global_of m (drop k names) cells y ≡ (first_world 0).globals y
 global_first m [] cells zero y h = refl
 global_first m [] cells (suc k) y h = refl

@@ -74,7 +74,7 @@ const OF_TWO_LINES: [FullInstr; 8] = [
     FullInstr::Unary(
         UnaryOperator::Minus,
         Target::Temporary(0),
-        Source::Literal(Constant::Int(1)),
+        Source::Global(0),
     ),
     FullInstr::Binary(
         BinaryOperator::Add,
@@ -84,8 +84,9 @@ const OF_TWO_LINES: [FullInstr; 8] = [
     ),
     FullInstr::StoreGlobal(0, Source::Temporary(0)),
     FullInstr::LoadGlobal(Target::Temporary(0), 1),
-    FullInstr::LoadGlobal(Target::Temporary(1), 0),
-    FullInstr::Copy(Target::Temporary(2), Source::Literal(Constant::Placed(0))),
+    // 'a' 'b' * 2 and -1 are computed
+    FullInstr::Copy(Target::Temporary(1), Source::Literal(Constant::Placed(0))),
+    FullInstr::Copy(Target::Temporary(2), Source::Literal(Constant::Int(-1))),
     FullInstr::Call(Target::Nowhere, 0, 2),
     FullInstr::Finish,
 ];
@@ -94,11 +95,15 @@ const OF_TWO_LINES: [FullInstr; 8] = [
 fn instruction_by_instruction(rt: HostRuntime) -> Result<(), Fail> {
     let mut table = CodeTable::new(rt.alloc());
     assert!(rt; table.is_empty());
-    let at = add(rt.alloc(), &mut table, "x = -1 + 2\nprint(x, 'a' 'b')\n")?;
+    let at = add(
+        rt.alloc(),
+        &mut table,
+        "x = -x + 2\nprint('a' 'b' * 2, -1)\n",
+    )?;
     assert!(rt; at == 0 && table.len() == OF_TWO_LINES.len());
     assert_eq!(rt; first_other(&table, &OF_TWO_LINES), None);
     assert!(rt; table.instruction(OF_TWO_LINES.len()).is_none());
-    assert!(rt; has_names(&table, &["x", "print"]) && has_literals(&table, &["ab"]));
+    assert!(rt; has_names(&table, &["x", "print"]) && has_literals(&table, &["abab"]));
     table.facts();
     Ok(())
 }
