@@ -49,20 +49,20 @@ extends_more {a = a} {b = b} {c = c} p q = record {
 pub value-lasts : {old new : Memory} (r : Ref) → Lasts old new → Lies old r → value_of new r ≡ value_of old r
 value-lasts value.Unbound e h = absurd h
 value-lasts value.None e h = refl
-value-lasts (value.Truth b) e h = refl
+value-lasts (value.Truth at b) e h = refl
 value-lasts (value.Int n) e h = refl
 value-lasts (value.Short s) e h = refl
 value-lasts {old = old} {new = new} (value.Narrow n i) e h = ap pure.Str (text-grows old.texts new.texts (value.Narrow n i) e.texts h)
 value-lasts {old = old} {new = new} (value.Wide n i) e h = ap pure.Str (text-grows old.texts new.texts (value.Wide n i) e.texts h)
 value-lasts (value.ShortBytes s) e h = refl
 value-lasts {old = old} {new = new} (value.Bytes n i) e h = ap pure.Bytes (text-grows old.texts new.texts (value.Narrow n i) e.texts h)
-value-lasts (value.BuiltIn b) e h = refl
+value-lasts (value.BuiltIn at b) e h = refl
 value-lasts {old = old} {new = new} (value.Function n x) e h =
     ap (λ t. pure.Function t n) (ap (λ xs. get_or xs x []) e.names.1 ∙ get_or_append_left old.names e.names.0 [] x h)
 value-lasts {old = old} {new = new} (value.Range p) e h = ap (λ xs. get_or xs p pure.Nothing) e.ranges.1 ∙ get_or_append_left old.ranges e.ranges.0 pure.Nothing p h
 value-lasts {old = old} {new = new} (value.Tuple p) e h = ap (λ xs. get_or xs p pure.Nothing) e.tuples.1 ∙ get_or_append_left old.tuples e.tuples.0 pure.Nothing p h
-value-lasts (value.Kind k) e h = refl
-value-lasts (value.Module mo) e h = refl
+value-lasts (value.Kind at k) e h = refl
+value-lasts (value.Module at mo) e h = refl
 value-lasts (value.Queue qu qm) e h = refl
 value-lasts (value.Interpreter it) e h = refl
 value-lasts (value.Exec it) e h = refl
@@ -72,19 +72,19 @@ value-lasts (value.Object x) e h = refl
 pub lies-extends : {old new : Memory} (r : Ref) → Extends old new → Lies old r → Lies new r
 lies-extends value.Unbound e h = h
 lies-extends value.None e h = h
-lies-extends (value.Truth b) e h = h
+lies-extends (value.Truth at b) e h = h
 lies-extends (value.Int n) e h = h
 lies-extends (value.Short s) e h = h
 lies-extends {old = old} {new = new} (value.Narrow n i) e h = text_lies-grows old.texts new.texts (value.Narrow n i) e.lasts.texts h
 lies-extends {old = old} {new = new} (value.Wide n i) e h = text_lies-grows old.texts new.texts (value.Wide n i) e.lasts.texts h
 lies-extends (value.ShortBytes s) e h = h
 lies-extends {old = old} {new = new} (value.Bytes n i) e h = text_lies-grows old.texts new.texts (value.Narrow n i) e.lasts.texts h
-lies-extends (value.BuiltIn b) e h = h
+lies-extends (value.BuiltIn at b) e h = h
 lies-extends {old = old} {new = new} (value.Function n x) e h = omega (arith, h, ap length e.lasts.names.1, length-append old.names e.lasts.names.0)
 lies-extends {old = old} {new = new} (value.Range p) e h = omega (arith, h, ap length e.lasts.ranges.1, length-append old.ranges e.lasts.ranges.0)
 lies-extends {old = old} {new = new} (value.Tuple p) e h = omega (arith, h, ap length e.lasts.tuples.1, length-append old.tuples e.lasts.tuples.0)
-lies-extends (value.Kind k) e h = h
-lies-extends (value.Module mo) e h = h
+lies-extends (value.Kind at k) e h = h
+lies-extends (value.Module at mo) e h = h
 lies-extends (value.Queue qu qm) e h = h
 lies-extends (value.Interpreter it) e h = h
 lies-extends (value.Exec it) e h = h
@@ -94,19 +94,19 @@ lies-extends {old = old} {new = new} (value.Object x) e h = omega (arith, h, e.o
 pub bound-lasts : {old new : Memory} (r : Ref) → Lasts old new → Holds old r → bound_of new r ≡ bound_of old r
 bound-lasts value.Unbound e h = refl
 bound-lasts value.None e h = refl
-bound-lasts (value.Truth b) e h = refl
+bound-lasts (value.Truth at b) e h = refl
 bound-lasts (value.Int n) e h = refl
 bound-lasts (value.Short s) e h = refl
 bound-lasts (value.Narrow n i) e h = ap (λ v. Some v) (value-lasts (value.Narrow n i) e h)
 bound-lasts (value.Wide n i) e h = ap (λ v. Some v) (value-lasts (value.Wide n i) e h)
 bound-lasts (value.ShortBytes s) e h = refl
 bound-lasts (value.Bytes n i) e h = ap (λ v. Some v) (value-lasts (value.Bytes n i) e h)
-bound-lasts (value.BuiltIn b) e h = refl
+bound-lasts (value.BuiltIn at b) e h = refl
 bound-lasts (value.Function n x) e h = ap (λ v. Some v) (value-lasts (value.Function n x) e h)
 bound-lasts (value.Range p) e h = ap (λ v. Some v) (value-lasts (value.Range p) e h)
 bound-lasts (value.Tuple p) e h = ap (λ v. Some v) (value-lasts (value.Tuple p) e h)
-bound-lasts (value.Kind k) e h = refl
-bound-lasts (value.Module mo) e h = refl
+bound-lasts (value.Kind at k) e h = refl
+bound-lasts (value.Module at mo) e h = refl
 bound-lasts (value.Queue qu qm) e h = refl
 bound-lasts (value.Interpreter it) e h = refl
 bound-lasts (value.Exec it) e h = refl
@@ -115,19 +115,19 @@ bound-lasts (value.Object x) e h = refl
 pub holds-extends : {old new : Memory} (r : Ref) → Extends old new → Holds old r → Holds new r
 holds-extends value.Unbound e h = h
 holds-extends value.None e h = h
-holds-extends (value.Truth b) e h = h
+holds-extends (value.Truth at b) e h = h
 holds-extends (value.Int n) e h = h
 holds-extends (value.Short s) e h = h
 holds-extends (value.Narrow n i) e h = lies-extends (value.Narrow n i) e h
 holds-extends (value.Wide n i) e h = lies-extends (value.Wide n i) e h
 holds-extends (value.ShortBytes s) e h = h
 holds-extends (value.Bytes n i) e h = lies-extends (value.Bytes n i) e h
-holds-extends (value.BuiltIn b) e h = h
+holds-extends (value.BuiltIn at b) e h = h
 holds-extends (value.Function n x) e h = lies-extends (value.Function n x) e h
 holds-extends (value.Range p) e h = lies-extends (value.Range p) e h
 holds-extends (value.Tuple p) e h = lies-extends (value.Tuple p) e h
-holds-extends (value.Kind k) e h = h
-holds-extends (value.Module mo) e h = h
+holds-extends (value.Kind at k) e h = h
+holds-extends (value.Module at mo) e h = h
 holds-extends (value.Queue qu qm) e h = h
 holds-extends (value.Interpreter it) e h = h
 holds-extends (value.Exec it) e h = h
@@ -148,19 +148,19 @@ all_lie-extends (r ∷ rs) e h = (lies-extends r e h.0, all_lie-extends rs e h.1
 pub text_lies : (m : Memory) (r : Ref) → Lies m r → IsText r → TextLies m.texts r
 text_lies m value.Unbound h i = absurd i
 text_lies m value.None h i = absurd i
-text_lies m (value.Truth b) h i = absurd i
+text_lies m (value.Truth at b) h i = absurd i
 text_lies m (value.Int n) h i = absurd i
 text_lies m (value.Short s) h i = tt
 text_lies m (value.Narrow n k) h i = h
 text_lies m (value.Wide n k) h i = h
 text_lies m (value.ShortBytes s) h i = absurd i
 text_lies m (value.Bytes n k) h i = absurd i
-text_lies m (value.BuiltIn b) h i = absurd i
+text_lies m (value.BuiltIn at b) h i = absurd i
 text_lies m (value.Function n x) h i = absurd i
 text_lies m (value.Range p) h i = absurd i
 text_lies m (value.Tuple p) h i = absurd i
-text_lies m (value.Kind k) h i = absurd i
-text_lies m (value.Module mo) h i = absurd i
+text_lies m (value.Kind at k) h i = absurd i
+text_lies m (value.Module at mo) h i = absurd i
 text_lies m (value.Queue qu qm) h i = absurd i
 text_lies m (value.Interpreter it) h i = absurd i
 text_lies m (value.Exec it) h i = absurd i

@@ -72,7 +72,7 @@ impl Arena {
         }
     }
 
-    /// The str of these characters; at most 14 of them, all below 256, take no memory. `TooLong` where they are more than those of a str may be; unchanged where it is
+    /// The str of these characters; at most 11 of them, all below 256, take no memory. `TooLong` where they are more than those of a str may be; unchanged where it is
     /// refused.
     pub fn place_text(&mut self, text: &str) -> Result<Ref, Fault>
         ensures text { PlacesText (characters_of text.now) self.old self.new result }
@@ -82,7 +82,7 @@ impl Arena {
         self.texts.place(text)
     }
 
-    /// The characters of one str and then those of another (Python Language Reference 3.14, 6.7). At most 14 of them,
+    /// The characters of one str and then those of another (Python Language Reference 3.14, 6.7). At most 11 of them,
     /// all below 256, take no memory; where the first ends its row, and the second has room there, only the second is
     /// copied, and the rows come to no more characters than before and those of the second. `TooLong` where they are
     /// more than those of a str may be; unchanged where it is refused.
@@ -91,20 +91,20 @@ impl Arena {
         requires right { Lies self.old right }
         ensures text { PlacesText (text_of self.old.texts left ++ text_of self.old.texts right) self.old self.new result }
         ensures long { max_length < length (text_of self.old.texts left ++ text_of self.old.texts right) → IsTooLong result }
-        ensures short { IsNarrow left → IsNarrow right → length (text_of self.old.texts left) + length (text_of self.old.texts right) ≤ 14 → (self.new ≡ self.old) × IsOk result }
+        ensures short { IsNarrow left → IsNarrow right → length (text_of self.old.texts left) + length (text_of self.old.texts right) ≤ 11 → (self.new ≡ self.old) × IsOk result }
         ensures in_place { GoesOn self.old.texts left right → size_of self.new.texts ≤ size_of self.old.texts + length (text_of self.old.texts right) }
     {
         self.texts.join(left, right)
     }
 
     /// A str so many times (Python Standard Library 3.14, "Built-in Types": common sequence operations); a count below
-    /// 0 is as good as 0. At most 14 characters of a str that has no wide one take no memory. `TooLong` where it is
+    /// 0 is as good as 0. At most 11 characters of a str that has no wide one take no memory. `TooLong` where it is
     /// longer than a str may be; unchanged where it is refused.
     pub fn repeat(&mut self, text: Ref, count: i64) -> Result<Ref, Fault>
         requires { Lies self.old text }
         ensures text { PlacesText (repeated_text (text_of self.old.texts text) count) self.old self.new result }
         ensures long { max_length < length (repeated_text (text_of self.old.texts text) count) → IsTooLong result }
-        ensures short { IsNarrow text → length (repeated_text (text_of self.old.texts text) count) ≤ 14 → (self.new ≡ self.old) × IsOk result }
+        ensures short { IsNarrow text → length (repeated_text (text_of self.old.texts text) count) ≤ 11 → (self.new ≡ self.old) × IsOk result }
     {
         self.texts.repeat(text, count)
     }
@@ -118,18 +118,18 @@ impl Arena {
         self.texts.character(text, index)
     }
 
-    /// Bytes; at most 14 of them take no memory. `TooLong` where they are more than bytes may be; unchanged where it is
+    /// Bytes; at most 11 of them take no memory. `TooLong` where they are more than bytes may be; unchanged where it is
     /// refused.
     pub fn place_bytes(&mut self, bytes: &[u8]) -> Result<Ref, Fault>
         ensures bytes { PlacesBytes bytes.now self.old self.new result }
         ensures long { max_length < length bytes.now → IsTooLong result }
-        ensures short { length bytes.now ≤ 14 → (self.new ≡ self.old) × IsOk result }
+        ensures short { length bytes.now ≤ 11 → (self.new ≡ self.old) × IsOk result }
     {
         let placed = self.texts.place_narrow(bytes)?;
         Ok(bytes_of_text(placed))
     }
 
-    /// Some bytes and then others (Python Language Reference 3.14, 6.7). At most 14 of them take no memory; where the
+    /// Some bytes and then others (Python Language Reference 3.14, 6.7). At most 11 of them take no memory; where the
     /// first end the row, only the others are copied. `TooLong` where they are more than bytes may be; unchanged where it
     /// is refused.
     #[tactic(auto, using(crate::proofs::Growing::bytes_text_narrow))]
@@ -138,7 +138,7 @@ impl Arena {
         requires right { Lies self.old right }
         ensures bytes { PlacesBytes (bytes_of self.old.texts left ++ bytes_of self.old.texts right) self.old self.new result }
         ensures long { max_length < length (bytes_of self.old.texts left ++ bytes_of self.old.texts right) → IsTooLong result }
-        ensures short { length (bytes_of self.old.texts left) + length (bytes_of self.old.texts right) ≤ 14 → (self.new ≡ self.old) × IsOk result }
+        ensures short { length (bytes_of self.old.texts left) + length (bytes_of self.old.texts right) ≤ 11 → (self.new ≡ self.old) × IsOk result }
         ensures in_place { GoesOn self.old.texts (text_of_bytes left) (text_of_bytes right) → size_of self.new.texts ≤ size_of self.old.texts + length (bytes_of self.old.texts right) }
     {
         let joined = self.texts.join(text_of_bytes(left), text_of_bytes(right))?;
@@ -146,13 +146,13 @@ impl Arena {
     }
 
     /// Bytes so many times (Python Standard Library 3.14, "Built-in Types": common sequence operations); a count below 0
-    /// is as good as 0. At most 14 of them take no memory. `TooLong` where they are more than bytes may be; unchanged
+    /// is as good as 0. At most 11 of them take no memory. `TooLong` where they are more than bytes may be; unchanged
     /// where it is refused.
     pub fn repeat_bytes(&mut self, bytes: Ref, count: i64) -> Result<Ref, Fault>
         requires { Lies self.old bytes }
         ensures bytes { PlacesBytes (repeated_text (bytes_of self.old.texts bytes) count) self.old self.new result }
         ensures long { max_length < length (repeated_text (bytes_of self.old.texts bytes) count) → IsTooLong result }
-        ensures short { length (repeated_text (bytes_of self.old.texts bytes) count) ≤ 14 → (self.new ≡ self.old) × IsOk result }
+        ensures short { length (repeated_text (bytes_of self.old.texts bytes) count) ≤ 11 → (self.new ≡ self.old) × IsOk result }
     {
         let repeated = self.texts.repeat(text_of_bytes(bytes), count)?;
         Ok(bytes_of_text(repeated))
@@ -295,19 +295,19 @@ impl Arena {
         match value {
             Ref::Unbound => unreachable!(),
             Ref::None => View::None,
-            Ref::Truth(truth) => View::Truth(*truth),
+            Ref::Truth(_, truth) => View::Truth(*truth),
             Ref::Int(n) => View::Int(*n),
             Ref::Short(_) => View::Str(self.texts.characters(value)),
             Ref::Narrow { .. } => View::Str(self.texts.characters(value)),
             Ref::Wide { .. } => View::Str(self.texts.characters(value)),
             Ref::ShortBytes(_) => View::Bytes(self.bytes(value)),
             Ref::Bytes { .. } => View::Bytes(self.bytes(value)),
-            Ref::BuiltIn(built_in) => View::BuiltIn(*built_in),
+            Ref::BuiltIn(_, built_in) => View::BuiltIn(*built_in),
             Ref::Function { number, name } => View::Function(*number, &self.names[*name]),
             Ref::Range(place) => View::Range(&self.ranges[*place]),
             Ref::Tuple(place) => View::Tuple(self.tuples.items(*place)),
-            Ref::Kind(kind) => View::Kind(*kind),
-            Ref::Module(name) => View::Module(*name),
+            Ref::Kind(_, kind) => View::Kind(*kind),
+            Ref::Module(_, name) => View::Module(*name),
             Ref::Queue { id, maxsize } => View::Queue(*id, *maxsize),
             Ref::Interpreter(id) => View::Interpreter(*id),
             Ref::Exec(id) => View::Exec(*id),

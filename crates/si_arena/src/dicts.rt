@@ -104,7 +104,7 @@ fn by_parts(value: Ref) -> Ref
 {
     match value {
         Ref::Int(n) => Ref::Int(n),
-        Ref::Truth(truth) => Ref::Truth(truth),
+        Ref::Truth(at, truth) => Ref::Truth(at, truth),
         Ref::Function { number, name } => Ref::Function { number, name },
         value => value,
     }

@@ -48,5 +48,5 @@ pub use object::{Object, Steps};
 pub use refusal::Refusal;
 pub use short::Short;
 pub use tuples::Size;
-pub use value::{BuiltIn, Ref};
+pub use value::{AtWord, BuiltIn, Ref};
 pub use view::View;

@@ -3,14 +3,17 @@
 ghost use Rattle.std.specs.Prelude.{◌≤◌};
 
 use crate::characters::Characters;
+use crate::value::AtWord;
 use std::hash::{Hash, Hasher};
 
-/// A text of at most 14 characters, each of a code point below 256, so that it takes no memory of its own.
+/// A text of at most 11 characters, each of a code point below 256, so that it takes no memory of its own.
 #[derive(Clone, Copy, Debug)]
 pub struct Short {
+    // a word begins at the first byte
+    at: AtWord,
+    characters: [u8; 11],
     length: u8,
-    characters: [u8; 14],
-    ghost within: { length ≤ 14 },
+    ghost within: { length ≤ 11 },
 }
 
 impl Short {
@@ -20,15 +23,16 @@ impl Short {
     ghost use Rattle.si_arena.specs.Texts.{characters_in};
 
     /// The most characters that it has.
-    pub const CAPACITY: usize = 14;
+    pub const CAPACITY: usize = 11;
 
     /// The empty text.
     pub fn new() -> Short
         ensures { short_text result ≡ [] }
     {
         Short {
+            at: [],
+            characters: [0; 11],
             length: 0,
-            characters: [0; 14],
         }
     }
 
@@ -116,7 +120,7 @@ impl Short {
 
     /// One more character at its end.
     pub fn push(&mut self, c: u8)
-        requires { length (short_text self.old) < 14 }
+        requires { length (short_text self.old) < 11 }
         ensures { short_text self.new ≡ short_text self.old ++ c ∷ [] }
     {
         self.characters[self.length as usize] = c;
@@ -125,7 +129,7 @@ impl Short {
 
     /// More characters at its end.
     pub fn append(&mut self, characters: &[u8])
-        requires { length (short_text self.old) + length characters.now ≤ 14 }
+        requires { length (short_text self.old) + length characters.now ≤ 11 }
         ensures { short_text self.new ≡ short_text self.old ++ characters.now }
     {
         for c in characters {

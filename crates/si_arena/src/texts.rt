@@ -245,7 +245,7 @@ impl Texts {
         requires right { TextLies self.old right }
         ensures text { Adds (text_of self.old left ++ text_of self.old right) self.old self.new result }
         ensures long { max_length < length (text_of self.old left ++ text_of self.old right) → IsTooLong result }
-        ensures short { IsNarrow left → IsNarrow right → length (text_of self.old left) + length (text_of self.old right) ≤ 14 → (self.new ≡ self.old) × IsOk result }
+        ensures short { IsNarrow left → IsNarrow right → length (text_of self.old left) + length (text_of self.old right) ≤ 11 → (self.new ≡ self.old) × IsOk result }
         ensures in_place { GoesOn self.old left right → size_of self.new ≤ size_of self.old + length (text_of self.old right) }
         ensures narrow { IsNarrow left → IsNarrow right → IfOk result (λ r. IsNarrow r) }
     {
@@ -264,7 +264,7 @@ impl Texts {
     fn short_join(&self, left: &Ref, right: &Ref) -> Short
         requires left { TextLies self.now left.now × IsNarrow left.now }
         requires right { TextLies self.now right.now × IsNarrow right.now }
-        requires few { length (text_of self.now left.now) + length (text_of self.now right.now) ≤ 14 }
+        requires few { length (text_of self.now left.now) + length (text_of self.now right.now) ≤ 11 }
         ensures { short_text result ≡ text_of self.now left.now ++ text_of self.now right.now }
     {
         let mut joined = Short::new();
@@ -273,13 +273,13 @@ impl Texts {
         joined
     }
 
-    /// A text so many times, as a text; a count below 0 is as good as 0. At most 14 characters, all below 256, take no
+    /// A text so many times, as a text; a count below 0 is as good as 0. At most 11 characters, all below 256, take no
     /// memory. `TooLong` where it is longer than a str may be; unchanged where it is refused.
     pub fn repeat(&mut self, text: Ref, count: i64) -> Result<Ref, Fault>
         requires { TextLies self.old text }
         ensures text { Adds (repeated_text (text_of self.old text) count) self.old self.new result }
         ensures long { max_length < length (repeated_text (text_of self.old text) count) → IsTooLong result }
-        ensures short { IsNarrow text → length (repeated_text (text_of self.old text) count) ≤ 14 → (self.new ≡ self.old) × IsOk result }
+        ensures short { IsNarrow text → length (repeated_text (text_of self.old text) count) ≤ 11 → (self.new ≡ self.old) × IsOk result }
         ensures narrow { IsNarrow text → IfOk result (λ r. IsNarrow r) }
     {
         let length = self.length(text);
@@ -301,7 +301,7 @@ impl Texts {
     fn short_copies(&self, text: &Ref, copies: usize) -> Short
         requires lies { TextLies self.now text.now }
         requires narrow { IsNarrow text.now }
-        requires few { copies * length (text_of self.now text.now) ≤ 14 }
+        requires few { copies * length (text_of self.now text.now) ≤ 11 }
         ensures { short_text result ≡ times copies (text_of self.now text.now) }
     {
         let characters = self.narrow_characters(text);
@@ -361,7 +361,7 @@ impl Texts {
     pub fn place_narrow(&mut self, characters: &[u8]) -> Result<Ref, Fault>
         ensures text { Adds characters.now self.old self.new result }
         ensures long { max_length < length characters.now → IsTooLong result }
-        ensures short { length characters.now ≤ 14 → (self.new ≡ self.old) × IsOk result }
+        ensures short { length characters.now ≤ 11 → (self.new ≡ self.old) × IsOk result }
         ensures narrow { IfOk result (λ r. IsNarrow r) }
     {
         if characters.len() <= Short::CAPACITY {

@@ -31,6 +31,10 @@ pub(crate) enum Width {
     Wide,
 }
 
+/// No bytes, where four that are copied at once may begin: what follows it in a variant of `Ref` begins there too. A value
+/// whose variant is not known is then copied in pieces of which no two share a byte.
+pub type AtWord = [u32; 0];
+
 /// A value of a script (Python Language Reference 3.14, 3.2), or that there is none. Where two differ, they may yet
 /// denote one value.
 #[derive(Clone, Copy, Debug)]
@@ -39,7 +43,7 @@ pub enum Ref {
     Unbound,
     None,
     /// True or False.
-    Truth(bool),
+    Truth(AtWord, bool),
     Int(i64),
     /// A str of few characters, which are here.
     Short(Short),
@@ -51,7 +55,7 @@ pub enum Ref {
     ShortBytes(Short),
     /// So many bytes from one on of the arena's narrow row.
     Bytes { length: u32, start: usize },
-    BuiltIn(BuiltIn),
+    BuiltIn(AtWord, BuiltIn),
     /// A function of a script, by its number among those that its interpreter has read, and the number of its name
     /// among the arena's names.
     Function { number: u32, name: usize },
@@ -60,9 +64,9 @@ pub enum Ref {
     /// A tuple, by its place among the arena's tuples.
     Tuple(usize),
     /// A kind of exception.
-    Kind(Kind),
+    Kind(AtWord, Kind),
     /// A module that was imported.
-    Module(ModuleName),
+    Module(AtWord, ModuleName),
     /// A queue, by its number and the most items that it may have, 0 for no bound.
     Queue { id: u32, maxsize: u64 },
     /// An interpreter, by its number.

@@ -84,7 +84,7 @@ fn row_of(expr: &Expr) -> Option<(BooleanOperator, &Expr, &[Expr])>
         Expr::Unary(_, _) => None,
         Expr::Binary(_, _, _) => None,
         Expr::Attribute(_, _) => None,
-        Expr::Call(_, _, _, _) => None,
+        Expr::Call(_, _, _) => None,
         Expr::Subscript(_, _) => None,
         Expr::Tuple(_) => None,
         Expr::ListDisplay(_) => None,

@@ -103,7 +103,7 @@ pub fn is_shareable(arena: &Arena, arguments: &[Ref], names: &[Text]) -> Result<
     ensures { (own : ℕ) (v : pure.Value) → Answers (λ w. attributes.call_method attributes.IsShareable v (all_of arena.now arguments.now) names.now w) own arena.now arena.now (told_of result) }
 {
     match one_argument("obj", arguments, names) {
-        Some(value) => Ok(Answered::Value(Ref::Truth(si_share::is_shareable(arena, value)))),
+        Some(value) => Ok(Answered::Value(Ref::Truth([], si_share::is_shareable(arena, value)))),
         None => Err(Cause::WrongArguments),
     }
 }

@@ -172,7 +172,7 @@ fn emptiness(answer: &Answer) -> Replied
     ensures { (m : Memory) → Replies awaited.IsEmpty (answer_of answer.now) m m (Ok result) }
 {
     match answer {
-        Answer::Count(count) => Replied::Got(Ref::Truth(*count == 0)),
+        Answer::Count(count) => Replied::Got(Ref::Truth([], *count == 0)),
         _ => nothing(),
     }
 }
@@ -182,7 +182,7 @@ fn fullness(maxsize: u64, answer: &Answer) -> Replied
     ensures { (m : Memory) → Replies (awaited.IsFull maxsize) (answer_of answer.now) m m (Ok result) }
 {
     match answer {
-        Answer::Count(count) => Replied::Got(Ref::Truth(is_at_bound(maxsize, *count))),
+        Answer::Count(count) => Replied::Got(Ref::Truth([], is_at_bound(maxsize, *count))),
         _ => nothing(),
     }
 }
@@ -301,7 +301,7 @@ fn runs(alloc: Global, arena: &mut Arena, id: u32, answer: &Answer) -> Result<Re
     ensures { Replies (awaited.IsRunning id) (answer_of answer.now) arena.old arena.new result }
 {
     match answer {
-        Answer::Truth(truth) => Ok(Replied::Got(Ref::Truth(*truth))),
+        Answer::Truth(truth) => Ok(Replied::Got(Ref::Truth([], *truth))),
         Answer::NotFound => failed(not_found(alloc, arena, id)),
         _ => Ok(nothing()),
     }

@@ -42,7 +42,7 @@ fn begins(arena: &Arena, whole: Ref, part: Ref) -> Result<Answered, Cause>
     ensures { (own : ℕ) → Answers (λ w. attributes.tested_texts begins_with (value_of arena.now whole) (value_of arena.now part) w) own arena.now arena.now (told_of result) }
 {
     match both_characters(arena, &whole, &part) {
-        Some(both) => Ok(Answered::Value(Ref::Truth(begins_at(both.0, 0, both.1)))),
+        Some(both) => Ok(Answered::Value(Ref::Truth([], begins_at(both.0, 0, both.1)))),
         None => Err(Cause::WrongType),
     }
 }
@@ -72,7 +72,7 @@ fn ends(arena: &Arena, whole: Ref, part: Ref) -> Result<Answered, Cause>
     ensures { (own : ℕ) → Answers (λ w. attributes.tested_texts attributes.ends_with (value_of arena.now whole) (value_of arena.now part) w) own arena.now arena.now (told_of result) }
 {
     match both_characters(arena, &whole, &part) {
-        Some(both) => Ok(Answered::Value(Ref::Truth(ends_at(both.0, both.1)))),
+        Some(both) => Ok(Answered::Value(Ref::Truth([], ends_at(both.0, both.1)))),
         None => Err(Cause::WrongType),
     }
 }

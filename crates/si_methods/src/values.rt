@@ -62,7 +62,7 @@ fn kind_of_module(name: &Text) -> Option<Ref>
         Kind::QueueFull,
     ];
     match kind_named(name, &kinds) {
-        Some(kind) => Some(Ref::Kind(kind)),
+        Some(kind) => Some(Ref::Kind([], kind)),
         None => None,
     }
 }

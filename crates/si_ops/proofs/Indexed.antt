@@ -14,19 +14,19 @@ use Rattle.si_arena.specs.Texts.{text_of, IsText}
 pub text_is : (m : Memory) (r : Ref) → IsText r → value_of m r ≡ pure.Str (text_of m.texts r)
 text_is m value.Unbound h = absurd h
 text_is m value.None h = absurd h
-text_is m (value.Truth b) h = absurd h
+text_is m (value.Truth at b) h = absurd h
 text_is m (value.Int n) h = absurd h
 text_is m (value.Short s) h = refl
 text_is m (value.Narrow n i) h = refl
 text_is m (value.Wide n i) h = refl
 text_is m (value.ShortBytes s) h = absurd h
 text_is m (value.Bytes n i) h = absurd h
-text_is m (value.BuiltIn b) h = absurd h
+text_is m (value.BuiltIn at b) h = absurd h
 text_is m (value.Function n x) h = absurd h
 text_is m (value.Range p) h = absurd h
 text_is m (value.Tuple p) h = absurd h
-text_is m (value.Kind k) h = absurd h
-text_is m (value.Module mo) h = absurd h
+text_is m (value.Kind at k) h = absurd h
+text_is m (value.Module at mo) h = absurd h
 text_is m (value.Queue qu qm) h = absurd h
 text_is m (value.Interpreter it) h = absurd h
 text_is m (value.Exec it) h = absurd h

@@ -273,7 +273,7 @@ pub count_fits : (b : Bool) (i : ℤ) → i ≡ int_of_truth b → to_z w64 (of_
 count_fits b i e = ap (λ z. to_z w64 (of_z w64 z)) e ∙ truth_fits b
 
 -- two texts are joined
-pub join_go : (o : BinaryOperator) (s t : pure.Text) (left right : Ref) (old new : Memory) (r : Result Ref Fault) → o ≡ binary.Add → PlacesText (s ++ t) old new r → (IsNarrow left → IsNarrow right → length s + length t ≤ 14 → (new ≡ old) × IsOk r) → Goes o (pure.Str s) (pure.Str t) left right old new r
+pub join_go : (o : BinaryOperator) (s t : pure.Text) (left right : Ref) (old new : Memory) (r : Result Ref Fault) → o ≡ binary.Add → PlacesText (s ++ t) old new r → (IsNarrow left → IsNarrow right → length s + length t ≤ 11 → (new ≡ old) × IsOk r) → Goes o (pure.Str s) (pure.Str t) left right old new r
 join_go o s t left right old new r e p short =
     let P : BinaryOperator → Type 0 = λ x. Goes x (pure.Str s) (pure.Str t) left right old new r in
     subst P (sym e) (record {
@@ -282,7 +282,7 @@ join_go o s t left right old new r e p short =
     })
 
 -- a text is repeated
-pub repeat_go : (o : BinaryOperator) (s : pure.Text) (i j : ℤ) (text : Ref) (old new : Memory) (r : Result Ref Fault) → o ≡ binary.Multiply → i ≡ j → PlacesText (repeated_text s i) old new r → (IsNarrow text → length (repeated_text s i) ≤ 14 → (new ≡ old) × IsOk r) → Goes o (pure.Str s) (pure.Int j) text text old new r
+pub repeat_go : (o : BinaryOperator) (s : pure.Text) (i j : ℤ) (text : Ref) (old new : Memory) (r : Result Ref Fault) → o ≡ binary.Multiply → i ≡ j → PlacesText (repeated_text s i) old new r → (IsNarrow text → length (repeated_text s i) ≤ 11 → (new ≡ old) × IsOk r) → Goes o (pure.Str s) (pure.Int j) text text old new r
 repeat_go o s i j text old new r e k p short =
     let P : BinaryOperator → Type 0 = λ x. Goes x (pure.Str s) (pure.Int j) text text old new r in
     let Q : ℤ → Type 0 = λ z. Goes tree.Multiply (pure.Str s) (pure.Int z) text text old new r in

@@ -166,7 +166,7 @@ module _ (o : tree.BinaryOperator) (left right : Ref) (old new : Memory) (r : Re
       (goes_as o (pure.Truth b) x x y left right right old new r (truth_turned o b s) (made_truth_turned o b s) (needs_right left right (made_of o x y)) (subst P k h))
 
 -- bytes are joined
-pub join_bytes_go : (o : BinaryOperator) (s t : List ℕ) (left right : Ref) (old new : Memory) (r : Result Ref Fault) → o ≡ binary.Add → PlacesBytes (s ++ t) old new r → (length s + length t ≤ 14 → (new ≡ old) × IsOk r) → Goes o (pure.Bytes s) (pure.Bytes t) left right old new r
+pub join_bytes_go : (o : BinaryOperator) (s t : List ℕ) (left right : Ref) (old new : Memory) (r : Result Ref Fault) → o ≡ binary.Add → PlacesBytes (s ++ t) old new r → (length s + length t ≤ 11 → (new ≡ old) × IsOk r) → Goes o (pure.Bytes s) (pure.Bytes t) left right old new r
 join_bytes_go o s t left right old new r e p short =
     let P : BinaryOperator → Type 0 = λ x. Goes x (pure.Bytes s) (pure.Bytes t) left right old new r in
     subst P (sym e) (record {
@@ -175,7 +175,7 @@ join_bytes_go o s t left right old new r e p short =
     })
 
 -- bytes are repeated
-pub repeat_bytes_go : (o : BinaryOperator) (s : List ℕ) (i j : ℤ) (text : Ref) (old new : Memory) (r : Result Ref Fault) → o ≡ binary.Multiply → i ≡ j → PlacesBytes (repeated_text s i) old new r → (length (repeated_text s i) ≤ 14 → (new ≡ old) × IsOk r) → Goes o (pure.Bytes s) (pure.Int j) text text old new r
+pub repeat_bytes_go : (o : BinaryOperator) (s : List ℕ) (i j : ℤ) (text : Ref) (old new : Memory) (r : Result Ref Fault) → o ≡ binary.Multiply → i ≡ j → PlacesBytes (repeated_text s i) old new r → (length (repeated_text s i) ≤ 11 → (new ≡ old) × IsOk r) → Goes o (pure.Bytes s) (pure.Int j) text text old new r
 repeat_bytes_go o s i j text old new r e k p short =
     let P : BinaryOperator → Type 0 = λ x. Goes x (pure.Bytes s) (pure.Int j) text text old new r in
     let Q : ℤ → Type 0 = λ z. Goes tree.Multiply (pure.Bytes s) (pure.Int z) text text old new r in

@@ -81,11 +81,11 @@ made_of tree.Multiply (pure.Int i) (pure.Tuple vs) = TupleMade (repeated_items (
 made_of tree.Multiply (pure.Truth a) (pure.Tuple vs) = TupleMade (repeated_items (pure.items_of vs) (int_of_truth a))
 made_of _ _ _ = NoneMade
 
--- no memory is needed for what is made of two values: nothing is made; or at most 14 characters or bytes, and neither value
+-- no memory is needed for what is made of two values: nothing is made; or at most 11 characters or bytes, and neither value
 -- is a text of the wide row; or a tuple that is too large
 abbrev pub NeedsNone : Ref → Ref → Made → Type 0
 NeedsNone left right NoneMade = Unit {0}
-NeedsNone left right (TextMade t) = IsNarrow left × IsNarrow right × (length t ≤ 14)
+NeedsNone left right (TextMade t) = IsNarrow left × IsNarrow right × (length t ≤ 11)
 NeedsNone left right (TupleMade vs) = is_too_large (pure.tuple_of vs) ≡ true
 
 -- memory was not refused

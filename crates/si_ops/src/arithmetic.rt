@@ -44,7 +44,7 @@ fn of_integer(operator: UnaryOperator, n: i64) -> Result<Ref, Cause>
     ensures { (m : Memory) → Tells (λ w. operate_unary operator (Int n) w) m result }
 {
     match operator {
-        UnaryOperator::Not => Ok(Ref::Truth(!is_nonzero(n))),
+        UnaryOperator::Not => Ok(Ref::Truth([], !is_nonzero(n))),
         UnaryOperator::Plus => Ok(Ref::Int(n)),
         UnaryOperator::Minus => match neg(n) {
             Ok(n) => Ok(Ref::Int(n)),
@@ -66,7 +66,7 @@ fn of_truth(operator: UnaryOperator, truth: bool) -> Result<Ref, Cause>
     ensures { (m : Memory) → Tells (λ w. operate_unary operator (Truth truth) w) m result }
 {
     match operator {
-        UnaryOperator::Not => Ok(Ref::Truth(!truth)),
+        UnaryOperator::Not => Ok(Ref::Truth([], !truth)),
         _ => of_integer(operator, int_of_truth(truth)),
     }
 }
@@ -78,7 +78,7 @@ fn of_other(arena: &Arena, operator: UnaryOperator, value: Ref) -> Result<Ref, C
     ensures { Tells (λ w. operate_unary operator (value_of arena.now value) w) arena.now result }
 {
     match operator {
-        UnaryOperator::Not => Ok(Ref::Truth(!is_true(arena, value))),
+        UnaryOperator::Not => Ok(Ref::Truth([], !is_true(arena, value))),
         UnaryOperator::Plus => Err(Cause::WrongType),
         UnaryOperator::Minus => Err(Cause::WrongType),
         UnaryOperator::Invert => Err(Cause::WrongType),
@@ -86,8 +86,8 @@ fn of_other(arena: &Arena, operator: UnaryOperator, value: Ref) -> Result<Ref, C
 }
 
 /// An operator between two values (Python Language Reference 3.14, 6.5 and 6.7 to 6.9). It takes no memory where it
-/// makes neither a str, nor bytes, nor a tuple, nor a list, nor where it makes at most 14 characters of operands that have no wide one, or
-/// at most 14 bytes, nor where a tuple would be too large.
+/// makes neither a str, nor bytes, nor a tuple, nor a list, nor where it makes at most 11 characters of operands that have no wide one, or
+/// at most 11 bytes, nor where a tuple would be too large.
 #[inline(always)]
 pub fn binary(
     arena: &mut Arena,
@@ -150,9 +150,9 @@ fn truths(operator: BinaryOperator, x: bool, y: bool) -> Result<Ref, Fault>
     ensures told { IsTold result }
 {
     match operator {
-        BinaryOperator::BitOr => Ok(Ref::Truth(x || y)),
-        BinaryOperator::BitXor => Ok(Ref::Truth(x != y)),
-        BinaryOperator::BitAnd => Ok(Ref::Truth(x && y)),
+        BinaryOperator::BitOr => Ok(Ref::Truth([], x || y)),
+        BinaryOperator::BitXor => Ok(Ref::Truth([], x != y)),
+        BinaryOperator::BitAnd => Ok(Ref::Truth([], x && y)),
         _ => integers(operator, int_of_truth(x), int_of_truth(y)),
     }
 }

@@ -87,7 +87,7 @@ pub fn raised_by(arena: &mut Arena, value: Ref) -> Result<usize, NoMemory>
             }
             raised_for(arena, Cause::WrongType)
         }
-        Ref::Kind(kind) => make_at(arena, Object::Bare(kind)),
+        Ref::Kind(_, kind) => make_at(arena, Object::Bare(kind)),
         Ref::Range(place) => {
             let _steps = arena.steps(place);
             raised_for(arena, Cause::WrongType)

@@ -18,10 +18,10 @@ pub fn built_in(name: &str) -> Ref
     ensures holds { (m : Memory) → Holds m result }
 {
     if let Some(function) = built_in_named(name, &built_ins()) {
-        return Ref::BuiltIn(function);
+        return Ref::BuiltIn([], function);
     }
     match kind_named(name, &built_in_kinds()) {
-        Some(kind) => Ref::Kind(kind),
+        Some(kind) => Ref::Kind([], kind),
         None => Ref::Unbound,
     }
 }

@@ -73,7 +73,7 @@ pub fn call_bool(arena: &Arena, arguments: &[Ref]) -> Result<Ref, Cause>
     ensures { Tells (λ w. operations.call_built_in pure.MakeBool (all_of arena.now arguments.now) w) arena.now result }
 {
     match arguments {
-        [value] => Ok(Ref::Truth(is_true(arena, *value))),
+        [value] => Ok(Ref::Truth([], is_true(arena, *value))),
         _ => Err(Cause::WrongArguments),
     }
 }

@@ -29,7 +29,7 @@ pub fn is_true(arena: &Arena, value: Ref) -> bool
     ensures { (w : World) → w.store ≡ arena.now.store → result ≡ operations.is_true (value_of arena.now value) w }
 {
     match value {
-        Ref::Truth(truth) => truth,
+        Ref::Truth(_, truth) => truth,
         Ref::Int(n) => n != 0,
         _ => is_other_true(arena, value),
     }

@@ -19,7 +19,7 @@ use crate::precedence::{
 };
 use si_plain::limits::MAX_STR_LENGTH;
 use si_plain::{BinaryOperator, BooleanOperator, ComparisonOperator, Octets, Text, UnaryOperator};
-use si_syntax::Expr;
+use si_syntax::{CallNames, Expr};
 use si_token::{Keyword, Symbol, Token, TokenKind, int_value};
 use std::alloc::{AllocError, Global};
 
@@ -400,6 +400,22 @@ fn attribute(alloc: Global, parts: u32, left: Expr, depth: u32, tokens: &[Token]
     within(parts + 1, tree, depth + 1, tokens, rest)
 }
 
+// The names of a call.
+fn call_names(
+    alloc: Global,
+    attribute: Option<String>,
+    arguments: Vec<String>,
+) -> Result<Box<CallNames>, AllocError>
+    ensures attribute { IfOk result (λ n. n.value.attribute ≡ attribute) }
+    ensures arguments { IfOk result (λ n. n.value.arguments ≡ arguments) }
+{
+    let names = CallNames {
+        attribute,
+        arguments,
+    };
+    Ok(Box::new(alloc, names)?)
+}
+
 // The call of a tree with these arguments. Where it is an attribute, its object is the callee.
 fn called(
     alloc: Global,
@@ -410,8 +426,15 @@ fn called(
     ensures { IfOk result (λ e. expr_of e ≡ call_of (expr_of left) (map expr_of values.items, map string_bytes names.items)) }
 {
     match left {
-        Expr::Attribute(object, name) => Ok(Expr::Call(object, Some(name), values, names)),
-        _ => Ok(Expr::Call(Box::new(alloc, left)?, None, values, names)),
+        Expr::Attribute(object, name) => {
+            let names = call_names(alloc, Some(name), names)?;
+            Ok(Expr::Call(object, names, values))
+        }
+        _ => {
+            let callee = Box::new(alloc, left)?;
+            let names = call_names(alloc, None, names)?;
+            Ok(Expr::Call(callee, names, values))
+        }
     }
 }
 

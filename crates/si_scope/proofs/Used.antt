@@ -10,6 +10,7 @@ use Rattle.si_semantics.specs.Scope.{names_of, names_of_all, names_of_chain}
 use Rattle.si_plain.specs.declared.operators.BinaryOperator.{BinaryOperator}
 use Rattle.si_plain.specs.declared.operators.BooleanOperator.{BooleanOperator}
 use Rattle.si_plain.specs.declared.operators.ComparisonOperator.{ComparisonOperator}
+use Rattle.si_syntax.specs.declared.expr.CallNames.{CallNames}
 use Rattle.si_syntax.specs.declared.expr.Expr.{Expr}
 use Rattle.si_syntax.specs.declared.expr.Expr.TheFolds.{fold-roll-Expr}
 use Rattle.si_syntax.specs.declared.expr.Expr.TheOpen.{Expr-F}
@@ -29,8 +30,8 @@ names_are e view t is sees = ap (λ x. names_of (expr_of x)) is ∙ ap names_of 
 binary_is : (o : BinaryOperator) (a b : Box Expr Global) → expr_of (views.Binary o a b) ≡ tree.Binary o (expr_of a.value) (expr_of b.value)
 binary_is o a b = ap expr_of (sym (rolls-Binary o a b)) ∙ fold-roll-Expr tree.Expr view_step (Expr-F.Binary o a b)
 
-call_is : (f : Box Expr Global) (x : Option (String Global)) (args : Vec Expr Global) (names : Vec (String Global) Global) → expr_of (views.Call f x args names) ≡ tree.Call (expr_of f.value) (option_map string_bytes x) (exprs_of (map expr_of args.items)) (map string_bytes names.items)
-call_is f x args names = ap expr_of (sym (rolls-Call f x args names)) ∙ fold-roll-Expr tree.Expr view_step (Expr-F.Call f x args names)
+call_is : (f : Box Expr Global) (names : Box CallNames Global) (args : Vec Expr Global) → expr_of (views.Call f names args) ≡ tree.Call (expr_of f.value) (option_map string_bytes names.value.attribute) (exprs_of (map expr_of args.items)) (map string_bytes names.value.arguments.items)
+call_is f names args = ap expr_of (sym (rolls-Call f names args)) ∙ fold-roll-Expr tree.Expr view_step (Expr-F.Call f names args)
 
 subscript_is : (a b : Box Expr Global) → expr_of (views.Subscript a b) ≡ tree.Subscript (expr_of a.value) (expr_of b.value)
 subscript_is a b = ap expr_of (sym (rolls-Subscript a b)) ∙ fold-roll-Expr tree.Expr view_step (Expr-F.Subscript a b)
@@ -44,8 +45,8 @@ conditional_is a b c = ap expr_of (sym (rolls-Conditional a b c)) ∙ fold-roll-
 pub binary_names : (o : BinaryOperator) (a b : Box Expr Global) (e : Expr) → e ≡ views.Binary o a b → names_of (expr_of e) ≡ names_of (expr_of a.value) ++ names_of (expr_of b.value)
 binary_names o a b e is = names_are e (views.Binary o a b) _ is (binary_is o a b)
 
-pub call_names : (f : Box Expr Global) (x : Option (String Global)) (args : Vec Expr Global) (names : Vec (String Global) Global) (e : Expr) → e ≡ views.Call f x args names → names_of (expr_of e) ≡ names_of (expr_of f.value) ++ names_of_all (exprs_of (map expr_of args.items))
-call_names f x args names e is = names_are e (views.Call f x args names) _ is (call_is f x args names)
+pub call_names : (f : Box Expr Global) (names : Box CallNames Global) (args : Vec Expr Global) (e : Expr) → e ≡ views.Call f names args → names_of (expr_of e) ≡ names_of (expr_of f.value) ++ names_of_all (exprs_of (map expr_of args.items))
+call_names f names args e is = names_are e (views.Call f names args) _ is (call_is f names args)
 
 pub subscript_names : (a b : Box Expr Global) (e : Expr) → e ≡ views.Subscript a b → names_of (expr_of e) ≡ names_of (expr_of a.value) ++ names_of (expr_of b.value)
 subscript_names a b e is = names_are e (views.Subscript a b) _ is (subscript_is a b)

@@ -25,7 +25,7 @@ pub(crate) fn use_names(expr: &Expr, used: &mut Names) -> Result<(), NoMemory>
             use_names(right, used)
         }
         Expr::Attribute(object, _) => use_names(object, used),
-        Expr::Call(callee, _, arguments, _) => {
+        Expr::Call(callee, _, arguments) => {
             use_names(callee, used)?;
             use_all(arguments, used)
         }

@@ -29,7 +29,7 @@ CopiesOut v (Err share.NoMemory) = (p : Tree) × (parcel_of v ≡ Some p) × IsP
 -- the value of a parcel takes memory of its arena: a str, or bytes, that are not in the value itself, and a tuple
 abbrev pub NeedsRoom : Tree → Type 0
 NeedsRoom (Leaf (tree.Str s)) = ¬ FitsShort s
-NeedsRoom (Leaf (tree.Bytes bs)) = 14 < length bs
+NeedsRoom (Leaf (tree.Bytes bs)) = 11 < length bs
 NeedsRoom (Group shape trees) = Unit {0}
 NeedsRoom _ = ⊥
 

@@ -32,7 +32,7 @@ pub(crate) fn bytes_out(alloc: Global, bytes: &[u8]) -> Result<Parcel, ShareFaul
 pub(crate) fn bytes_in(arena: &mut Arena, octets: &Octets) -> Result<Ref, NoMemory>
     requires { length octets.now ≤ max_length }
     ensures copied { CopiesIn (Leaf (tree.Bytes octets.now)) arena.old arena.new result }
-    ensures kept { length octets.now ≤ 14 → arena.new ≡ arena.old }
+    ensures kept { length octets.now ≤ 11 → arena.new ≡ arena.old }
 {
     match arena.place_bytes(octets.as_slice()) {
         Ok(placed) => Ok(placed),

@@ -15,7 +15,7 @@ use si_parcel::{Atom, Parcel, Top};
 use si_plain::{NoMemory, Text};
 use std::alloc::AllocError;
 
-/// A value that denotes the parcel's, in this arena, where all else is as it was. `NoMemory` where memory is refused: only a str takes any that is longer than 14 characters or has one of 256 or more, more than 14
+/// A value that denotes the parcel's, in this arena, where all else is as it was. `NoMemory` where memory is refused: only a str takes any that is longer than 11 characters or has one of 256 or more, more than 11
 /// bytes, and a tuple. Then what lay in the arena lies there and denotes what it did, and after a str or bytes the arena is
 /// unchanged.
 pub fn copy_in(arena: &mut Arena, parcel: &Parcel) -> Result<Ref, NoMemory>
@@ -35,7 +35,7 @@ fn value_in(arena: &mut Arena, parcel: &Parcel) -> Result<Ref, NoMemory>
     parcel.facts();
     match parcel.top() {
         Top::Atom(Atom::Nothing) => Ok(Ref::None),
-        Top::Atom(Atom::Truth(truth)) => Ok(Ref::Truth(truth)),
+        Top::Atom(Atom::Truth(truth)) => Ok(Ref::Truth([], truth)),
         Top::Atom(Atom::Int(int)) => Ok(Ref::Int(int)),
         Top::Atom(Atom::Str(text)) => str_in(arena, text),
         Top::Atom(Atom::Bytes(octets)) => bytes_in(arena, octets),

@@ -14,7 +14,7 @@ pub(crate) fn is_scalar(value: Ref) -> bool
 {
     match value {
         Ref::None => true,
-        Ref::Truth(_) => true,
+        Ref::Truth(..) => true,
         Ref::Int(_) => true,
         _ => false,
     }
@@ -27,7 +27,7 @@ pub(crate) fn scalar_out(value: Ref) -> Option<Parcel>
 {
     match value {
         Ref::None => Some(Parcel::none()),
-        Ref::Truth(truth) => Some(Parcel::truth(truth)),
+        Ref::Truth(_, truth) => Some(Parcel::truth(truth)),
         Ref::Int(int) => Some(Parcel::int(int)),
         _ => None,
     }
@@ -40,7 +40,7 @@ pub(crate) fn scalar_in(parcel: &Parcel) -> Option<Ref>
 {
     match parcel.top() {
         Top::Atom(Atom::Nothing) => Some(Ref::None),
-        Top::Atom(Atom::Truth(truth)) => Some(Ref::Truth(truth)),
+        Top::Atom(Atom::Truth(truth)) => Some(Ref::Truth([], truth)),
         Top::Atom(Atom::Int(int)) => Some(Ref::Int(int)),
         _ => None,
     }

@@ -2,6 +2,15 @@
 
 use si_plain::{BinaryOperator, BooleanOperator, ComparisonOperator, Octets, Text, UnaryOperator};
 
+/// The names that a call has of its own (Python Language Reference 3.14, 6.3.1 and 6.3.4), each of which is ASCII.
+#[derive(Debug, Drop)]
+pub struct CallNames {
+    /// That of the attribute which is called, where one is.
+    pub attribute: Option<String>,
+    /// Those of the arguments that are passed by name, which are the last ones. None comes twice.
+    pub arguments: Vec<String>,
+}
+
 /// An expression.
 #[derive(Debug, Drop)]
 pub enum Expr {
@@ -21,9 +30,8 @@ pub enum Expr {
     Binary(BinaryOperator, Box<Expr>, Box<Expr>),
     /// `object.NAME`: the object, and the name, which is ASCII.
     Attribute(Box<Expr>, String),
-    /// A callee, its arguments, and the names of those that are passed by name, which are the last ones. No name comes
-    /// twice. Where an attribute is called, the callee is its object, and the name of the attribute stands beside it.
-    Call(Box<Expr>, Option<String>, Vec<Expr>, Vec<String>),
+    /// A callee, its names, and its arguments. Where an attribute is called, the callee is its object.
+    Call(Box<Expr>, Box<CallNames>, Vec<Expr>),
     /// `object[index]`: the object, the index.
     Subscript(Box<Expr>, Box<Expr>),
     /// A tuple: its items, from the left.
@@ -39,3 +47,6 @@ pub enum Expr {
     /// `value if test else other`: the test, the value, the other.
     Conditional(Box<Expr>, Box<Expr>, Box<Expr>),
 }
+
+// There is one for each name, literal and operator of a script, and so they are small.
+const _: () = prove!(size_of::<Expr>() <= 48);

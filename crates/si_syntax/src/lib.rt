@@ -12,7 +12,7 @@ mod modules;
 mod stmt;
 mod target;
 
-pub use expr::Expr;
+pub use expr::{CallNames, Expr};
 pub use modules::Module;
 pub use stmt::{
     Assign, Augment, AugmentItem, Branch, Clause, Define, Finally, For, If, Line, Stmt, Try, While,

@@ -24,7 +24,7 @@ fn method(arena: &Arena, value: Ref, name: &Text) -> Option<Method>
 fn a_module_has_its_functions(rt: HostRuntime) -> Result<(), Fail> {
     let name = Text::from_str(rt.alloc(), "create_queue")?;
     let arena = Arena::new(rt.alloc());
-    let found = method(&arena, Ref::Module(ModuleName::Interpreters), &name);
+    let found = method(&arena, Ref::Module([], ModuleName::Interpreters), &name);
     assert!(rt; matches!(found, Some(Method::CreateQueue)));
     Ok(())
 }
@@ -143,12 +143,12 @@ fn a_list_grows_and_shrinks_at_its_end(rt: HostRuntime) -> Result<(), Fail> {
 // Whether a dict of 7 gives its value where that is taken, lacks 7 from then on, and gives None where it is asked for it.
 fn tells_of_its_key(alloc: Global) -> bool {
     let mut arena = Arena::new(alloc);
-    let Ok(Some(dict)) = arena.make_dict(&[Ref::Int(7), Ref::Truth(true)]) else {
+    let Ok(Some(dict)) = arena.make_dict(&[Ref::Int(7), Ref::Truth([], true)]) else {
         return false;
     };
     let key = [Ref::Int(7)];
     let taken = call_method(alloc, &mut arena, 0, Method::PopValue, dict, &key, &[]);
-    let is_taken = matches!(given_by(taken), Given::Value(Ref::Truth(true)));
+    let is_taken = matches!(given_by(taken), Given::Value(Ref::Truth(_, true)));
     let again = call_method(alloc, &mut arena, 0, Method::PopValue, dict, &key, &[]);
     let is_gone = matches!(given_by(again), Given::NoKey(Ref::Int(7)));
     let other = called(alloc, &mut arena, Method::GetValue, dict, &key, &[]);

@@ -32,10 +32,10 @@ fn is_written(alloc: Global, arena: &Arena, value: Ref, str: &str, repr: &str) -
 fn modules_are_written(rt: HostRuntime) {
     let arena = Arena::new(rt.alloc());
     let threading = "<module 'threading'>";
-    let value = Ref::Module(ModuleName::Threading);
+    let value = Ref::Module([], ModuleName::Threading);
     assert!(rt; is_written(rt.alloc(), &arena, value, threading, threading));
     let interpreters = "<module 'concurrent.interpreters'>";
-    let value = Ref::Module(ModuleName::Interpreters);
+    let value = Ref::Module([], ModuleName::Interpreters);
     assert!(rt; is_written(rt.alloc(), &arena, value, interpreters, interpreters));
 }
 
@@ -86,7 +86,7 @@ fn refusals_are_written(rt: HostRuntime) -> Result<(), Fail> {
 fn is_caught(arena: &Arena, address: usize) -> Option<bool>
     requires { address < length arena.now.store }
 {
-    match catches(arena, Ref::Kind(Kind::BaseException), address) {
+    match catches(arena, Ref::Kind([], Kind::BaseException), address) {
         Ok(caught) => Some(caught),
         Err(_) => None,
     }

@@ -1,4 +1,4 @@
-use Rattle.std.proofs.Common.{sym, ap, ◌∙◌}
+use Rattle.std.proofs.Common.{[], sym, ap, ◌∙◌}
 use Rattle.si_semantics.specs.Value as pure
 use Rattle.si_semantics.specs.Operations.{gave}
 use Rattle.si_semantics.specs.Shareable.{is_shareable}
@@ -18,7 +18,7 @@ pub returns-in-Some : goal.returns-in-Some
 returns-in-Some c = λ own v.
     let m = c.args.arena.now in
     let p = c.in-Some.ensures m c.requires in
-    gives (λ w. call_method attributes.IsShareable v (all_of m c.args.arguments.now) c.args.names.now w) own m (Truth c.is_shareable.result) tt
+    gives (λ w. call_method attributes.IsShareable v (all_of m c.args.arguments.now) c.args.names.now w) own m (Truth [] c.is_shareable.result) tt
     (λ w e.
     ap (λ x. one_argument x (all_of m c.args.arguments.now) c.args.names.now (λ u. gave (pure.Truth (is_shareable u)) w) w) (sym obj_word)
     ∙ p.1 (λ u. gave (pure.Truth (is_shareable u)) w) w

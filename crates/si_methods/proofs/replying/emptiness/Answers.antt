@@ -1,4 +1,4 @@
-use Rattle.std.proofs.Common.{Ok, refl, sym, subst}
+use Rattle.std.proofs.Common.{[], Ok, refl, sym, subst}
 use Rattle.si_semantics.specs.Actions as shared
 use Rattle.si_arena.specs.declared.value.Ref.TheVariants as value
 use Rattle.si_parcel.specs.declared.answer.Answer.{Answer}
@@ -15,8 +15,8 @@ use Rattle.si_methods.proofs.replying.emptiness.Goals as goal
 pub returns-in-Count : goal.returns-in-Count
 returns-in-Count c = λ m.
     let k = c.in-Count.count in
-    let P : Answer → Type 0 = λ a. Replies awaited.IsEmpty (answer_of a) m m (Ok (Got (value.Truth (nat_eq k 0)))) in
-    subst P (sym c.in-Count.is) (got awaited.IsEmpty (shared.Count k) m (value.Truth (nat_eq k 0)) tt (λ w. refl))
+    let P : Answer → Type 0 = λ a. Replies awaited.IsEmpty (answer_of a) m m (Ok (Got (value.Truth [] (nat_eq k 0)))) in
+    subst P (sym c.in-Count.is) (got awaited.IsEmpty (shared.Count k) m (value.Truth [] (nat_eq k 0)) tt (λ w. refl))
 
 pub returns-in_default : goal.returns-in_default
 returns-in_default c = λ m.

@@ -1,4 +1,4 @@
-use Rattle.std.proofs.Common.{Ok, sym, ap, subst}
+use Rattle.std.proofs.Common.{[], Ok, sym, ap, subst}
 use Rattle.si_semantics.specs.Value as pure
 use Rattle.si_semantics.specs.World as world
 use Rattle.si_semantics.specs.Actions as shared
@@ -16,8 +16,8 @@ use Rattle.si_methods.proofs.replying.fullness.Goals as goal
 pub returns-in-Count : goal.returns-in-Count
 returns-in-Count c = λ m.
     let k = c.in-Count.count in
-    let P : Answer → Type 0 = λ a. Replies (awaited.IsFull c.args.maxsize) (answer_of a) m m (Ok (Got (value.Truth c.is_at_bound.result))) in
-    subst P (sym c.in-Count.is) (got (awaited.IsFull c.args.maxsize) (shared.Count k) m (value.Truth c.is_at_bound.result) tt (λ w. ap (λ b. world.Got (pure.Truth b) w) (sym c.is_at_bound.ensures)))
+    let P : Answer → Type 0 = λ a. Replies (awaited.IsFull c.args.maxsize) (answer_of a) m m (Ok (Got (value.Truth [] c.is_at_bound.result))) in
+    subst P (sym c.in-Count.is) (got (awaited.IsFull c.args.maxsize) (shared.Count k) m (value.Truth [] c.is_at_bound.result) tt (λ w. ap (λ b. world.Got (pure.Truth b) w) (sym c.is_at_bound.ensures)))
 
 pub returns-in_default : goal.returns-in_default
 returns-in_default c = λ m.

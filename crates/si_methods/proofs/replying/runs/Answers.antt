@@ -1,4 +1,4 @@
-use Rattle.std.proofs.Common.{pos, Ok, Result, refl, sym, subst}
+use Rattle.std.proofs.Common.{[], pos, Ok, Result, refl, sym, subst}
 use Rattle.std.specs.Prelude.{codes, ◌++◌}
 use Rattle.std.specs.declared.alloc.AllocError.{AllocError}
 use Rattle.si_plain.specs.declared.kind.Kind.TheVariants as kind
@@ -17,8 +17,8 @@ use Rattle.si_methods.proofs.replying.runs.Goals as goal
 pub returns-in-Truth : goal.returns-in-Truth
 returns-in-Truth c =
     let m = c.args.arena.now in
-    let P : Answer → Type 0 = λ a. Replies (awaited.IsRunning c.args.id) (answer_of a) m m (Ok (Got (value.Truth c.in-Truth.truth))) in
-    subst P (sym c.in-Truth.is) (got (awaited.IsRunning c.args.id) (answer_of (answer.Truth c.in-Truth.truth)) m (value.Truth c.in-Truth.truth) tt (λ w. refl))
+    let P : Answer → Type 0 = λ a. Replies (awaited.IsRunning c.args.id) (answer_of a) m m (Ok (Got (value.Truth [] c.in-Truth.truth))) in
+    subst P (sym c.in-Truth.is) (got (awaited.IsRunning c.args.id) (answer_of (answer.Truth c.in-Truth.truth)) m (value.Truth [] c.in-Truth.truth) tt (λ w. refl))
 
 pub returns-in-NotFound : goal.returns-in-NotFound
 returns-in-NotFound c =

@@ -31,7 +31,7 @@ use_names-returns-in_ok-use_names-in-Binary t c =
 pub use_names-returns-in_ok-use_names-in-Call : goal.use_names-returns-in_ok-use_names-in-Call
 use_names-returns-in_ok-use_names-in-Call t c =
     on_ok_weaker c.use_all.result
-    (both_used _ _ _ _ _ _ _ _ (call_names c.in-Call.callee c.in-Call.field-1 c.in-Call.arguments c.in-Call.field-3 c.args.expr.now c.in-Call.is)
+    (both_used _ _ _ _ _ _ _ _ (call_names c.in-Call.callee c.in-Call.field-1 c.in-Call.arguments c.args.expr.now c.in-Call.is)
     (ap (λ (e : Expr). names_of (expr_of e)) c.deref-in-Call.ensures) (ap (λ es. names_of_all (exprs_of (map expr_of es))) c.deref-in-Call-2.ensures.value) c.in_ok-use_names-in-Call.ensures)
     c.use_all.ensures
 

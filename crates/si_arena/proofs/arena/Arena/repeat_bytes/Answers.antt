@@ -22,5 +22,5 @@ returns-clause-short c = λ few.
     let i = c.self.inside in
     let count = rw (to_z-of_z c.ranges.count) at c.in_ok-repeated.ensures.short in
     let short = rw c.text_of_bytes.ensures at count in
-    let e = short (bytes_text_narrow c.args.bytes) (subst (λ (m : Memory). length (repeated_text (bytes_of m.texts c.args.bytes) c.args.count) ≤ 14) (sym c.self.view_is) few) in
+    let e = short (bytes_text_narrow c.args.bytes) (subst (λ (m : Memory). length (repeated_text (bytes_of m.texts c.args.bytes) c.args.count) ≤ 11) (sym c.self.view_is) few) in
     (ap (λ rows. memory_of rows i.names.items i.ranges.items i.tuples.items i.tuples.tuples i.objects.items) e.0 ∙ c.self.view_is, refl)

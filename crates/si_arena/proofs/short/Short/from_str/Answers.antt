@@ -11,7 +11,7 @@ returns-then-c-gt255 c = λ h.
     let t = YieldsList-turn (YieldsList-from_chars c.args.text.now c.utf8.text cc) c.loop-c.yielded _ c.loop-c.yielded_by _ _ _ c.in-Some.is c.next.ensures.steps in
     omega (arith, t.1, get_or_default (characters_of c.args.text.now) (length c.loop-c.yielded) c.in-Some.c 0 t.0, h.1 (length c.loop-c.yielded) t.0)
 
--- a character after fourteen
+-- a character after eleven
 pub returns-then-as_slice-eq-CAPACITY : goal.returns-then-as_slice-eq-CAPACITY
 returns-then-as_slice-eq-CAPACITY c = λ h.
     let t = YieldsList-turn (YieldsList-from_chars c.args.text.now c.utf8.text cc) c.loop-c.yielded _ c.loop-c.yielded_by _ _ _ c.in-Some.is c.next.ensures.steps in

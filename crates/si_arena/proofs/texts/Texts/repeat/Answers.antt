@@ -62,7 +62,7 @@ returns-in_err-push_copies-clause-short c = λ h k.
     let l = c.length-length.result in
     let copies = c.copies_that_count-copies.ensures ∙ ap (copies_of l) (to_z-of_z c.ranges.count) in
     let long : length (repeated_text t c.args.count) ≡ l * c.copies_that_count-copies.result = repeated_length t c.args.count l _ c.length-length.ensures.length copies in
-    let few : c.saturating_mul-total.result ≤ 14 = omega (arith, long, k, c.saturating_mul-total.ensures) in
+    let few : c.saturating_mul-total.result ≤ 11 = omega (arith, long, k, c.saturating_mul-total.ensures) in
     let narrow = c.of_both-width.ensures.narrow h h in
     absurd (elim c.else-eq.branch [ else-eq-via-then-eq+else-total-le-CAPACITY w ↦ omega (arith, few, w.if-total-le-CAPACITY.false) | else-eq-via-else-eq w ↦ let e = rw narrow at w.if-eq.ensures in cc ])
 
@@ -72,7 +72,7 @@ returns-clause-short c = λ h k.
     let l = c.length-length.result in
     let copies = c.copies_that_count-copies.ensures ∙ ap (copies_of l) (to_z-of_z c.ranges.count) in
     let long : length (repeated_text t c.args.count) ≡ l * c.copies_that_count-copies.result = repeated_length t c.args.count l _ c.length-length.ensures.length copies in
-    let few : c.saturating_mul-total.result ≤ 14 = omega (arith, long, k, c.saturating_mul-total.ensures) in
+    let few : c.saturating_mul-total.result ≤ 11 = omega (arith, long, k, c.saturating_mul-total.ensures) in
     let narrow = c.of_both-width.ensures.narrow h h in
     absurd (elim c.else-eq.branch [ else-eq-via-then-eq+else-total-le-CAPACITY w ↦ omega (arith, few, w.if-total-le-CAPACITY.false) | else-eq-via-else-eq w ↦ let e = rw narrow at w.if-eq.ensures in cc ])
 

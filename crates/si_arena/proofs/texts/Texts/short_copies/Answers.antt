@@ -7,7 +7,7 @@ use Rattle.si_arena.proofs.texts.Texts.short_copies.Goals as goal
 pub append-requires : goal.append-requires
 append-requires c =
     let t = text_of c.args.self.now c.args.text.now in
-    omega (arith, room c.loop-i.i c.args.copies (length t) 14 c.loop-i-test.true c.requires.few, ap length c.loop-i.invariant, length_times c.loop-i.i t, ap length c.narrow_characters-characters.ensures)
+    omega (arith, room c.loop-i.i c.args.copies (length t) 11 c.loop-i-test.true c.requires.few, ap length c.loop-i.invariant, length_times c.loop-i.i t, ap length c.narrow_characters-characters.ensures)
 
 pub loop-i-preserved : goal.loop-i-preserved
 loop-i-preserved c =
