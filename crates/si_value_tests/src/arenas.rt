@@ -155,7 +155,11 @@ fn texts_are_keys_by_their_characters(rt: HostRuntime) {
 #[test]
 fn what_is_no_key_makes_no_dict(rt: HostRuntime) -> Result<(), Fail> {
     let mut arena = Arena::new(rt.alloc());
-    assert!(rt; arena.make_dict(&[Ref::Truth([], true), Ref::Int(1)])?.is_none());
+    assert!(rt;
+        arena
+            .make_dict(&[Ref::Truth([], true), Ref::Int(1)])?
+            .is_none()
+    );
     let dict = arena.make_dict(&[Ref::Int(1), Ref::Int(1)])?;
     assert!(rt; matches!(dict, Some(Ref::Object(0))));
     assert!(rt; arena.find(0, Ref::Truth([], true)).is_none());
