@@ -21,7 +21,7 @@ fn a_text_is_read(rt: HostRuntime) -> Result<(), Fail> {
     let shown = format!(in alloc; "{body:?}")?;
     assert_eq!(rt;
         shown.as_str(),
-        "[While(While { test: Call(Name(\"f\"), None, [Int(1)], []), body: [Break(2)], last: [] })]"
+        "[While(While { test: Call(Name(\"f\"), CallNames { attribute: None, arguments: [] }, [Int(1)]), body: [Break(2)], last: [] })]"
     );
     Ok(())
 }

@@ -81,7 +81,7 @@ fn a_line_ends_in_lf_cr_or_cr_lf_and_the_last_one_may_lack_it(rt: HostRuntime) -
         expect(
             &rt,
             text,
-            "[Assign(Assign { targets: [Named(\"x\")], value: Int(1) }), Evaluate(Call(Name(\"f\"), None, [Name(\"x\")], []))]",
+            "[Assign(Assign { targets: [Named(\"x\")], value: Int(1) }), Evaluate(Call(Name(\"f\"), CallNames { attribute: None, arguments: [] }, [Name(\"x\")]))]",
         )?;
     }
     for text in ["", "\n", "# x", " \t"] {
@@ -155,7 +155,7 @@ fn operators_bind_as_in_python(rt: HostRuntime) -> Result<(), Fail> {
         ),
         (
             "-a[0] ** b(1)[c]",
-            "Unary(Minus, Binary(Power, Subscript(Name(\"a\"), Int(0)), Subscript(Call(Name(\"b\"), None, [Int(1)], []), Name(\"c\"))))",
+            "Unary(Minus, Binary(Power, Subscript(Name(\"a\"), Int(0)), Subscript(Call(Name(\"b\"), CallNames { attribute: None, arguments: [] }, [Int(1)]), Name(\"c\"))))",
         ),
         (
             "a if b or c else d if False else e",
@@ -180,7 +180,7 @@ fn tuples_are_displayed_in_brackets(rt: HostRuntime) -> Result<(), Fail> {
         ),
         (
             "(a, b)[0] + f((c,), d)",
-            "Binary(Add, Subscript(Tuple([Name(\"a\"), Name(\"b\")]), Int(0)), Call(Name(\"f\"), None, [Tuple([Name(\"c\")]), Name(\"d\")], []))",
+            "Binary(Add, Subscript(Tuple([Name(\"a\"), Name(\"b\")]), Int(0)), Call(Name(\"f\"), CallNames { attribute: None, arguments: [] }, [Tuple([Name(\"c\")]), Name(\"d\")]))",
         ),
     ];
     expect_expressions(&rt, &cases)
@@ -299,7 +299,7 @@ fn loops_may_have_an_else(rt: HostRuntime) -> Result<(), Fail> {
         ),
         (
             "for ((x)) in f(1) + 2:\n break\nelse:\n pass\n",
-            "For(For { target: Named(\"x\"), items: Binary(Add, Call(Name(\"f\"), None, [Int(1)], []), Int(2)), body: [Break(2)], last: [Pass] })",
+            "For(For { target: Named(\"x\"), items: Binary(Add, Call(Name(\"f\"), CallNames { attribute: None, arguments: [] }, [Int(1)]), Int(2)), body: [Break(2)], last: [Pass] })",
         ),
         (
             "for(x)in a if b else c: pass",
@@ -326,7 +326,7 @@ fn clauses_are_read_in_their_order(rt: HostRuntime) -> Result<(), Fail> {
         ),
         (
             "try: pass\nexcept E or f(1) as e: pass",
-            "Try(Try { body: [Pass], clauses: [Clause { value: Some(Boolean(Or, Name(\"E\"), [Call(Name(\"f\"), None, [Int(1)], [])])), name: Some(\"e\"), body: [Pass] }], last: [] })",
+            "Try(Try { body: [Pass], clauses: [Clause { value: Some(Boolean(Or, Name(\"E\"), [Call(Name(\"f\"), CallNames { attribute: None, arguments: [] }, [Int(1)])])), name: Some(\"e\"), body: [Pass] }], last: [] })",
         ),
         (
             "try: pass\nexcept (E): pass\na",
@@ -343,17 +343,20 @@ fn clauses_are_read_in_their_order(rt: HostRuntime) -> Result<(), Fail> {
 #[test]
 fn arguments_are_passed_by_place_or_by_name(rt: HostRuntime) -> Result<(), Fail> {
     let alloc = rt.alloc();
-    for (arguments, trees) in [
+    for (arguments, names, trees) in [
         (
             "a, b=1, c=2",
-            "[Name(\"a\"), Int(1), Int(2)], [\"b\", \"c\"]",
+            "[\"b\", \"c\"]",
+            "[Name(\"a\"), Int(1), Int(2)]",
         ),
-        ("a=1,", "[Int(1)], [\"a\"]"),
-        ("x == 1", "[Compare(Name(\"x\"), [(Equal, Int(1))])], []"),
-        ("(a), a=a", "[Name(\"a\"), Name(\"a\")], [\"a\"]"),
+        ("a=1,", "[\"a\"]", "[Int(1)]"),
+        ("x == 1", "[]", "[Compare(Name(\"x\"), [(Equal, Int(1))])]"),
+        ("(a), a=a", "[\"a\"]", "[Name(\"a\"), Name(\"a\")]"),
     ] {
         let text = format!(in alloc; "f({arguments})")?;
-        let wanted = format!(in alloc; "[Evaluate(Call(Name(\"f\"), None, {trees}))]")?;
+        let wanted = format!(in alloc;
+            "[Evaluate(Call(Name(\"f\"), CallNames {{ attribute: None, arguments: {names} }}, {trees}))]"
+        )?;
         expect(&rt, text.as_str(), wanted.as_str())?;
     }
     Ok(())
@@ -381,7 +384,7 @@ fn functions_are_read_with_their_lines(rt: HostRuntime) -> Result<(), Fail> {
         ),
         (
             "def f():\n def g(a): break\n return g(\n  a=1)",
-            "Define(Define { line: 1, name: \"f\", parameters: [], body: [Define(Define { line: 2, name: \"g\", parameters: [\"a\"], body: [Break(2)] }), Return(3, Some(Call(Name(\"g\"), None, [Int(1)], [\"a\"])))] })",
+            "Define(Define { line: 1, name: \"f\", parameters: [], body: [Define(Define { line: 2, name: \"g\", parameters: [\"a\"], body: [Break(2)] }), Return(3, Some(Call(Name(\"g\"), CallNames { attribute: None, arguments: [\"a\"] }, [Int(1)])))] })",
         ),
     ];
     expect_statements(&rt, &cases)
