@@ -3,6 +3,7 @@ pub mod Repeats
 pub mod Compared
 pub mod Lying
 pub mod Wording
+pub mod Padded
 pub mod Keyed
 pub mod Tables
 pub mod Sizes

@@ -7,10 +7,12 @@ ghost use Rattle.si_arena.specs.Memory.{Memory, pair_of, pairs_of, PairLies, Pai
 ghost use Rattle.si_arena.specs.inner.Keys.{found_pair, inserted, removed};
 
 use crate::atom::Atom;
+use crate::hasher::KeyHasher;
 use crate::value::Ref;
 use indexmap::IndexMap;
 use si_plain::NoMemory;
 use std::alloc::Global;
+use std::hash::BuildHasherDefault;
 use std::marker::Model;
 
 /// A key of a dict, which is an integer or a str, and its value.
@@ -23,7 +25,7 @@ pub struct Pair {
 /// A dict (Python Language Reference 3.14, 3.2.7.1): its pairs, in the order in which their keys were added.
 #[derive(Drop)]
 pub struct Dict {
-    entries: Box<IndexMap<Atom, Pair>>,
+    entries: Box<IndexMap<Atom, Pair, BuildHasherDefault<KeyHasher>>>,
 }
 
 impl Model for Dict {
@@ -41,7 +43,10 @@ impl Dict {
     pub(crate) fn new(alloc: Global) -> Result<Dict, NoMemory>
         ensures { IfOk result (λ d. d ≡ []) }
     {
-        let entries = Box::new(alloc, IndexMap::new(alloc))?;
+        let entries = Box::new(
+            alloc,
+            IndexMap::with_hasher(alloc, BuildHasherDefault::new()),
+        )?;
         Ok(Dict { entries })
     }
 

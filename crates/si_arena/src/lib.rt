@@ -14,7 +14,7 @@
 //
 // In reading order: `short` (a text in a `Ref`), `value` (`Ref`), `refusal` and `cause` (why an exception was raised, and what
 // it says), `object` (ranges, exceptions and threads), `characters` and `texts` (the two rows of characters), `bytes` (which
-// lie as texts do), `tuples`, `cells` (the items of a list), `atom`, `words`, `keys` and `dict`, `contents` and `held` (what an
+// lie as texts do), `tuples`, `cells` (the items of a list), `atom`, `hasher`, `words`, `keys` and `dict`, `contents` and `held` (what an
 // object holds, and what lies at its address), `view` (what a `Ref` shows), `arena`, `lists` and `dicts`.
 #![tactic(auto)]
 
@@ -27,6 +27,7 @@ mod characters;
 mod contents;
 mod dict;
 mod dicts;
+mod hasher;
 mod held;
 mod keys;
 mod lists;

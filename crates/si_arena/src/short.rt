@@ -1,6 +1,7 @@
 // A text in the value itself.
 
-ghost use Rattle.std.specs.Prelude.{◌≤◌};
+ghost use Rattle.std.specs.Prelude.{◌≡◌, ◌≤◌, take};
+ghost use Rattle.si_arena.specs.inner.Padding.{padded};
 
 use crate::characters::Characters;
 use crate::value::AtWord;
@@ -14,10 +15,13 @@ pub struct Short {
     characters: [u8; 11],
     length: u8,
     ghost within: { length ≤ 11 },
+    // zeros follow the characters, so that equal texts have equal bytes
+    ghost zeros: { characters ≡ padded (take length characters) },
 }
 
 impl Short {
-    ghost use Rattle.std.specs.Prelude.{◌≡◌, ◌+◌, ◌<◌, ◌≤◌, ◌++◌, ◌∷◌, [], length, MatchOption};
+    ghost use Rattle.std.specs.Prelude.{◌≡◌, ◌+◌, ◌<◌, ◌≤◌, ◌++◌, ◌∷◌, [], length, take, drop, MatchOption};
+    ghost use Rattle.std.specs.Int.{w32, w64, from_le_bytes, to_le_bytes};
     ghost use Rattle.si_plain.specs.Characters.{characters_of};
     ghost use Rattle.si_arena.specs.Short.{short_text, FitsShort};
     ghost use Rattle.si_arena.specs.Texts.{characters_in};
@@ -118,6 +122,26 @@ impl Short {
         &self.characters[..self.length as usize]
     }
 
+    // The first 8 of its 11 bytes, as one number.
+    #[inline(always)]
+    fn first_eight(&self) -> u64
+        ensures value { result ≡ from_le_bytes w64 (take 8 self.now.characters) }
+        ensures bytes { to_le_bytes w64 result ≡ take 8 self.now.characters }
+    {
+        let [a, b, c, d, e, f, g, h, _, _, _] = self.characters;
+        u64::from_le_bytes([a, b, c, d, e, f, g, h])
+    }
+
+    // The other 3 of its 11 bytes and its length, as one number.
+    #[inline(always)]
+    fn others(&self) -> u32
+        ensures value { result ≡ from_le_bytes w32 (drop 8 self.now.characters ++ self.now.length ∷ []) }
+        ensures bytes { to_le_bytes w32 result ≡ drop 8 self.now.characters ++ self.now.length ∷ [] }
+    {
+        let [_, _, _, _, _, _, _, _, a, b, c] = self.characters;
+        u32::from_le_bytes([a, b, c, self.length])
+    }
+
     /// One more character at its end.
     pub fn push(&mut self, c: u8)
         requires { length (short_text self.old) < 11 }
@@ -148,8 +172,9 @@ impl PartialEq for Short {
 
     ghost laws = { partial_equiv_from_equiv (on_equiv short_text nat_list_eq_equiv) };
 
+    #[inline(always)]
     fn eq(&self, other: &Short) -> bool {
-        self.as_slice() == other.as_slice()
+        self.first_eight() == other.first_eight() && self.others() == other.others()
     }
 }
 
@@ -164,14 +189,15 @@ impl Eq for Short {
 impl Hash for Short {
     ghost use Rattle.std.specs.Prelude.{◌∷◌, []};
     ghost use Rattle.std.proofs.Common.{ap};
-    ghost use Rattle.std.specs.Cmp.Lexicographic.{bytes_decides};
     ghost use Rattle.si_arena.specs.Short.{short_text};
+    ghost use Rattle.si_arena.specs.inner.Padding.{bytes_same};
 
-    ghost hash_input = { λ s. short_text s ∷ [] };
+    ghost hash_input = { λ s. s.characters ∷ [] };
 
-    ghost respects_eq = { λ s t h. ap (λ cs. cs ∷ []) ((bytes_decides (short_text s) (short_text t)).0 h) };
+    ghost respects_eq = { λ s t h. ap (λ cs. cs ∷ []) (bytes_same (short_text s) (short_text t) s.zeros t.zeros h) };
 
+    #[inline(always)]
     fn hash<H: Hasher>(&self, state: &mut H) {
-        state.write(self.as_slice());
+        state.write(&self.characters);
     }
 }
