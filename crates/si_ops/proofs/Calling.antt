@@ -1,19 +1,22 @@
 -- Calls that go as their definitions.
-use Rattle.std.proofs.Common.{◌≡◌, ℕ, ◌+◌, ◌<◌, ◌≤◌, List, [], ◌∷◌, length, get_or, Bool, true, false, cond, Result, Ok, Err, refl, sym, ap, subst, ◌∙◌, arith, nat_lt, lt-ltb}
+use Rattle.std.proofs.Common.{◌≡◌, ℕ, ◌+◌, ◌<◌, ◌≤◌, List, [], ◌∷◌, length, get_or, Bool, true, false, cond, Result, Ok, Err, refl, sym, ap, subst, ◌∙◌, arith, nat_lt, lt-ltb, le-ltb, leb-true, ◌≢◌, ℤ}
 use Rattle.std.specs.declared.string.String.{String}
 use Rattle.std.specs.String.{string_bytes, string_len, string_capacity}
 use Rattle.si_plain.specs.declared.kind.Kind.{Kind}
 use Rattle.si_plain.specs.declared.kind.Kind.TheVariants.{OverflowError, RecursionError}
 use Rattle.si_semantics.specs.Value as pure
 use Rattle.si_semantics.specs.World.{World, Ran}
-use Rattle.si_semantics.specs.Text.{Written, Whole, Broken, written, max_length}
-use Rattle.si_semantics.specs.Operations.{gave, text}
+use Rattle.si_semantics.specs.Text.{Written, Whole, Broken, written, max_length, max_nested, decimal, str_of, repr_of}
+use Rattle.si_semantics.specs.Operations.{gave, text, call_built_in}
 use Rattle.si_arena.specs.declared.value.Ref.{Ref}
 use Rattle.si_arena.specs.declared.cause.Cause.{Cause}
 use Rattle.si_arena.specs.declared.cause.Cause.TheVariants.{Arithmetic, TooLong, WrongType, NotCallable, WrongArguments, TooDeep, NoneActive, Outside, SizeChanged, NotDefined, NotBound, NoAttribute, Refused}
 use Rattle.si_arena.specs.declared.cause.Fault.{Fault}
 use Rattle.si_arena.specs.declared.cause.Fault.TheVariants.{Raises, NoMemory}
-use Rattle.si_arena.specs.Memory.{Memory, value_of, all_of, PlacesText}
+use Rattle.si_arena.specs.Memory.{Memory, value_of, all_of, Lies, PlacesText}
+use Rattle.si_arena.specs.declared.view.View.{View}
+use Rattle.si_arena.specs.declared.view.View.TheVariants as view
+use Rattle.si_arena.specs.Views.{value_in}
 use Rattle.si_arena.proofs.Lying.{extends_same}
 use Rattle.si_ops.specs.declared.calls.Called.{Called}
 use Rattle.si_ops.specs.declared.calls.Called.TheVariants.{Value}
@@ -21,6 +24,7 @@ use Rattle.si_ops.specs.Runs.{Throws, Tells, Runs}
 use Rattle.si_ops.specs.Writing.{Appends, IsUnwritten}
 use Rattle.si_ops.specs.Operands.{IsTold}
 use Rattle.si_ops.specs.Calls.{Makes, Calls, IsSaid, call_of}
+use Rattle.si_ops.specs.inner.Written.{is_own_str}
 
 -- ---- how many arguments
 
@@ -107,6 +111,31 @@ text_throws o m (NotDefined s) h = absurd h
 text_throws o m (NotBound s) h = absurd h
 text_throws o m (NoAttribute s) h = absurd h
 text_throws o m (Refused s) h = absurd h
+
+-- a text that is not too long is written whole
+written_whole : (t : pure.Text) → length t ≤ max_length → written (Whole t) ≡ Ok t
+written_whole t few = ap (λ b. cond b (Err OverflowError) (Ok t)) (le-ltb max_length (length t) few)
+
+-- the digits of an integer, placed, are its str and its repr
+module _ (old new : Memory) (n : ℤ) (r : Result Ref Fault) (few : length (decimal n) ≤ max_length) (h : PlacesText (decimal n) old new r) where
+  pub int_str : Runs (λ w. call_built_in pure.MakeStr (pure.Int n ∷ []) w) old new r
+  int_str = text_placed (λ s. str_of max_nested s (pure.Int n)) (decimal n) old new r (written_whole (decimal n) few) h
+
+  pub int_repr : Runs (λ w. call_built_in pure.Repr (pure.Int n ∷ []) w) old new r
+  int_repr = text_placed (λ s. repr_of max_nested s [] (pure.Int n)) (decimal n) old new r (written_whole (decimal n) few) h
+
+-- a str is its own
+own_value : (v : pure.Value) → is_own_str v ≡ true → (w : World) → call_built_in pure.MakeStr (v ∷ []) w ≡ gave v w
+own_value (pure.Str s) h w = ap (λ p. text p w) (written_whole s (leb-true (length s) max_length h))
+own_value _ h w = cc
+
+pub own_str : (m : Memory) (r : Ref) → Lies m r → is_own_str (value_of m r) ≡ true → Runs (λ w. call_built_in pure.MakeStr (value_of m r ∷ []) w) m m (Ok r)
+own_str m r lies h = ((λ w e. own_value (value_of m r) h w), lies, extends_same m, refl)
+
+-- what shows as no str is none
+pub no_str_shown : (m : Memory) (v : View) → ((s : _) → v ≢ view.Str s) → false ≡ is_own_str (value_in m v)
+no_str_shown m (view.Str s) f = absurd (f s refl)
+no_str_shown m _ f = refl
 
 -- what was not added can't be placed
 pub text_refused : {Z : Type 0} (U : Type 0) (o : List pure.Object → Written) (longest : List ℕ) (s t : String Z) (m : Memory) (fault : Fault) → Appends {U = U} (written (o m.store)) longest s t (Err fault) → Runs (λ w. text (written (o w.store)) w) m m (Err fault)

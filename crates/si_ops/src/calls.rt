@@ -1,15 +1,18 @@
 // Calls of what is there from the first: built-ins and kinds of exceptions.
 
-ghost use Rattle.std.specs.Prelude.{◌≡◌, ◌∷◌, [], string_bytes, drop, take};
+ghost use Rattle.std.specs.Prelude.{◌≡◌, ◌≤◌, ◌∷◌, [], length, string_bytes, drop, take};
 ghost use Rattle.std.specs.Str.{IsCharBoundary};
 ghost use Rattle.si_plain.specs.Characters.{characters_of};
 ghost use Rattle.si_semantics.specs.Value as pure;
+ghost use Rattle.si_semantics.specs.Text as semantics;
 ghost use Rattle.si_semantics.specs.Operations as operations;
 ghost use Rattle.si_arena.specs.Memory.{built_in_of, value_of, all_of, Lies, AllLie, PlacesText};
 ghost use Rattle.si_ops.specs.Runs.{Throws, Runs};
 ghost use Rattle.si_ops.specs.Calls.{Makes, Calls, Spans, call_of, NeedsNone, IsSaid};
+ghost use Rattle.si_ops.specs.inner.Written as written;
 
 use crate::bytes::call_bytes;
+use crate::characters::length_of;
 use crate::line::push_line;
 use crate::lists::call_list;
 use crate::operand::integer_in;
@@ -18,8 +21,10 @@ use crate::provided::{
 };
 use crate::shown::{push_repr, push_str};
 use crate::tuples::call_tuple;
-use si_arena::{Arena, BuiltIn, Cause, Fault, Object, Ref, Steps, View};
+use itoa::Buffer;
+use si_arena::{Arena, BuiltIn, Cause, Characters, Fault, Object, Ref, Short, Steps, View};
 use si_plain::Kind;
+use si_plain::limits::MAX_STR_LENGTH;
 
 /// What a call gave.
 #[derive(Clone, Copy, Debug)]
@@ -32,7 +37,7 @@ pub enum Called {
 
 /// A call of a value that is no function of a script, with its arguments (Python Language Reference 3.14, 6.3.3; Python
 /// Standard Library 3.14, "Built-in Functions" and "Built-in Exceptions"): of a built-in, or of a kind of exception,
-/// which makes one. What `print` prints is added to `line`, where a `str` is also written before it is placed.
+/// which makes one. What `print` prints is added to `line`, where a `str` may also be written before it is placed.
 /// `NotCallable` for any other value, `WrongArguments`, `WrongType`, `Arithmetic`, `TooDeep` and `TooLong` as the
 /// definition raises them. Where nothing is given, the arena and the text of `line` are as before. Memory is asked for
 /// neither by `print`, where the line has room, nor by `tuple`, where it makes none, nor by what makes no str, no bytes, no
@@ -210,8 +215,43 @@ fn make_repr(arena: &mut Arena, line: &mut String, arguments: &[Ref]) -> Result<
     }
 }
 
-// The `str` of a value, as a str. It is written at the end of a line, and taken away there.
+// The `str` of a value, as a str: of an integer its digits, of a str the same str.
 fn place_str(arena: &mut Arena, line: &mut String, value: Ref) -> Result<Ref, Fault>
+    requires { Lies arena.old value }
+    ensures runs { Runs (λ w. operations.call_built_in pure.MakeStr (value_of arena.old value ∷ []) w) arena.old arena.new result }
+    ensures line { string_bytes line.new ≡ string_bytes line.old }
+{
+    match value {
+        Ref::Int(n) => place_int(arena, n),
+        _ => place_other_str(arena, line, value),
+    }
+}
+
+// The same of a value that is no integer.
+fn place_other_str(arena: &mut Arena, line: &mut String, value: Ref) -> Result<Ref, Fault>
+    requires { Lies arena.old value }
+    ensures runs { Runs (λ w. operations.call_built_in pure.MakeStr (value_of arena.old value ∷ []) w) arena.old arena.new result }
+    ensures line { string_bytes line.new ≡ string_bytes line.old }
+{
+    if is_own_str(arena, value) {
+        return Ok(value);
+    }
+    place_written_str(arena, line, value)
+}
+
+// Whether a value is a str, which is then its own `str`.
+fn is_own_str(arena: &Arena, value: Ref) -> bool
+    requires { Lies arena.now value }
+    ensures { result ≡ written.is_own_str (value_of arena.now value) }
+{
+    match arena.view(&value) {
+        View::Str(characters) => length_of(characters) <= MAX_STR_LENGTH,
+        _ => false,
+    }
+}
+
+// The `str` of a value, as a str. It is written at the end of a line, and taken away there.
+fn place_written_str(arena: &mut Arena, line: &mut String, value: Ref) -> Result<Ref, Fault>
     requires { Lies arena.old value }
     ensures runs { Runs (λ w. operations.call_built_in pure.MakeStr (value_of arena.old value ∷ []) w) arena.old arena.new result }
     ensures line { string_bytes line.new ≡ string_bytes line.old }
@@ -221,8 +261,20 @@ fn place_str(arena: &mut Arena, line: &mut String, value: Ref) -> Result<Ref, Fa
     place_after(arena, line, start)
 }
 
-// The `repr` of a value, in the same way.
+// The `repr` of a value, as a str: of an integer its digits.
 fn place_repr(arena: &mut Arena, line: &mut String, value: Ref) -> Result<Ref, Fault>
+    requires { Lies arena.old value }
+    ensures runs { Runs (λ w. operations.call_built_in pure.Repr (value_of arena.old value ∷ []) w) arena.old arena.new result }
+    ensures line { string_bytes line.new ≡ string_bytes line.old }
+{
+    match value {
+        Ref::Int(n) => place_int(arena, n),
+        _ => place_written_repr(arena, line, value),
+    }
+}
+
+// The `repr` of a value, written and placed in the same way.
+fn place_written_repr(arena: &mut Arena, line: &mut String, value: Ref) -> Result<Ref, Fault>
     requires { Lies arena.old value }
     ensures runs { Runs (λ w. operations.call_built_in pure.Repr (value_of arena.old value ∷ []) w) arena.old arena.new result }
     ensures line { string_bytes line.new ≡ string_bytes line.old }
@@ -230,6 +282,19 @@ fn place_repr(arena: &mut Arena, line: &mut String, value: Ref) -> Result<Ref, F
     let start = line.len();
     push_repr(line, arena, value)?;
     place_after(arena, line, start)
+}
+
+// The digits of an integer, as a str, which is not too long.
+fn place_int(arena: &mut Arena, n: i64) -> Result<Ref, Fault>
+    ensures text { PlacesText (semantics.decimal n) arena.old arena.new result }
+    ensures few { length (semantics.decimal n) ≤ semantics.max_length }
+{
+    let mut buffer = Buffer::new();
+    let digits = buffer.format(n);
+    match Short::from_characters(Characters::Narrow(digits.as_bytes())) {
+        Some(short) => Ok(Ref::Short(short)),
+        None => arena.place_text(digits),
+    }
 }
 
 // Places what stands in a line from a start on, and takes it away there.
