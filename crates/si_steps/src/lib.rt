@@ -7,7 +7,7 @@
 // The step takes the instruction at a state's place, and a `Machine` goes so along a course of that definition
 // (`specs/Machines.antt`).
 //
-// In reading order: `step` (what a step did), `state` (what a machine has), `landing` (where a value goes), `raising`
+// In reading order: `step` (what a step did), `constants` (None and truths as operands), `state` (what a machine has), `landing` (where a value goes), `raising`
 // (how exceptions are raised), `reading` (how operands are read), `flow` (the instructions of branches, chains and
 // loops), `tries` (those of `try` and of unbinding), `values` (those of operands and operations), `subscripts`,
 // `items` (what sets and deletes items), `displays`, `unpacking`, `names` (those of globals), `calls` (calls of functions and of other values), `attributes`, `methods` (calls of
@@ -21,6 +21,7 @@ mod attributes;
 mod begin;
 mod bind;
 mod calls;
+mod constants;
 mod displays;
 mod execute;
 mod flow;
