@@ -102,6 +102,15 @@ pub found_by_lies : (m : Memory) (a : Atom) (es : List (Atom × Pair)) → Pairs
 found_by_lies m a es h None e = tt
 found_by_lies m a es h (Some q) e = found_lies m a es q h (sym e)
 
+-- what lies somewhere, looked at there
+pub looked_at : {A B C : Type 0} (f : A → B) (g : B → C) (o : Option A) → option_map (λ a. g (f a)) o ≡ option_map g (option_map f o)
+looked_at f g None = refl
+looked_at f g (Some a) = refl
+
+pub if_looked_at : {A B : Type 0} (P : B → Type 0) (f : A → B) (o : Option A) → IfSome (option_map f o) P → IfSome o (λ a. P (f a))
+if_looked_at P f None h = tt
+if_looked_at P f (Some a) h = h
+
 pub found_by : (m : Memory) {first : List (ℕ × ℕ)} {us : List (List ℕ)} (w : AreWords first us) (k : Option pure.Key) (a : Atom) (es : List (Atom × Pair)) → FindsAtom us k (Some a) → EntriesMean m us es
     → option_map (value_of m) (found a es) ≡ value_by k (pairs_of m es)
 found_by m w (Some k) a es f h = found_is m w a k f es h

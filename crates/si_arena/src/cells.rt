@@ -40,8 +40,22 @@ impl Cells {
         self.items.as_slice()
     }
 
-    /// One more at the end; unchanged where memory is refused.
+    /// One more at the end; unchanged where memory is refused. Mostly there is room for it.
+    #[inline(always)]
     pub fn push(&mut self, item: Ref) -> Result<(), NoMemory>
+        ensures ok { OnOk result (self.new ≡ self.old ++ item ∷ []) }
+        ensures err { OnErr result (self.new ≡ self.old) }
+    {
+        if self.items.len() < self.items.capacity() {
+            self.items.push_reserved(item);
+            return Ok(());
+        }
+        self.grow(item)
+    }
+
+    // The same, with memory for more.
+    #[inline(never)]
+    fn grow(&mut self, item: Ref) -> Result<(), NoMemory>
         ensures ok { OnOk result (self.new ≡ self.old ++ item ∷ []) }
         ensures err { OnErr result (self.new ≡ self.old) }
     {

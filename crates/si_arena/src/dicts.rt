@@ -43,7 +43,20 @@ impl Arena {
         ensures value { option_map (value_of self.now) result ≡ value_by (key_of (value_of self.now key)) (dict_at self.now address) }
         ensures lies { IfSome result (λ r. Lies self.now r) }
     {
-        match atom_of(&self.texts, &self.words, &key) {
+        match self.look_up(address, &key) {
+            Some(value) => Some(*value),
+            None => None,
+        }
+    }
+
+    /// The same value, where it lies, so that it is copied only where it goes.
+    pub fn look_up(&self, address: usize, key: &Ref) -> Option<&Ref>
+        requires address { address < length self.now.store }
+        requires key { Lies self.now key.now }
+        ensures value { option_map (λ r. value_of self.now r.now) result ≡ value_by (key_of (value_of self.now key.now)) (dict_at self.now address) }
+        ensures lies { IfSome result (λ r. Lies self.now r.now) }
+    {
+        match atom_of(&self.texts, &self.words, key) {
             Some(atom) => value_at(self.objects[address].get(&atom)),
             None => None,
         }
@@ -85,28 +98,14 @@ impl Arena {
     }
 }
 
-// The value of a pair that lies in a dict, where there is one: it alone is copied.
+// The value of a pair that lies in a dict, where there is one.
 #[inline(always)]
-fn value_at(pair: Option<&Pair>) -> Option<Ref>
-    ensures { result ≡ option_map (λ p. p.value) (option_map (λ p. p.now) pair.entry) }
+fn value_at(pair: Option<&Pair>) -> Option<&Ref>
+    ensures { option_map (λ r. r.now) result ≡ option_map (λ p. p.value) (option_map (λ p. p.now) pair.entry) }
 {
     match pair {
-        Some(pair) => Some(by_parts(pair.value)),
+        Some(pair) => Some(&pair.value),
         None => None,
-    }
-}
-
-// The same value. One that is an integer, a truth or a function of a script is copied by its numbers: the bytes of any
-// value are copied through memory, for which the processor waits.
-#[inline(always)]
-fn by_parts(value: Ref) -> Ref
-    ensures { result ≡ value }
-{
-    match value {
-        Ref::Int(n) => Ref::Int(n),
-        Ref::Truth(at, truth) => Ref::Truth(at, truth),
-        Ref::Function { number, name } => Ref::Function { number, name },
-        value => value,
     }
 }
 

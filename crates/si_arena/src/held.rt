@@ -62,6 +62,7 @@ impl Held {
     }
 
     /// A list with one item more; unchanged where memory is refused.
+    #[inline(always)]
     pub fn append(&mut self, item: Ref) -> Result<(), NoMemory>
         ensures ok { OnOk result (self.new ≡ appended item self.old) }
         ensures err { OnErr result (self.new ≡ self.old) }

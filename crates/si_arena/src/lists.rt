@@ -50,6 +50,7 @@ impl Arena {
     }
 
     /// One item more at the end of the list at an address; unchanged where memory is refused.
+    #[inline(always)]
     pub fn append(&mut self, address: usize, item: Ref) -> Result<(), NoMemory>
         requires list { IsListAt self.old address }
         requires item { Lies self.old item }

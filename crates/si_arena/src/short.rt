@@ -25,6 +25,7 @@ impl Short {
     ghost use Rattle.si_plain.specs.Characters.{characters_of};
     ghost use Rattle.si_arena.specs.Short.{short_text, FitsShort};
     ghost use Rattle.si_arena.specs.Texts.{characters_in};
+    ghost use Rattle.si_arena.specs.inner.Padding.{number_of};
 
     /// The most characters that it has.
     pub const CAPACITY: usize = 11;
@@ -53,6 +54,9 @@ impl Short {
     pub fn from_str(text: &str) -> Option<Short>
         ensures { MatchOption result (¬ FitsShort (characters_of text.now)) (λ s. short_text s ≡ characters_of text.now) }
     {
+        if text.is_ascii() {
+            return Short::from_narrow(text.as_bytes());
+        }
         let mut short = Short::new();
         for c in text.chars() {
             if c > '\u{ff}' {
@@ -142,6 +146,16 @@ impl Short {
         u32::from_le_bytes([a, b, c, self.length])
     }
 
+    // Its 11 bytes, as one number.
+    #[inline(always)]
+    fn number(&self) -> u128
+        ensures { result ≡ number_of self.now.characters }
+    {
+        let [_, _, _, _, _, _, _, _, a, b, c] = self.characters;
+        let last = u32::from_le_bytes([a, b, c, 0]);
+        u128::from(last) * 0x1_0000_0000_0000_0000 + u128::from(self.first_eight())
+    }
+
     /// One more character at its end.
     pub fn push(&mut self, c: u8)
         requires { length (short_text self.old) < 11 }
@@ -187,17 +201,17 @@ impl Eq for Short {
 }
 
 impl Hash for Short {
-    ghost use Rattle.std.specs.Prelude.{◌∷◌, []};
+    ghost use Rattle.std.specs.Hash as fed;
     ghost use Rattle.std.proofs.Common.{ap};
     ghost use Rattle.si_arena.specs.Short.{short_text};
-    ghost use Rattle.si_arena.specs.inner.Padding.{bytes_same};
+    ghost use Rattle.si_arena.specs.inner.Padding.{bytes_same, number_of};
 
-    ghost hash_input = { λ s. s.characters ∷ [] };
+    ghost hash_input = { λ s. fed.u128 (number_of s.characters) };
 
-    ghost respects_eq = { λ s t h. ap (λ cs. cs ∷ []) (bytes_same (short_text s) (short_text t) s.zeros t.zeros h) };
+    ghost respects_eq = { λ s t h. ap (λ cs. fed.u128 (number_of cs)) (bytes_same (short_text s) (short_text t) s.zeros t.zeros h) };
 
     #[inline(always)]
     fn hash<H: Hasher>(&self, state: &mut H) {
-        state.write(&self.characters);
+        state.write_u128(self.number());
     }
 }
