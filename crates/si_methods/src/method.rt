@@ -1,6 +1,6 @@
 // Which methods a value has.
 
-ghost use Rattle.std.specs.Prelude.{◌≡◌, ℕ, map, option_map, Some};
+ghost use Rattle.std.specs.Prelude.{◌≡◌, ℕ, List, map, option_map, Some};
 ghost use Rattle.si_plain.specs.Characters.{characters_of};
 ghost use Rattle.si_semantics.specs.Value as pure;
 ghost use Rattle.si_semantics.specs.World.{World};
@@ -239,13 +239,17 @@ pub fn method_at(arena: &Arena, value: Ref, name: Option<MethodName>) -> Option<
 }
 
 /// The method of a name of methods that a value has, if it has one. Takes no memory. An object and a queue, whose methods are
-/// called most, are looked at where they stand.
+/// called most, are looked at where they stand, and a list first.
+#[inline(always)]
 pub fn method_named(arena: &Arena, value: Ref, name: MethodName) -> Option<Method>
     requires { Lies arena.now value }
     ensures { (w : World) → w.store ≡ arena.now.store → option_map method_in result ≡ attributes.method_of (value_of arena.now value) (spelled name) w }
 {
     match value {
-        Ref::Object(address) => method_of_object(arena.object(address), name),
+        Ref::Object(address) => match arena.list(address) {
+            Some(_) => method_of_list(name),
+            None => method_of_object(arena.object(address), name),
+        },
         Ref::Queue { .. } => method_of_queue(name),
         value => method_of_any(arena, value, name),
     }
@@ -312,6 +316,7 @@ fn function_of(owner: ModuleName, name: MethodName) -> Option<Method>
 }
 
 // The method of a queue.
+#[inline(never)]
 fn method_of_queue(name: MethodName) -> Option<Method>
     ensures { (q m : ℕ) (w : World) → option_map method_in result ≡ attributes.method_of (pure.Queue q m) (spelled name) w }
 {
@@ -345,17 +350,43 @@ fn method_of_interpreter(name: MethodName) -> Option<Method>
 }
 
 // The method of an object.
+#[inline(never)]
 fn method_of_object(object: Contents<'_>, name: MethodName) -> Option<Method>
     ensures { (m : Memory) → option_map method_in result ≡ attributes.method_named (spelled name) (attributes.methods_of_object (Some (contents_of m object.entry))) }
 {
     match object {
         Contents::Plain(object) => method_of_plain(object, name),
-        Contents::List(_) => among(&[Method::Append, Method::PopItem], name),
-        Contents::Dict(_) => among(&[Method::GetValue, Method::PopValue], name),
+        Contents::List(_) => method_of_list(name),
+        Contents::Dict(_) => method_of_dict(name),
+    }
+}
+
+// The method of a list.
+#[inline(always)]
+fn method_of_list(name: MethodName) -> Option<Method>
+    ensures { (vs : List pure.Value) → option_map method_in result ≡ attributes.method_named (spelled name) (attributes.methods_of_object (Some (pure.Items vs))) }
+{
+    match name {
+        MethodName::Append => Some(Method::Append),
+        MethodName::Pop => Some(Method::PopItem),
+        _ => None,
+    }
+}
+
+// The method of a dict.
+#[inline(always)]
+fn method_of_dict(name: MethodName) -> Option<Method>
+    ensures { (ps : List (pure.Key × pure.Value)) → option_map method_in result ≡ attributes.method_named (spelled name) (attributes.methods_of_object (Some (pure.Pairs ps))) }
+{
+    match name {
+        MethodName::Get => Some(Method::GetValue),
+        MethodName::Pop => Some(Method::PopValue),
+        _ => None,
     }
 }
 
 // The method of an exception or a thread.
+#[inline(never)]
 fn method_of_plain(object: Object, name: MethodName) -> Option<Method>
     ensures { (m : Memory) → option_map method_in result ≡ attributes.method_named (spelled name) (attributes.methods_of_object (Some (object_of m object))) }
 {

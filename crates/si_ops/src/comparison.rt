@@ -91,8 +91,8 @@ fn answer(
         ComparisonOperator::GreaterEqual => opposite(is_before(arena, left, right)),
         ComparisonOperator::Equal => are_equal(arena, left, right),
         ComparisonOperator::NotEqual => opposite(are_equal(arena, left, right)),
-        ComparisonOperator::Is => Ok(are_one(arena, left, right)),
-        ComparisonOperator::IsNot => Ok(!are_one(arena, left, right)),
+        ComparisonOperator::Is => Ok(are_one_apart(arena, &left, &right)),
+        ComparisonOperator::IsNot => Ok(!are_one_apart(arena, &left, &right)),
         ComparisonOperator::In => contains(arena, right, left),
         ComparisonOperator::NotIn => opposite(contains(arena, right, left)),
     }
@@ -134,22 +134,44 @@ fn is_less(x: View, y: View) -> Result<bool, Refusal>
     }
 }
 
-// `x is y`, for one of None, True and False.
-fn are_one(arena: &Arena, x: Ref, y: Ref) -> bool
-    requires x { Lies arena.now x }
-    requires y { Lies arena.now y }
-    ensures { result ≡ operations.is_same (value_of arena.now x) (value_of arena.now y) }
-{
-    is_same(arena.view(&x), arena.view(&y))
-}
-
-// The same of what is shown.
-fn is_same(x: View, y: View) -> bool
-    ensures { (m : Memory) → result ≡ operations.is_same (value_in m x.entry) (value_in m y.entry) }
+/// Whether two values are one and the same: None, True and False are each the only value of their kind, and `is` says of no other
+/// that it is the same (Python Language Reference 3.14, 6.10.3; the profile leaves the others out). It goes by the kinds of the
+/// two, where they lie, and takes no memory.
+#[inline(always)]
+pub fn are_one(arena: &Arena, x: &Ref, y: &Ref) -> bool
+    requires x { Lies arena.now x.now }
+    requires y { Lies arena.now y.now }
+    ensures { result ≡ operations.is_same (value_of arena.now x.now) (value_of arena.now y.now) }
 {
     match (x, y) {
-        (View::None, View::None) => true,
-        (View::Truth(a), View::Truth(b)) => a == b,
+        (Ref::None, Ref::None) => true,
+        (Ref::Truth(_, a), Ref::Truth(_, b)) => *a == *b,
+        (Ref::Range(place), _) => {
+            let _range = arena.steps(*place);
+            false
+        }
+        (Ref::Tuple(place), _) => {
+            let _tuple = arena.tuple(*place);
+            false
+        }
+        (_, Ref::Range(place)) => {
+            let _range = arena.steps(*place);
+            false
+        }
+        (_, Ref::Tuple(place)) => {
+            let _tuple = arena.tuple(*place);
+            false
+        }
         _ => false,
     }
+}
+
+// The same out of line, so that other comparisons have nothing of it.
+#[inline(never)]
+fn are_one_apart(arena: &Arena, x: &Ref, y: &Ref) -> bool
+    requires x { Lies arena.now x.now }
+    requires y { Lies arena.now y.now }
+    ensures { result ≡ operations.is_same (value_of arena.now x.now) (value_of arena.now y.now) }
+{
+    are_one(arena, x, y)
 }

@@ -36,8 +36,21 @@ pub fn held_by(arena: &Arena, value: Ref) -> Held
     }
 }
 
-/// What the object at an address holds.
+/// What the object at an address holds: mostly the items of a list.
+#[inline(always)]
 pub fn held_at(arena: &Arena, address: usize) -> Held
+    requires { address < length arena.now.store }
+    ensures { IsHeld arena.now (Address address) result }
+{
+    match arena.list(address) {
+        Some(_) => Held::List(address),
+        None => held_otherwise(arena, address),
+    }
+}
+
+// The same, whatever it holds.
+#[inline(never)]
+fn held_otherwise(arena: &Arena, address: usize) -> Held
     requires { address < length arena.now.store }
     ensures { IsHeld arena.now (Address address) result }
 {

@@ -17,6 +17,7 @@ use si_arena::{Arena, Cause, Fault, Ref};
 
 /// A value at the end of the list at an address (Python Standard Library 3.14, "Built-in Types": mutable sequence types).
 /// `TooLong` where the list has as many items as it may have; where it is refused, the arena is as before.
+#[inline(always)]
 pub fn append(arena: &mut Arena, address: usize, value: Ref) -> Result<(), Fault>
     requires address { address < length arena.old.store }
     requires value { Lies arena.old value }
@@ -30,6 +31,7 @@ pub fn append(arena: &mut Arena, address: usize, value: Ref) -> Result<(), Fault
 }
 
 // The same of what is a list.
+#[inline(always)]
 fn append_to(arena: &mut Arena, address: usize, value: Ref) -> Result<(), Fault>
     requires address { address < length arena.old.store }
     requires list { IsListAt arena.old address }

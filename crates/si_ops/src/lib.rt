@@ -53,7 +53,7 @@ mod tuples;
 pub use arithmetic::{binary, on_integers, unary};
 pub use calls::{Called, call, call_by_name};
 pub use changes::{augment, delete_item, set_item};
-pub use comparison::{compare, compare_integers};
+pub use comparison::{are_one, compare, compare_integers};
 pub use exceptions::{catches, raised_again, raised_by, raised_for};
 pub use first::{built_in, first_global};
 pub use gone_over::{nth_item, unpacks};

@@ -47,6 +47,7 @@ pub fn make_dict(arena: &mut Arena, items: &[Ref]) -> Result<Ref, Fault>
 }
 
 /// Whether the list at an address and so many items more are too many for a list.
+#[inline(always)]
 pub fn are_too_many(arena: &Arena, address: usize, more: u64) -> bool
     requires address { address < length arena.now.store }
     requires list { IsListAt arena.now address }
@@ -56,6 +57,7 @@ pub fn are_too_many(arena: &Arena, address: usize, more: u64) -> bool
 }
 
 // Whether so many and so many items are too many for a list.
+#[inline(always)]
 fn is_past_all(count: u64, more: u64) -> bool
     ensures { result ≡ nat_lt max_length (count + more) }
 {
