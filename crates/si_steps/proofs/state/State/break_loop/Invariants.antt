@@ -1,4 +1,4 @@
 use Rattle.si_steps.proofs.state.State.break_loop.Given as goal
 
-abbrev pub ghost-leave_suite : goal.ghost-leave_suite
-ghost-leave_suite g a = g.p
+abbrev pub ghost-leave_turn : goal.ghost-leave_turn
+ghost-leave_turn g a = g.p
