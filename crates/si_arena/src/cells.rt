@@ -1,6 +1,6 @@
 // The items of a list.
 
-ghost use Rattle.std.specs.Prelude.{◌≡◌, ◌<◌, ◌+◌, ◌++◌, ◌∷◌, [], length, slice_get, slice_set, Some, IfOk, OnOk, OnErr};
+ghost use Rattle.std.specs.Prelude.{◌≡◌, ◌<◌, ◌+◌, ◌++◌, ◌∷◌, [], length, slice_get, slice_set, Some, IfOk, OnOk, OnErr, vec_capacity, vec_len};
 ghost use Rattle.si_arena.specs.inner.Changes.{without};
 
 use crate::value::Ref;
@@ -46,20 +46,10 @@ impl Cells {
         ensures ok { OnOk result (self.new ≡ self.old ++ item ∷ []) }
         ensures err { OnErr result (self.new ≡ self.old) }
     {
-        if self.items.len() < self.items.capacity() {
-            self.items.push_reserved(item);
-            return Ok(());
+        if self.items.len() == self.items.capacity() {
+            make_room(&mut self.items)?;
         }
-        self.grow(item)
-    }
-
-    // The same, with memory for more.
-    #[inline(never)]
-    fn grow(&mut self, item: Ref) -> Result<(), NoMemory>
-        ensures ok { OnOk result (self.new ≡ self.old ++ item ∷ []) }
-        ensures err { OnErr result (self.new ≡ self.old) }
-    {
-        self.items.push(item)?;
+        self.items.push_reserved(item);
         Ok(())
     }
 
@@ -88,4 +78,14 @@ impl Cells {
     {
         self.items.remove(at)
     }
+}
+
+// Memory for one more. The item itself is not handed on, so that it is written right to where it goes.
+#[inline(never)]
+fn make_room(items: &mut Vec<Ref>) -> Result<(), NoMemory>
+    ensures same { items.new.items ≡ items.old.items }
+    ensures room { OnOk result (vec_len items.new < vec_capacity items.new) }
+{
+    items.reserve(1)?;
+    Ok(())
 }

@@ -1,5 +1,5 @@
 // A stack of values that are copied.
-ghost use Rattle.std.specs.Prelude.{◌≡◌, ◌<◌, [], ◌∷◌, drop, length, reverse, OnOk, OnErr, MatchOption};
+ghost use Rattle.std.specs.Prelude.{◌≡◌, ◌<◌, [], ◌∷◌, drop, length, reverse, OnOk, OnErr, MatchOption, vec_capacity, vec_len};
 
 use si_plain::NoMemory;
 use std::alloc::Global;
@@ -64,21 +64,10 @@ impl<T: Copy> Stack<T> {
     {
         if self.depth < self.items.len() {
             self.items[self.depth] = item;
-            self.depth += 1;
-            Ok(())
         } else {
-            self.grow(item)
+            make_room(&mut self.items)?;
+            self.items.push_reserved(item);
         }
-    }
-
-    // The same, with memory for one more.
-    #[inline(never)]
-    fn grow(&mut self, item: T) -> Result<(), NoMemory>
-        ensures ok { OnOk result (self.new ≡ item ∷ self.old) }
-        ensures err { OnErr result (self.new ≡ self.old) }
-    {
-        self.items.truncate(self.depth);
-        self.items.push(item)?;
         self.depth += 1;
         Ok(())
     }
@@ -124,4 +113,14 @@ impl<T: Copy> Stack<T> {
     {
         self.depth = 0;
     }
+}
+
+// Memory for one more. The value itself is not handed on, so that it is written right to where it goes.
+#[inline(never)]
+fn make_room<T: Copy>(items: &mut Vec<T>) -> Result<(), NoMemory>
+    ensures same { items.new.items ≡ items.old.items }
+    ensures room { OnOk result (vec_len items.new < vec_capacity items.new) }
+{
+    items.reserve(1)?;
+    Ok(())
 }
