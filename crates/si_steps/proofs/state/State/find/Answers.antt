@@ -24,3 +24,8 @@ returns-in-Some g c =
     let lies = object_lies x c.args.at s g.p r c.requires.0 is in
     of_kind _ g.p s c.advance.new.self c.advance.result Local c.advance.ensures.step
     (found_kept x c.args.at s c.advance.new.self g.p r c.requires.0 is (called_itself r x s.arena c.in-Some.field-0 lies c.in-Some.ensures) c.advance.ensures.state)
+
+pub is_list-requires : goal.is_list-requires
+is_list-requires g c =
+    let s = c.args.self.now in
+    object_lies (text_at s.table.names c.args.slot) c.args.at s g.p (value.Object c.in-Object.address) c.requires.0 (sym c.in-Object.is ∙ c.temporary.ensures)
