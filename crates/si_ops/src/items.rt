@@ -140,9 +140,21 @@ fn length_in(text: Ref) -> u32
     }
 }
 
-// The next integer, and what is left: what lies past the integers lies past the stop.
+// The next integer, and what is left. Mostly the step is 1: by a way of its own neither the way that it goes is asked, nor whether
+// what follows lies past the integers.
 #[inline(always)]
 fn next_number(at: i64, stop: i64, step: i64) -> Option<(Ref, Items)>
+    ensures { (m : Memory) → GivesItem m (item.Numbers at stop step) result }
+{
+    if step == 1 {
+        return next_by(at, stop, 1);
+    }
+    next_by(at, stop, step)
+}
+
+// The same, by any step: what lies past the integers lies past the stop.
+#[inline(always)]
+fn next_by(at: i64, stop: i64, step: i64) -> Option<(Ref, Items)>
     ensures { (m : Memory) → GivesItem m (item.Numbers at stop step) result }
 {
     if !is_item(at, stop, step) {
