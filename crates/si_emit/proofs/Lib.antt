@@ -15,6 +15,7 @@ pub mod Silent
 pub mod Elifs
 pub mod LoopStmts
 pub mod TargetCode
+pub mod Appended
 pub mod AssignCode
 pub mod UpdateCode
 pub mod Noted

@@ -13,7 +13,7 @@ use Rattle.si_semantics.specs.Tree.{count_of_targets, functions_in, functions_in
 use Rattle.si_semantics.specs.Scope.{place_of}
 use Rattle.si_slots.specs.Machine as machine
 use Rattle.si_slots.specs.Machine.{Source, Temporary, Target, ToTemporary, ToLocal, ToNowhere, Instr}
-use Rattle.si_slots.specs.Code.{in_place, jumps, expr_code, with_code, simple_code, row_code, boolean_code, early_of, condition_code, target_code, targets_code, assign_code, store_code, assign_target_code, assign_all_code, augment_instr, augmented_code, augment_code, delete_code, displayed, exprs_code, unpack_code, item_target, item_code, for_code, return_code, raise_code, stmt_code, stmts_code}
+use Rattle.si_slots.specs.Code.{append_in_place, evaluate_code, in_place, jumps, expr_code, with_code, simple_code, row_code, boolean_code, early_of, condition_code, target_code, targets_code, assign_code, store_code, assign_target_code, assign_all_code, augment_instr, augmented_code, augment_code, delete_code, displayed, exprs_code, unpack_code, item_target, item_code, for_code, return_code, raise_code, stmt_code, stmts_code}
 use Rattle.si_emit.specs.inner.Silence.{silent, silent_suite}
 use Rattle.si_emit.proofs.Fronts.{Starts, starts, starts_here, starts_append, starts_after, starts_last, starts_single, starts_pair, starts_test, starts_branch}
 
@@ -168,6 +168,10 @@ starts_return : (ls : List Text) (a : Option tree.Expr) → Starts (return_code 
 starts_return ls None = starts_here _ []
 starts_return ls (Some a) = starts_with ls a (λ s. machine.Return s)
 
+starts_evaluate : (o : Option Instr) (code : List Instr) → Starts code → Starts (evaluate_code o code)
+starts_evaluate None code h = h
+starts_evaluate (Some i) code h = starts_here i code
+
 starts_raise : (ls : List Text) (a : Option tree.Expr) → Starts (raise_code ls a)
 starts_raise ls None = starts_here _ []
 starts_raise ls (Some a) = starts_with ls a (λ s. machine.Raise s)
@@ -182,7 +186,7 @@ starts_if ls first a b c = starts_branch (condition_code ls a) (stmts_code ls fi
 
 mutual
   pub loud_stmt : (s : tree.Stmt) → silent s ≡ false → (ls : List Text) (first : ℕ) → Starts (stmt_code ls first s)
-  loud_stmt (tree.Evaluate a) h ls first = starts ls 0 ToNowhere a
+  loud_stmt (tree.Evaluate a) h ls first = starts_evaluate (append_in_place ls a) (expr_code ls 0 ToNowhere a) (starts ls 0 ToNowhere a)
   loud_stmt (tree.Assign ts a) h ls first = starts_assign_all ls ts a
   loud_stmt (tree.Augment x o a) h ls first = starts_augment ls x (place_of x ls) o a
   loud_stmt (tree.AugmentItem a b o c) h ls first = starts_append _ _ (starts ls 0 (ToTemporary 0) a)

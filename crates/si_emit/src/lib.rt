@@ -6,8 +6,8 @@
 //
 // In reading order: `folding`, constants that are computed; `operand`, where the operand of an instruction lies; `expression`, the code of each expression and
 // of a test; `condition`, the tests of statements, with `and` and `or`; `naming`, how names are bound; `targets`, how
-// targets are bound to what lies in temporaries; `assigning`, `updating` and `simple`, statements without suites; `suite`,
-// statements one after another; `silence`, which of them have no code; `choosing`, the code of `if`; `repeats` and
+// targets are bound to what lies in temporaries; `evaluating`, `assigning`, `updating` and `simple`, statements without suites;
+// `suite`, statements one after another; `silence`, which of them have no code; `choosing`, the code of `if`; `repeats` and
 // `handlers`, that of loops and of `try`, with `loops` and `trying`, their parts around their suites; `script`, the code
 // of a whole script, functions first. specs/inner is for the proofs alone.
 #![tactic(auto)]
@@ -15,6 +15,7 @@
 mod assigning;
 mod choosing;
 mod condition;
+mod evaluating;
 mod expression;
 mod folding;
 mod handlers;

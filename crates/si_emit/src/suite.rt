@@ -8,14 +8,14 @@ ghost use Rattle.si_slots.specs.Views.{Gains, locals_now};
 
 use crate::assigning::{emit_assign, emit_delete};
 use crate::choosing::emit_if;
-use crate::expression::emit_expr;
+use crate::evaluating::emit_evaluate;
 use crate::handlers::{emit_finally, emit_try};
 use crate::naming::emit_import;
 use crate::repeats::{emit_for, emit_while};
 use crate::simple::{emit_define, emit_raise, emit_return};
 use crate::updating::{emit_augment, emit_augment_item};
 use si_plain::{Names, NoMemory};
-use si_slots::{CodeTable, FullInstr, Target};
+use si_slots::{CodeTable, FullInstr};
 use si_syntax::Stmt;
 
 /// Statements one after another, where these names are local. The functions that they define are numbered from `next`
@@ -53,7 +53,7 @@ fn emit_stmt(
     ensures extends { Extends table.old table.new }
 {
     match stmt {
-        Stmt::Evaluate(expr) => emit_expr(table, locals, 0, Target::Nowhere, expr),
+        Stmt::Evaluate(expr) => emit_evaluate(table, locals, expr),
         Stmt::Assign(statement) => emit_assign(table, locals, statement),
         Stmt::Augment(statement) => emit_augment(table, locals, statement),
         Stmt::AugmentItem(statement) => emit_augment_item(table, locals, statement),

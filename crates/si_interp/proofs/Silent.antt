@@ -11,6 +11,7 @@ use Rattle.si_semantics.specs.Value.{Text, Value}
 use Rattle.si_semantics.specs.World.{World, Ran, Gave, Threw, Asked}
 use Rattle.si_semantics.specs.Operations as operations
 use Rattle.si_semantics.specs.Subscription.{subscript}
+use Rattle.si_semantics.specs.Attributes as attributes
 use Rattle.si_semantics.specs.Attributes.{Method, attribute, called, method_of, call_method}
 use Rattle.si_semantics.specs.Operations.{Iterator, Next, Item, Exhausted, Refuses, is_true}
 use Rattle.si_semantics.specs.Meaning.{Leave, choose, decides, slot_at}
@@ -217,6 +218,9 @@ silent_act es (machine.Attribute g a x) next ts slots bs w = silent_reads a ts s
 silent_act es (machine.Find t x) next ts slots bs w = silent_having (slice_get ts t) w _ (λ v. silent_yields (called v x w) (ToTemporary t) next (take t ts) slots bs)
 silent_act es (machine.CallMethod g t n x names) next ts slots bs w =
     silent_callee (drop t ts) n _ w (λ f vs. silent_method es (method_of f x w) f vs names g next (take t ts) slots bs w)
+silent_act es (machine.Append a b) next ts slots bs w =
+    silent_reads a ts slots bs w _
+    (λ v. silent_choose (machine.is_list v w) _ _ (silent_reads b ts slots bs w _ (λ z. silent_yields (call_method attributes.Append v (z ∷ []) [] w) ToNowhere (next + 4) (below a (below b ts)) slots bs)) (λ n. refl))
 silent_act es (machine.Gather g t n) next ts slots bs w = silent_choose (nat_eq (length ts) (t + n)) _ _ (silent_yields (operations.tuple_within (drop t ts) w) g next (take t ts) slots bs) (λ n. refl)
 silent_act es (machine.GatherList g t n) next ts slots bs w = silent_choose (nat_eq (length ts) (t + n)) _ _ (silent_yields (operations.list_within (drop t ts) w) g next (take t ts) slots bs) (λ n. refl)
 silent_act es (machine.GatherDict g t n) next ts slots bs w = silent_choose (nat_eq (length ts) (t + n)) _ _ (silent_yields (dict_of (drop t ts) w) g next (take t ts) slots bs) (λ n. refl)

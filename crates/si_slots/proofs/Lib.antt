@@ -9,6 +9,7 @@ pub mod Blocks
 pub mod Raising
 pub mod Names
 pub mod Unpacked
+pub mod Appended
 pub mod Targets
 pub mod Turns
 pub mod Items

@@ -23,6 +23,7 @@ pub mod Anywhere
 pub mod Unpacked
 pub mod Reversed
 pub mod Listed
+pub mod Appended
 pub mod Shown
 pub mod Fetching
 pub mod Indices

@@ -11,12 +11,13 @@
 // (how exceptions are raised), `reading` (how operands are read), `flow` (the instructions of branches, chains and
 // loops), `tries` (those of `try` and of unbinding), `values` (those of operands and operations), `subscripts`,
 // `items` (what sets and deletes items), `displays`, `unpacking`, `names` (those of globals), `calls` (calls of functions and of other values), `attributes`, `methods` (calls of
-// methods), `requests` (what is asked, and its answers), `leaving` (`break`,
+// methods), `appending` (items at the end of lists, by one instruction), `requests` (what is asked, and its answers), `leaving` (`break`,
 // `continue`, `return` and the end of a finally suite), `short`, `short_values`, `short_items`, `short_blocks` and `short_methods`
 // (instructions as they stand in 8 bytes), `execute` (one instruction), `begin` (how a run begins), `bind` (globals bound between runs),
 // `origin` (where an exception that left a run came from), `showing` (what hosts are shown of globals), `machine`.
 #![tactic(auto)]
 
+mod appending;
 mod attributes;
 mod begin;
 mod bind;
