@@ -1,5 +1,5 @@
 // A stack of values that are copied.
-ghost use Rattle.std.specs.Prelude.{◌≡◌, ◌<◌, [], ◌∷◌, drop, length, reverse, OnOk, OnErr, MatchOption, vec_capacity, vec_len};
+ghost use Rattle.std.specs.Prelude.{◌≡◌, ◌<◌, [], ◌∷◌, drop, length, reverse, true, false, OnOk, OnErr, MatchOption, vec_capacity, vec_len};
 
 use si_plain::NoMemory;
 use std::alloc::Global;
@@ -70,6 +70,20 @@ impl<T: Copy> Stack<T> {
         }
         self.depth += 1;
         Ok(())
+    }
+
+    /// One more, at the top, where its memory is there from before; whether it was. Nothing has changed where it wasn't.
+    #[inline(always)]
+    pub(crate) fn push_in_place(&mut self, item: T) -> bool
+        ensures yes { result ≡ true → self.new ≡ item ∷ self.old }
+        ensures no { result ≡ false → self.new ≡ self.old }
+    {
+        if self.depth == self.items.len() {
+            return false;
+        }
+        self.items[self.depth] = item;
+        self.depth += 1;
+        true
     }
 
     /// The topmost.

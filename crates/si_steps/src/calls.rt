@@ -24,21 +24,6 @@ impl State {
         requires ready { IsReady (machine.Call (target_of target) at count) self.old p }
         ensures { Does (machine.Call (target_of target) at count) p self.old self.new result }
     {
-        match self.frames.temporary(at as usize) {
-            Ref::Function { number, name } => {
-                self.call_function(Ref::Function { number, name }, number, target, at, count)
-            }
-            _ => self.call_other(target, at, count),
-        }
-    }
-
-    // The same of what is not told to be a function of a script by its kind.
-    #[inline(never)]
-    fn call_other(&mut self, target: Target, at: u32, count: u32) -> Step
-        ghost p: { Moment }
-        requires ready { IsReady (machine.Call (target_of target) at count) self.old p }
-        ensures { Does (machine.Call (target_of target) at count) p self.old self.new result }
-    {
         let callee = self.frames.temporary(at as usize);
         match function_in(&self.arena, callee) {
             Some(number) => self.call_function(callee, number, target, at, count),
@@ -97,9 +82,9 @@ impl State {
         }
     }
 
-    // A call of the function of a number.
+    /// A call of the function of a number, which lies in a temporary.
     #[inline(always)]
-    fn call_function(
+    pub fn call_function(
         &mut self,
         callee: Ref,
         number: u32,
@@ -171,6 +156,7 @@ fn function_in(arena: &Arena, callee: Ref) -> Option<u32>
 {
     match callee {
         Ref::Function { number, name: _ } => Some(number),
+        Ref::BuiltIn(_, _) => None,
         _ => function_shown(arena.view(&callee)),
     }
 }
