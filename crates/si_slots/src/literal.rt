@@ -4,12 +4,15 @@ ghost use Rattle.std.specs.Prelude.{◌≡◌};
 use crate::keywords::Keywords;
 use si_plain::{Octets, Text};
 
-/// A literal of a script, the name of a function, or the names of arguments that are passed by name.
+/// A literal of a script, among them each integer past 16 bits, the name of a function, or the names of arguments that are
+/// passed by name.
 #[derive(Debug, Drop)]
 pub enum Literal {
     Str(Text),
     Bytes(Octets),
     Keywords(Keywords),
+    /// An integer past 16 bits: one that fits into them stands in the instruction.
+    Int(i64),
 }
 
 impl Literal {
@@ -24,6 +27,7 @@ impl Literal {
             Literal::Str(text) => text.as_str(),
             Literal::Bytes(_) => "",
             Literal::Keywords(_) => "",
+            Literal::Int(_) => "",
         }
     }
 }

@@ -78,6 +78,7 @@ impl State {
             Literal::Keywords(names) => texts_of(alloc, names.as_slice()),
             Literal::Str(_) => Ok(Vec::new(alloc)),
             Literal::Bytes(_) => Ok(Vec::new(alloc)),
+            Literal::Int(_) => Ok(Vec::new(alloc)),
         }
     }
 

@@ -141,6 +141,33 @@ fn texts_share_slots(rt: HostRuntime) -> Result<(), Fail> {
     Ok(())
 }
 
+// The code of the text below, where one integer stands in an instruction and one beside the code.
+const OF_A_LONG_INTEGER: [FullInstr; 4] = [
+    FullInstr::Binary(
+        BinaryOperator::Subtract,
+        Target::Temporary(0),
+        Source::Literal(Constant::Int(32767)),
+        Source::Global(0),
+    ),
+    FullInstr::Binary(
+        BinaryOperator::Add,
+        Target::Temporary(0),
+        Source::Temporary(0),
+        Source::Literal(Constant::Placed(0)),
+    ),
+    FullInstr::StoreGlobal(0, Source::Temporary(0)),
+    FullInstr::Finish,
+];
+
+#[test]
+fn integer_past_16_bits_has_a_place(rt: HostRuntime) -> Result<(), Fail> {
+    let mut table = CodeTable::new(rt.alloc());
+    add(rt.alloc(), &mut table, "a = 32767 - a + 32768\n")?;
+    assert_eq!(rt; first_other(&table, &OF_A_LONG_INTEGER), None);
+    assert!(rt; table.len() == OF_A_LONG_INTEGER.len() && has_literals(&table, &[""]));
+    Ok(())
+}
+
 // Whether a table has the code of `a = 'x'` and no other.
 fn has_one_text(table: &CodeTable) -> bool {
     table.len() == 2 && has_names(table, &["a"]) && has_literals(table, &["x"])

@@ -8,3 +8,6 @@ returns-in-Bytes c = chars-nil ∙ sym (ap name_in c.in-Bytes.is)
 
 pub returns-in-Keywords : goal.returns-in-Keywords
 returns-in-Keywords c = chars-nil ∙ sym (ap name_in c.in-Keywords.is)
+
+pub returns-in-Int : goal.returns-in-Int
+returns-in-Int c = chars-nil ∙ sym (ap name_in c.in-Int.is)
