@@ -1,5 +1,5 @@
 -- The functions of a script, one after the other.
-use Rattle.std.proofs.Common.{◌≡◌, ℕ, ◌+◌, ◌<◌, ◌≤◌, List, [], ◌∷◌, ◌++◌, map, length, drop, get_or, Option, Some, None, string_bytes, refl, sym, ap, subst, ◌∙◌, append_assoc, append-nil, length-append, arith}
+use Rattle.std.proofs.Common.{◌≡◌, ℕ, suc, ◌+◌, ◌<◌, ◌≤◌, List, [], ◌∷◌, ◌++◌, map, length, drop, get_or, Option, Some, None, string_bytes, refl, sym, ap, subst, ◌∙◌, append_assoc, append-nil, length-append, arith}
 use Rattle.std.specs.List.{flat_map, fold}
 use Rattle.std.specs.Prelude.{slice_get}
 use Rattle.std.specs.Option.{option_map}
@@ -25,9 +25,9 @@ use Rattle.si_slots.specs.Code.{stmts_code, function_code, functions_code, entri
 use Rattle.si_slots.specs.Contents.{Contents}
 use Rattle.si_slots.specs.Machine as machine
 use Rattle.si_slots.specs.declared.routine.Routine.{Routine}
-use Rattle.si_slots.specs.Views.{code_of, entry_of, entries_of, literals_of, names_of, table_of, Gains}
-use Rattle.si_slots.proofs.Gained.{Gains-append, length-code_of}
-use Rattle.si_emit.specs.inner.Functions.{StandAt, GainsRoutines, GainsFunctions}
+use Rattle.si_slots.specs.Views.{code_of, entry_of, entries_of, literals_of, locals_now, locals_of as locals_of_number, names_of, table_of, Gains}
+use Rattle.si_slots.proofs.Gained.{Gains-append, length-code_of, length-owned}
+use Rattle.si_emit.specs.inner.Functions.{StandAt, GainsRoutines, GainsFunctions, owned_literals, owned_names}
 use Rattle.si_emit.proofs.Seen.{finally_seen, elif_defines}
 
 -- ---- code and routines that a table gains
@@ -45,34 +45,50 @@ matches_itself a = record { lines = refl; literals = refl; names = refl; routine
 closed_matches : (a b : Contents) → b ≡ record a { current = 0 } → Matches a b
 closed_matches a b closed = record { lines = ap code_of closed; literals = ap (λ t. t.literals) closed; names = ap (λ t. t.names) closed; routines = ap (λ t. t.routines) closed }
 
+-- instructions of one function speak of what they speak of
+literals_owned : (n : ℕ) (xs : List machine.Instr) → flat_map literals_of xs ≡ flat_map owned_literals (machine.owned n xs)
+literals_owned n [] = refl
+literals_owned n (x ∷ xs) = ap (λ l. literals_of x ++ l) (literals_owned n xs)
+
+names_owned : (n : ℕ) (xs : List machine.Instr) → flat_map names_of xs ≡ flat_map owned_names (machine.owned n xs)
+names_owned n [] = refl
+names_owned n (x ∷ xs) = ap (λ l. names_of x ++ l) (names_owned n xs)
+
 -- code without functions, between two changes of whose code is being added
-Gains-between : (a b c d : Contents) (xs : List machine.Instr) → Matches a b → Gains b c xs → Matches c d → GainsRoutines a d xs []
-Gains-between a b c d xs before h after = record {
-  lines = after.lines ∙ h.lines ∙ ap (λ l. l ++ xs) before.lines;
-  literals = after.literals ∙ h.literals ∙ ap (λ l. l ++ flat_map literals_of xs) before.literals;
-  names = after.names ∙ h.names ∙ ap (λ l. fold with_name l (flat_map names_of xs)) before.names;
+Gains-between : (a b c d : Contents) (n : ℕ) (xs : List machine.Instr) → length (locals_now b) ≡ n → Matches a b → Gains b c xs → Matches c d → GainsRoutines a d (machine.owned n xs) []
+Gains-between a b c d n xs many before h after = record {
+  lines = after.lines ∙ h.lines ∙ ap (λ l. l ++ machine.owned (length (locals_now b)) xs) before.lines ∙ ap (λ k. code_of a ++ machine.owned k xs) many;
+  literals = after.literals ∙ h.literals ∙ ap (λ l. l ++ flat_map literals_of xs) before.literals ∙ ap (λ l. a.literals ++ l) (literals_owned n xs);
+  names = after.names ∙ h.names ∙ ap (λ l. fold with_name l (flat_map names_of xs)) before.names ∙ ap (fold with_name a.names) (names_owned n xs);
   more = ap (map entry_of) (after.routines ∙ h.routines ∙ before.routines) ∙ sym (append-nil (entries_of a));
 }
 
 -- code and functions, and then more of both
-GainsRoutines-append : (a b c : Contents) (xs ys : List machine.Instr) (es fs : List machine.Entry) → GainsRoutines a b xs es → GainsRoutines b c ys fs → GainsRoutines a c (xs ++ ys) (es ++ fs)
+GainsRoutines-append : (a b c : Contents) (xs ys : List machine.Owned) (es fs : List machine.Entry) → GainsRoutines a b xs es → GainsRoutines b c ys fs → GainsRoutines a c (xs ++ ys) (es ++ fs)
 GainsRoutines-append a b c xs ys es fs h k = record {
   lines = k.lines ∙ ap (λ l. l ++ ys) h.lines ∙ append_assoc (code_of a) xs ys;
-  literals = k.literals ∙ ap (λ l. l ++ flat_map literals_of ys) h.literals ∙ append_assoc a.literals (flat_map literals_of xs) (flat_map literals_of ys) ∙ ap (λ l. a.literals ++ l) (sym (flat_map-append literals_of xs ys));
-  names = k.names ∙ ap (λ l. fold with_name l (flat_map names_of ys)) h.names ∙ sym (fold-append with_name a.names (flat_map names_of xs) (flat_map names_of ys)) ∙ ap (fold with_name a.names) (sym (flat_map-append names_of xs ys));
+  literals = k.literals ∙ ap (λ l. l ++ flat_map owned_literals ys) h.literals ∙ append_assoc a.literals (flat_map owned_literals xs) (flat_map owned_literals ys) ∙ ap (λ l. a.literals ++ l) (sym (flat_map-append owned_literals xs ys));
+  names = k.names ∙ ap (λ l. fold with_name l (flat_map owned_names ys)) h.names ∙ sym (fold-append with_name a.names (flat_map owned_names xs) (flat_map owned_names ys)) ∙ ap (fold with_name a.names) (sym (flat_map-append owned_names xs ys));
   more = k.more ∙ ap (λ l. l ++ fs) h.more ∙ append_assoc (entries_of a) es fs;
 }
 
+-- the last of the functions with locals
+last_one : (frames : List (List Text)) (ls : List Text) → get_or (frames ++ ls ∷ []) (length frames) [] ≡ ls
+last_one [] ls = refl
+last_one (f ∷ frames) ls = last_one frames ls
+
 -- the code of a function
-pub code_gains : (a b c d e : Contents) (xs ys : List machine.Instr) (frames : List (List Text)) (number : ℕ) → b ≡ record a { frames = frames; current = number } → code_of b ≡ code_of a → Gains b c xs → Gains c d ys → e ≡ record d { current = 0 }
-    → GainsRoutines a e (xs ++ ys) []
-code_gains a b c d e xs ys frames number opened same h k closed =
+pub code_gains : (a b c d e : Contents) (xs ys : List machine.Instr) (ls : List Text) → b ≡ record a { frames = a.frames ++ ls ∷ []; current = length a.frames + 1 } → code_of b ≡ code_of a → Gains b c xs → Gains c d ys → e ≡ record d { current = 0 }
+    → GainsRoutines a e (machine.owned (length ls) (xs ++ ys)) []
+code_gains a b c d e xs ys ls opened same h k closed =
     let before : Matches a b = record { lines = same; literals = ap (λ t. t.literals) opened; names = ap (λ t. t.names) opened; routines = ap (λ t. t.routines) opened } in
-    Gains-between a b d e (xs ++ ys) before (Gains-append b c d xs ys h k) (closed_matches d e closed)
+    let number : length a.frames + 1 ≡ suc (length a.frames) = omega arith in
+    let now : locals_now b ≡ ls = ap locals_now opened ∙ ap (locals_of_number (a.frames ++ ls ∷ [])) number ∙ last_one a.frames ls in
+    Gains-between a b d e (length ls) (xs ++ ys) (ap length now) before (Gains-append b c d xs ys h k) (closed_matches d e closed)
 
 -- the code of the statements of a script
-pub body_gains : (a b c d : Contents) (xs ys : List machine.Instr) → b ≡ record a { current = 0 } → Gains b c xs → Gains c d ys → GainsRoutines a d (xs ++ ys) []
-body_gains a b c d xs ys closed h k = Gains-between a b d d (xs ++ ys) (closed_matches a b closed) (Gains-append b c d xs ys h k) (matches_itself d)
+pub body_gains : (a b c d : Contents) (xs ys : List machine.Instr) → b ≡ record a { current = 0 } → Gains b c xs → Gains c d ys → GainsRoutines a d (machine.owned 0 (xs ++ ys)) []
+body_gains a b c d xs ys closed h k = Gains-between a b d d 0 (xs ++ ys) (ap (λ t. length (locals_now t)) closed) (closed_matches a b closed) (Gains-append b c d xs ys h k) (matches_itself d)
 
 get_here : {A : Type 0} (xs : List A) (y : A) (ys : List A) → slice_get (xs ++ y ∷ ys) (length xs) ≡ Some y
 get_here [] y ys = refl
@@ -82,18 +98,21 @@ get_here (x ∷ xs) y ys = get_here xs y ys
 
 functions_code-append : (fs gs : List Function) → functions_code (fs ++ gs) ≡ functions_code fs ++ functions_code gs
 functions_code-append [] gs = refl
-functions_code-append (f ∷ fs) gs = ap (λ l. function_code f ++ l) (functions_code-append fs gs) ∙ sym (append_assoc (function_code f) (functions_code fs) (functions_code gs))
+functions_code-append (f ∷ fs) gs =
+    let code = machine.owned (length (locals_of f)) (function_code f) in
+    ap (λ l. code ++ l) (functions_code-append fs gs) ∙ sym (append_assoc code (functions_code fs) (functions_code gs))
 
 entries_from-append : (at : ℕ) (fs gs : List Function) → entries_from at (fs ++ gs) ≡ entries_from at fs ++ entries_from (at + length (functions_code fs)) gs
 entries_from-append at [] gs = let here : at ≡ at + 0 = omega arith in ap (λ k. entries_from k gs) here
 entries_from-append at (f ∷ fs) gs =
     let first : machine.Entry = record { at = at; parameters = length f.parameters; locals = length (locals_of f) } in
     let next = at + length (function_code f) in
-    let far : next + length (functions_code fs) ≡ at + length (function_code f ++ functions_code fs) = omega (arith, length-append (function_code f) (functions_code fs)) in
+    let code = machine.owned (length (locals_of f)) (function_code f) in
+    let far : next + length (functions_code fs) ≡ at + length (code ++ functions_code fs) = omega (arith, length-owned (length (locals_of f)) (function_code f), length-append code (functions_code fs)) in
     ap (λ l. first ∷ l) (entries_from-append next fs gs ∙ ap (λ k. entries_from next fs ++ entries_from k gs) far)
 
 -- how many lines a table has, once it has more code and functions
-pub length_with : {a b : Contents} {code : List machine.Instr} {entries : List machine.Entry} → GainsRoutines a b code entries → length b.lines ≡ length a.lines + length code
+pub length_with : {a b : Contents} {code : List machine.Owned} {entries : List machine.Entry} → GainsRoutines a b code entries → length b.lines ≡ length a.lines + length code
 length_with {a} {b} {code} {entries} h = omega (arith, ap length h.lines, length-append (code_of a) code, length-code_of a, length-code_of b)
 
 pub functions_none : (t : Contents) → GainsFunctions t t []
@@ -248,7 +267,7 @@ found_is g None there x a h is some = absurd cc
 found_is g (Some b) there x a h is some = cc
 
 -- code that is put, and its routine
-pub routine_gains : {a b c : Contents} (xs : List machine.Instr) (at k n parameters locals : ℕ) → at ≡ length a.lines → k ≡ parameters → n ≡ locals → GainsRoutines a b xs []
+pub routine_gains : {a b c : Contents} (xs : List machine.Owned) (at k n parameters locals : ℕ) → at ≡ length a.lines → k ≡ parameters → n ≡ locals → GainsRoutines a b xs []
     → c ≡ record b { routines = b.routines ++ (record { at = at; parameters = k; locals = n }) ∷ [] } → GainsRoutines a c xs ((record { at = length a.lines; parameters = parameters; locals = locals }) ∷ [])
 routine_gains {a} {b} {c} xs at k n parameters locals here many names h is =
     let r : Routine = record { at = at; parameters = k; locals = n } in
@@ -263,29 +282,30 @@ routine_gains {a} {b} {c} xs at k n parameters locals here many names h is =
     subst (λ t. GainsRoutines a t xs (entry (length a.lines) parameters locals ∷ [])) (sym is) (subst (λ e. GainsRoutines a (record b { routines = b.routines ++ r ∷ [] }) xs (e ∷ [])) same put)
 
 pub define_functions : {a b : Contents} (d : Define) (s : Stmt) (names : List Text) → s ≡ stmts.Define d → names ≡ locals_of (defined d)
-    → GainsRoutines a b (stmts_code names 0 (body_of d.body.items) ++ machine.Return (machine.Literal Nothing) ∷ []) (record { at = length a.lines; parameters = length d.parameters.items; locals = length names } ∷ [])
+    → GainsRoutines a b (machine.owned (length names) (stmts_code names 0 (body_of d.body.items) ++ machine.Return (machine.Literal Nothing) ∷ [])) (record { at = length a.lines; parameters = length d.parameters.items; locals = length names } ∷ [])
     → GainsFunctions a b (functions_of (stmt_of s))
 define_functions {a} {b} d s names is named h =
     let f = defined d in
     let end = machine.Return (machine.Literal Nothing) ∷ [] in
     let entry : ℕ → ℕ → List machine.Entry = λ k n. record { at = length a.lines; parameters = k; locals = n } ∷ [] in
-    let code : stmts_code names 0 (body_of d.body.items) ++ end ≡ function_code f ++ [] = ap (λ l. stmts_code l 0 (body_of d.body.items) ++ end) named ∙ sym (append-nil (function_code f)) in
+    let all = machine.owned (length (locals_of f)) (function_code f) in
+    let code : machine.owned (length names) (stmts_code names 0 (body_of d.body.items) ++ end) ≡ all ++ [] = ap (λ l. machine.owned (length l) (stmts_code l 0 (body_of d.body.items) ++ end)) named ∙ sym (append-nil all) in
     let counted : length d.parameters.items ≡ length (map string_bytes d.parameters.items) = sym (length-map d.parameters.items string_bytes) in
     let entries : entry (length d.parameters.items) (length names) ≡ entry (length f.parameters) (length (locals_of f)) = ap (λ k. entry k (length names)) counted ∙ ap (λ l. entry (length f.parameters) (length l)) named in
     subst (GainsFunctions a b) (sym (defines d s is))
-    (subst (GainsRoutines a b (function_code f ++ [])) entries (subst (λ c. GainsRoutines a b c (entry (length d.parameters.items) (length names))) code h))
+    (subst (GainsRoutines a b (all ++ [])) entries (subst (λ c. GainsRoutines a b c (entry (length d.parameters.items) (length names))) code h))
 
 -- ---- a whole script
 
 -- its functions, and then its statements
-pub script_gains : {a b c : Contents} (body seen again : Stmts) (first count : ℕ) → seen ≡ body → again ≡ body → first ≡ count → GainsFunctions a b (functions_in seen) → GainsRoutines b c (module_code first again) []
-    → GainsRoutines a c (functions_code (functions_in body) ++ module_code count body) (entries_from (length a.lines) (functions_in body))
+pub script_gains : {a b c : Contents} (body seen again : Stmts) (first count : ℕ) → seen ≡ body → again ≡ body → first ≡ count → GainsFunctions a b (functions_in seen) → GainsRoutines b c (machine.owned 0 (module_code first again)) []
+    → GainsRoutines a c (functions_code (functions_in body) ++ machine.owned 0 (module_code count body)) (entries_from (length a.lines) (functions_in body))
 script_gains {a} {b} {c} body seen again first count e0 e1 e2 h k =
     let entries = entries_from (length a.lines) (functions_in body) in
     let functions = subst (λ s. GainsFunctions a b (functions_in s)) e0 h in
-    let statements = subst (λ n. GainsRoutines b c (module_code n body) []) e2 (subst (λ s. GainsRoutines b c (module_code first s) []) e1 k) in
-    subst (GainsRoutines a c (functions_code (functions_in body) ++ module_code count body)) (append-nil entries)
-    (GainsRoutines-append a b c (functions_code (functions_in body)) (module_code count body) entries [] functions statements)
+    let statements = subst (λ n. GainsRoutines b c (machine.owned 0 (module_code n body)) []) e2 (subst (λ s. GainsRoutines b c (machine.owned 0 (module_code first s)) []) e1 k) in
+    subst (GainsRoutines a c (functions_code (functions_in body) ++ machine.owned 0 (module_code count body))) (append-nil entries)
+    (GainsRoutines-append a b c (functions_code (functions_in body)) (machine.owned 0 (module_code count body)) entries [] functions statements)
 
 -- where its statements begin
 pub script_at : {a b : Contents} (body seen : Stmts) (at : ℕ) → seen ≡ body → at ≡ length b.lines → GainsFunctions a b (functions_in seen) → at ≡ length a.lines + length (functions_code (functions_in body))
@@ -293,16 +313,16 @@ script_at {a} {b} body seen at e0 here h = here ∙ length_with (subst (λ s. Ga
 
 -- the table that it gives, and where its statements begin
 pub script_compiled : {a b : Contents} (body : Stmts) (at : ℕ) → at ≡ length a.lines + length (functions_code (functions_in body))
-    → GainsRoutines a b (functions_code (functions_in body) ++ module_code (length a.routines) body) (entries_from (length a.lines) (functions_in body))
+    → GainsRoutines a b (functions_code (functions_in body) ++ machine.owned 0 (module_code (length a.routines) body)) (entries_from (length a.lines) (functions_in body))
     → (table_of b, at) ≡ compiled (table_of a) (record { body = body })
 script_compiled {a} {b} body at here h =
     let fs = functions_in body in
     let code = functions_code fs in
-    let made : List machine.Instr → List machine.Entry → ℕ → machine.Table × ℕ = λ lines entries place. (record { lines = lines; entries = entries }, place) in
+    let made : List machine.Owned → List machine.Entry → ℕ → machine.Table × ℕ = λ lines entries place. (record { lines = lines; entries = entries }, place) in
     let counted : length a.routines ≡ length (entries_of a) = sym (length-map a.routines entry_of) in
     let long : length a.lines ≡ length (code_of a) = sym (length-code_of a) in
-    let lines : code_of b ≡ code_of a ++ (code ++ module_code (length (entries_of a)) body) = h.lines ∙ ap (λ n. code_of a ++ (code ++ module_code n body)) counted in
+    let lines : code_of b ≡ code_of a ++ (code ++ machine.owned 0 (module_code (length (entries_of a)) body)) = h.lines ∙ ap (λ n. code_of a ++ (code ++ machine.owned 0 (module_code n body))) counted in
     let entries : entries_of b ≡ entries_of a ++ entries_from (length (code_of a)) fs = h.more ∙ ap (λ n. entries_of a ++ entries_from n fs) long in
     let place : at ≡ length (code_of a) + length code = here ∙ ap (λ n. n + length code) long in
-    ap (λ l. made l (entries_of b) at) lines ∙ ap (λ l. made (code_of a ++ (code ++ module_code (length (entries_of a)) body)) l at) entries
-    ∙ ap (made (code_of a ++ (code ++ module_code (length (entries_of a)) body)) (entries_of a ++ entries_from (length (code_of a)) fs)) place
+    ap (λ l. made l (entries_of b) at) lines ∙ ap (λ l. made (code_of a ++ (code ++ machine.owned 0 (module_code (length (entries_of a)) body))) l at) entries
+    ∙ ap (made (code_of a ++ (code ++ machine.owned 0 (module_code (length (entries_of a)) body))) (entries_of a ++ entries_from (length (code_of a)) fs)) place

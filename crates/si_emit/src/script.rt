@@ -26,7 +26,7 @@ use std::alloc::AllocError;
 pub fn compile(tree: &Scoped, table: &mut CodeTable) -> Result<usize, NoMemory>
     ensures ok { IfOk result (λ at. (table_of table.new, at) ≡ compiled (table_of table.old) (record { body = script_of tree.now })) }
     ensures gains { let functions = functions_in (script_of tree.now) in
-        OnOk result (GainsRoutines table.old table.new (functions_code functions ++ module_code (length table.old.routines) (script_of tree.now)) (entries_from (length table.old.lines) functions)) }
+        OnOk result (GainsRoutines table.old table.new (functions_code functions ++ machine.owned 0 (module_code (length table.old.routines) (script_of tree.now))) (entries_from (length table.old.lines) functions)) }
     ensures extends { OnOk result (Extends table.old table.new) }
     ensures err { OnErr result (table.new ≡ table.old) }
 {
@@ -44,7 +44,7 @@ pub fn compile(tree: &Scoped, table: &mut CodeTable) -> Result<usize, NoMemory>
 // begins.
 fn emit_script(table: &mut CodeTable, tree: &Scoped) -> Result<usize, NoMemory>
     ensures ok { let functions = functions_in (script_of tree.now) in
-        OnOk result (GainsRoutines table.old table.new (functions_code functions ++ module_code (length table.old.routines) (script_of tree.now)) (entries_from (length table.old.lines) functions)) }
+        OnOk result (GainsRoutines table.old table.new (functions_code functions ++ machine.owned 0 (module_code (length table.old.routines) (script_of tree.now))) (entries_from (length table.old.lines) functions)) }
     ensures at { IfOk result (λ at. at ≡ length table.old.lines + length (functions_code (functions_in (script_of tree.now)))) }
     ensures extends { Extends table.old table.new }
 {
@@ -60,7 +60,7 @@ fn emit_script(table: &mut CodeTable, tree: &Scoped) -> Result<usize, NoMemory>
 // The statements of a script, whose functions are numbered from `first` on, and the end of its run. They are the code of
 // no function.
 fn emit_body(table: &mut CodeTable, first: u32, body: &[Stmt]) -> Result<(), NoMemory>
-    ensures ok { OnOk result (GainsRoutines table.old table.new (module_code first (body_of body.now)) []) }
+    ensures ok { OnOk result (GainsRoutines table.old table.new (machine.owned 0 (module_code first (body_of body.now))) []) }
     ensures extends { Extends table.old table.new }
 {
     table.close();
@@ -263,7 +263,7 @@ fn emit_function(
     number: &mut u32,
     function: &Define,
 ) -> Result<(), NoMemory>
-    ensures ok { OnOk result (GainsRoutines table.old table.new (stmts_code locals.now 0 (body_of function.now.body.items) ++ machine.Return (machine.Literal Nothing) ∷ []) ((record { at = length table.old.lines; parameters = length function.now.parameters.items; locals = length locals.now }) ∷ [])) }
+    ensures ok { OnOk result (GainsRoutines table.old table.new (machine.owned (length locals.now) (stmts_code locals.now 0 (body_of function.now.body.items) ++ machine.Return (machine.Literal Nothing) ∷ [])) ((record { at = length table.old.lines; parameters = length function.now.parameters.items; locals = length locals.now }) ∷ [])) }
     ensures number { OnOk result (number.new ≡ number.old + 1) }
     ensures extends { Extends table.old table.new }
 {
@@ -279,7 +279,7 @@ fn emit_function(
 
 // The code of a function with these locals. At its end it returns None.
 fn emit_code(table: &mut CodeTable, locals: &Names, body: &[Stmt]) -> Result<(), NoMemory>
-    ensures ok { OnOk result (GainsRoutines table.old table.new (stmts_code locals.now 0 (body_of body.now) ++ machine.Return (machine.Literal Nothing) ∷ []) []) }
+    ensures ok { OnOk result (GainsRoutines table.old table.new (machine.owned (length locals.now) (stmts_code locals.now 0 (body_of body.now) ++ machine.Return (machine.Literal Nothing) ∷ [])) []) }
     ensures extends { Extends table.old table.new }
 {
     table.open(locals)?;

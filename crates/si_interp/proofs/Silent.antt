@@ -15,7 +15,7 @@ use Rattle.si_semantics.specs.Attributes as attributes
 use Rattle.si_semantics.specs.Attributes.{Method, attribute, called, method_of, call_method}
 use Rattle.si_semantics.specs.Operations.{Iterator, Next, Item, Exhausted, Refuses, is_true}
 use Rattle.si_semantics.specs.Meaning.{Leave, choose, decides, slot_at}
-use Rattle.si_slots.specs.Machine.{Source, Local, Global, Temporary, Kept, Literal, Target, ToTemporary, ToLocal, ToJump, ToNowhere, Instr, Block, Place, At, Calling, Taking, Ending, Closed, Line, Entry, Stamped, Course, next, on, stamped, act, aimed, below, bound, calls, calls_by, calls_method, defined, ends_finally, enters, fetched, gives_item, goes, having, lands, on_callee, raises, reads, starts_for, stuck, unpacks, yields, subscripts}
+use Rattle.si_slots.specs.Machine.{Source, Local, Global, Temporary, Kept, Literal, Target, ToTemporary, ToLocal, ToJump, ToNowhere, Instr, Owned, Block, Place, At, Calling, Taking, Ending, Closed, Line, Entry, Stamped, Course, next, on, stamped, act, aimed, below, bound, calls, calls_by, calls_method, defined, ends_finally, enters, fetched, gives_item, goes, having, lands, on_callee, raises, reads, starts_for, stuck, unpacks, yields, subscripts}
 use Rattle.si_slots.specs.Machine as machine
 use Rattle.si_slots.specs.Code.{compiled}
 use Rattle.si_slots.specs.Shows.{standing_of, texts}
@@ -232,9 +232,9 @@ silent_act es (machine.Reverse t n) next ts slots bs w =
 silent_act es (machine.Return a) next ts slots bs w = silent_reads a ts slots bs w _ (λ v. λ n. refl)
 silent_act es machine.Finish next ts slots bs w = λ n. refl
 
-pub silent_fetched : (es : List Entry) (i : Option Instr) (pc : ℕ) (ts : List Value) (slots : List (Option Value)) (bs : List Block) (w : World) → Silent (fetched es i pc ts slots bs w)
+pub silent_fetched : (es : List Entry) (i : Option Owned) (pc : ℕ) (ts : List Value) (slots : List (Option Value)) (bs : List Block) (w : World) → Silent (fetched es i pc ts slots bs w)
 silent_fetched es None pc ts slots bs w = λ n. refl
-silent_fetched es (Some i) pc ts slots bs w = silent_act es i (pc + 1) ts slots bs w
+silent_fetched es (Some i) pc ts slots bs w = silent_choose (nat_eq (length slots) i.locals) _ _ (silent_act es i.instr (pc + 1) ts slots bs w) (λ n. refl)
 
 -- ---- courses
 

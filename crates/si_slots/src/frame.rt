@@ -1,5 +1,5 @@
 // The names of the locals of a function.
-ghost use Rattle.std.specs.Prelude.{◌≡◌, IfOk};
+ghost use Rattle.std.specs.Prelude.{◌≡◌, length, IfOk};
 ghost use Rattle.si_slots.specs.Views.{text_at};
 
 use si_plain::{Names, NoMemory};
@@ -33,6 +33,13 @@ impl Frame {
             copies.push(String::from_str(alloc, name)?)?;
         }
         Ok(Frame { names: copies })
+    }
+
+    /// How many there are.
+    pub(crate) fn len(&self) -> usize
+        ensures { result ≡ length self.now }
+    {
+        self.names.len()
     }
 
     /// The one at a place; where there is none, the empty one.

@@ -28,7 +28,7 @@ pub fn lives()
 {}
 
 /// However far compiled code runs, and whatever its requests are answered, it never comes to where an instruction is
-/// missing, or lacks a temporary.
+/// missing, is of another function than the frame, or lacks a temporary.
 pub fn stays_open()
     ensures { StaysOpen }
 {}

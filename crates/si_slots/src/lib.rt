@@ -38,6 +38,4 @@ pub use operand::{Aim, Constant, Operand, Source, Target};
 pub use routine::Routine;
 pub use spots::Spot;
 pub use table::{CodeTable, Mark};
-pub use unpack::{
-    apart_at, is_constant, is_literal, jump_at, source_at, target_at, temporary_at, widened,
-};
+pub use unpack::{apart_at, is_constant, is_literal, jump_at, source_at, target_at, widened};
