@@ -1,5 +1,5 @@
 -- Values that are gathered one by one, for a tuple or from one.
-use Rattle.std.proofs.Common.{◌≡◌, ◌≢◌, ℕ, zero, suc, ◌+◌, ◌-◌, ◌<◌, ◌≤◌, ℤ, pos, ◌+ℤ◌, List, [], ◌∷◌, ◌++◌, length, drop, get_or, Bool, true, false, Option, Some, None, Result, Ok, Err, refl, sym, ap, ◌∙◌, arith, append_assoc, append-nil, add-one}
+use Rattle.std.proofs.Common.{◌≡◌, ◌≢◌, ℕ, zero, suc, ◌+◌, ◌-◌, ◌<◌, ◌≤◌, ℤ, pos, ◌+ℤ◌, List, [], ◌∷◌, ◌++◌, length, drop, get_or, replicate, Bool, true, false, Option, Some, None, Result, Ok, Err, refl, sym, ap, ◌∙◌, arith, append_assoc, append-nil, add-one}
 use Rattle.std.specs.Prelude.{◌*ℤ◌, ◌||◌, option_map, slice_get, IfOk}
 use Rattle.std.proofs.Math.IntN.{suc_ℤ-*ℤ, +ℤ_idr, zero-*ℤ, +ℤ_assoc}
 use Rattle.std.proofs.lemmas.List.{map-append}
@@ -14,7 +14,7 @@ use Rattle.si_arena.specs.declared.value.Ref.{Ref}
 use Rattle.si_arena.specs.declared.view.View.{View}
 use Rattle.si_arena.specs.declared.view.View.TheVariants as view
 use Rattle.si_arena.specs.Views.{value_in}
-use Rattle.si_arena.specs.Memory.{Memory, value_of, all_of, AllLie}
+use Rattle.si_arena.specs.Memory.{Memory, value_of, all_of, Lies, AllLie}
 use Rattle.si_ops.proofs.Compared.{after}
 use Rattle.si_ops.proofs.Providing.{values_after}
 use Rattle.si_ops.proofs.MadeBytes.{one_left}
@@ -29,6 +29,15 @@ ok_to (Err e) P Q f h = h
 pub lie_joined : (m : Memory) (xs ys : List Ref) → AllLie m xs → AllLie m ys → AllLie m (xs ++ ys)
 lie_joined m [] ys h k = k
 lie_joined m (x ∷ xs) ys h k = (h.0, lie_joined m xs ys h.1 k)
+
+-- one value so many times lies where it does, and denotes what it does so many times
+pub lie_filled : (m : Memory) (r : Ref) (n : ℕ) → Lies m r → AllLie m (replicate n r)
+lie_filled m r zero h = tt
+lie_filled m r (suc n) h = (h, lie_filled m r n h)
+
+pub all_filled : (m : Memory) (r : Ref) (n : ℕ) → all_of m (replicate n r) ≡ copies n (value_of m r ∷ [])
+all_filled m r zero = refl
+all_filled m r (suc n) = ap (λ vs. value_of m r ∷ vs) (all_filled m r n)
 
 pub all_joined : (m : Memory) (xs ys : List Ref) → all_of m (xs ++ ys) ≡ all_of m xs ++ all_of m ys
 all_joined m xs ys = map-append (value_of m) xs ys

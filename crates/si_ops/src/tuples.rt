@@ -1,6 +1,6 @@
 // Tuples: operators between them, and the built-in that makes them.
 
-ghost use Rattle.std.specs.Prelude.{◌≡◌, ◌≤◌, ◌<◌, ◌+◌, ◌-◌, ◌*◌, true, length, nat_lt, ◌||◌, OnOk, IfOk, None, ◌++◌, ◌∷◌, []};
+ghost use Rattle.std.specs.Prelude.{◌≡◌, ◌≤◌, ◌<◌, ◌+◌, ◌-◌, ◌*◌, true, length, nat_lt, ◌||◌, OnOk, IfOk, None, ◌++◌, ◌∷◌, [], replicate};
 ghost use Rattle.si_semantics.specs.Value as pure;
 ghost use Rattle.si_semantics.specs.Value.{tuple_of, Int};
 ghost use Rattle.si_semantics.specs.Operations as operations;
@@ -173,10 +173,22 @@ pub fn copied(alloc: Global, items: &[Ref], count: u64) -> Result<Vec<Ref>, NoMe
     ensures all { (m : Memory) → IfOk result (λ all. all_of m all.items ≡ copies count (all_of m items.now)) }
     ensures lie { (m : Memory) → AllLie m items.now → IfOk result (λ all. AllLie m all.items) }
 {
+    if let [item] = items {
+        return filled(alloc, *item, count);
+    }
     let mut all = Vec::new(alloc);
     for _turn in 0..count {
         all.extend_from_slice(items)?;
     }
+    Ok(all)
+}
+
+// One value so many times, for which memory is asked once.
+fn filled(alloc: Global, item: Ref, count: u64) -> Result<Vec<Ref>, NoMemory>
+    ensures { IfOk result (λ all. all.items ≡ replicate count item) }
+{
+    let mut all = Vec::new(alloc);
+    all.resize(count as usize, item)?;
     Ok(all)
 }
 
