@@ -36,6 +36,7 @@ use Rattle.si_ops.specs.Changes.{Changes, Takes}
 use Rattle.si_methods.specs.Needing.{IsTold}
 use Rattle.si_methods.specs.Shown.{IsTextOf}
 use Rattle.si_methods.proofs.Otherwise.{encodes_nothing}
+use Rattle.si_methods.specs.declared.joining.Gathered.{Gathered}
 use Rattle.si_methods.specs.Joining.{Joins, JoinsItems}
 
 -- a call that goes as another
@@ -170,7 +171,7 @@ bytes_placed bs own old new (Err NoMemory) h = h
 
 -- ---- texts that are joined
 
-pub joins_items : (s : pure.Text) (u : pure.Value) (m : Memory) (vs : List pure.Value) (r : Result pure.Text Fault) → ((w : World) → w.store ≡ m.store → texts_in u w ≡ Some vs) → Joins (joined_texts s vs) m r → JoinsItems (pure.Str s) u m r
+pub joins_items : (s : pure.Text) (u : pure.Value) (m : Memory) (vs : List pure.Value) (r : Result Gathered Fault) → ((w : World) → w.store ≡ m.store → texts_in u w ≡ Some vs) → Joins (joined_texts s vs) m r → JoinsItems (pure.Str s) u m r
 joins_items s u m vs (Ok t) h j = λ w e. ap (λ o. joins_texts (pure.Str s) o w) (h w e) ∙ ap (λ o. text_made o w) j
 joins_items s u m vs (Err (Raises cause)) h j = ((λ w e. ap (λ o. joins_texts (pure.Str s) o w) (h w e) ∙ j.0 w e), j.1)
 joins_items s u m vs (Err NoMemory) h j = tt

@@ -11,6 +11,8 @@ use Rattle.si_arena.specs.declared.characters.Characters.{Characters}
 use Rattle.si_arena.specs.Texts.{characters_in}
 use Rattle.si_arena.specs.Memory.{Memory, all_of, AllLie}
 use Rattle.si_ops.specs.Runs.{Throws}
+use Rattle.si_methods.specs.declared.joining.Gathered.{Gathered}
+use Rattle.si_methods.specs.declared.joining.Gathered.TheVariants.{Narrow, Wide}
 use Rattle.si_methods.specs.declared.joining.Pieces.{Pieces}
 use Rattle.si_methods.specs.declared.joining.Pieces.TheVariants.{Values, Characters as Letters}
 use Rattle.si_methods.specs.Shown.{IsStr}
@@ -19,6 +21,11 @@ use Rattle.si_methods.specs.Shown.{IsStr}
 abbrev pub values_in : Memory → Pieces → List pure.Value
 values_in m (Values rs) = all_of m rs.now
 values_in m (Letters part) = tuples.characters_in (characters_in part)
+
+-- the characters that are gathered
+abbrev pub characters_gathered : Gathered → pure.Text
+characters_gathered (Narrow characters) = characters.items
+characters_gathered (Wide text) = text
 
 -- they lie in an arena
 abbrev pub PiecesLie : Memory → Pieces → Type 0
@@ -37,14 +44,14 @@ pub record IsPiece (vs : List pure.Value) (at : ℕ) (piece : Option Characters)
   pub shown : IsStr value piece
 
 -- the text that is made of texts; or why it raises; or memory is refused
-abbrev pub Joins : Option pure.Text → Memory → Result pure.Text Fault → Type 0
-Joins made m (Ok t) = made ≡ Some t
+abbrev pub Joins : Option pure.Text → Memory → Result Gathered Fault → Type 0
+Joins made m (Ok g) = made ≡ Some (characters_gathered g)
 Joins made m (Err (Raises cause)) = Throws (λ w. text_made made w) m cause
 Joins made m (Err NoMemory) = Unit {0}
 
 -- the same of a str and the items of a value
-abbrev pub JoinsItems : (v u : pure.Value) → Memory → Result pure.Text Fault → Type 0
-JoinsItems v u m (Ok t) = (w : World) → w.store ≡ m.store → joins_texts v (texts_in u w) w ≡ text_made (Some t) w
+abbrev pub JoinsItems : (v u : pure.Value) → Memory → Result Gathered Fault → Type 0
+JoinsItems v u m (Ok g) = (w : World) → w.store ≡ m.store → joins_texts v (texts_in u w) w ≡ text_made (Some (characters_gathered g)) w
 JoinsItems v u m (Err (Raises cause)) = Throws (λ w. joins_texts v (texts_in u w) w) m cause
 JoinsItems v u m (Err NoMemory) = Unit {0}
 

@@ -3,9 +3,9 @@
 ghost use Rattle.std.specs.Prelude.{◌≡◌, ◌++◌, ◌∷◌, [], ◌<◌, ℕ, List, length, drop, slice_index, IfOk, OnOk};
 ghost use Rattle.si_semantics.specs.Value as pure;
 ghost use Rattle.si_semantics.specs.Attributes as attributes;
-ghost use Rattle.si_arena.specs.Memory.{Memory, value_of, all_of, Lies, AllLie};
+ghost use Rattle.si_arena.specs.Memory.{Memory, value_of, all_of, Lies, AllLie, PlacesText};
 ghost use Rattle.si_arena.specs.Texts.{characters_in};
-ghost use Rattle.si_methods.specs.Joining.{values_in, told, ComesTo, PiecesLie, HasPieces, IsPiece, Joins, JoinsItems};
+ghost use Rattle.si_methods.specs.Joining.{values_in, characters_gathered, told, ComesTo, PiecesLie, HasPieces, IsPiece, Joins, JoinsItems};
 ghost use Rattle.si_methods.specs.Answering.{Answers};
 
 use crate::arguments::only_argument;
@@ -22,6 +22,13 @@ use std::alloc::Global;
 enum Pieces<'a> {
     Values(&'a [Ref]),
     Characters(Characters<'a>),
+}
+
+// The text that is gathered: characters below 256 as they stand, as long as it has no others.
+#[derive(Drop)]
+enum Gathered {
+    Narrow(Vec<u8>),
+    Wide(Text),
 }
 
 /// `str.join` (Python Standard Library 3.14, "Built-in Types": string methods): the strs of a list or a tuple, or the
@@ -51,13 +58,38 @@ fn join_items(alloc: Global, arena: &mut Arena, object: Ref, items: Ref) -> Resu
     ensures { (own : ℕ) → Answers (λ w. attributes.joins_texts (value_of arena.old object) (attributes.texts_in (value_of arena.old items) w) w) own arena.old arena.new result }
 {
     match joined(alloc, arena, &object, &items) {
-        Ok(text) => placed(arena.place_text(text.as_str())),
+        Ok(gathered) => placed(place(alloc, arena, &gathered)),
         Err(fault) => Err(fault),
     }
 }
 
+// What is gathered, as a str.
+fn place(alloc: Global, arena: &mut Arena, gathered: &Gathered) -> Result<Ref, Fault>
+    ensures { PlacesText (characters_gathered gathered.now) arena.old arena.new result }
+{
+    match gathered {
+        Gathered::Narrow(characters) => place_narrow(alloc, arena, characters),
+        Gathered::Wide(text) => arena.place_text(text.as_str()),
+    }
+}
+
+// Characters below 256 as a str: most have only ASCII, which is UTF-8 as it stands.
+fn place_narrow(alloc: Global, arena: &mut Arena, characters: &[u8]) -> Result<Ref, Fault>
+    ensures { PlacesText characters.now arena.old arena.new result }
+{
+    if characters.is_ascii() {
+        if let Ok(ascii) = std::str::from_utf8(characters) {
+            return arena.place_text(ascii);
+        }
+    }
+    match text_of_narrow(alloc, characters) {
+        Ok(text) => arena.place_text(text.as_str()),
+        Err(_) => Err(Fault::NoMemory),
+    }
+}
+
 // The text of the items of a value with a str between them.
-fn joined(alloc: Global, arena: &Arena, object: &Ref, items: &Ref) -> Result<Text, Fault>
+fn joined(alloc: Global, arena: &Arena, object: &Ref, items: &Ref) -> Result<Gathered, Fault>
     requires object { Lies arena.now object.now }
     requires items { Lies arena.now items.now }
     ensures { JoinsItems (value_of arena.now object.now) (value_of arena.now items.now) arena.now result }
@@ -74,7 +106,7 @@ fn joined_by<'a>(
     arena: &'a Arena,
     between: Characters<'a>,
     items: &'a Ref,
-) -> Result<Text, Fault>
+) -> Result<Gathered, Fault>
     requires { Lies arena.now items.now }
     ensures { JoinsItems (pure.Str (characters_in between.entry)) (value_of arena.now items.now) arena.now result }
 {
@@ -106,12 +138,12 @@ fn join_pieces<'a>(
     arena: &'a Arena,
     between: Characters<'a>,
     pieces: Pieces<'a>,
-) -> Result<Text, Fault>
+) -> Result<Gathered, Fault>
     requires { PiecesLie arena.now pieces }
     ensures { Joins (attributes.joined_texts (characters_in between.entry) (values_in arena.now pieces.entry)) arena.now result }
 {
     if count_of(pieces) == 0 {
-        return Ok(Text::new(alloc));
+        return Ok(Gathered::Narrow(Vec::new(alloc)));
     }
     match piece_at(arena, pieces, 0) {
         Some(first) => join_others(alloc, arena, first, between, pieces),
@@ -126,17 +158,17 @@ fn join_others<'a>(
     first: Characters<'a>,
     between: Characters<'a>,
     pieces: Pieces<'a>,
-) -> Result<Text, Fault>
+) -> Result<Gathered, Fault>
     requires lie { PiecesLie arena.now pieces }
     requires some { 0 < length (values_in arena.now pieces) }
     ensures { Joins (told (characters_in first.entry) (attributes.joined_after (characters_in between.entry) (drop 1 (values_in arena.now pieces.entry)))) arena.now result }
 {
-    let mut text = Text::new(alloc);
-    push(&mut text, first)?;
+    let mut gathered = Gathered::Narrow(Vec::new(alloc));
+    push(alloc, &mut gathered, first)?;
     let mut count = length_of(first);
     for i in 1..count_of(pieces) {
         match piece_at(arena, pieces, i) {
-            Some(piece) => match push_after(&mut text, count, between, piece) {
+            Some(piece) => match push_after(alloc, &mut gathered, count, between, piece) {
                 Ok(more) => count = more,
                 Err(_) => return Err(Fault::NoMemory),
             },
@@ -146,18 +178,20 @@ fn join_others<'a>(
     if count > MAX_STR_LENGTH {
         return Err(Fault::Raises(Cause::TooLong));
     }
-    Ok(text)
+    Ok(gathered)
 }
 
 // Two texts at the end of one that comes to so many characters, and to how many it comes then. Past those of a str nothing is
 // added any more: what comes later may still be no str, and then it is that which is raised.
+#[inline(always)]
 fn push_after(
-    text: &mut Text,
+    alloc: Global,
+    gathered: &mut Gathered,
     count: usize,
     between: Characters<'_>,
     piece: Characters<'_>,
 ) -> Result<usize, NoMemory>
-    ensures { (done : List ℕ) → ComesTo done text.old count → IfOk result (λ more. ComesTo ((done ++ characters_in between.entry) ++ characters_in piece.entry) text.new more) }
+    ensures { (done : List ℕ) → ComesTo done (characters_gathered gathered.old) count → IfOk result (λ more. ComesTo ((done ++ characters_in between.entry) ++ characters_in piece.entry) (characters_gathered gathered.new) more) }
 {
     let more = count
         .saturating_add(length_of(between))
@@ -165,8 +199,8 @@ fn push_after(
     if more > MAX_STR_LENGTH {
         return Ok(more);
     }
-    push(text, between)?;
-    push(text, piece)?;
+    push(alloc, gathered, between)?;
+    push(alloc, gathered, piece)?;
     Ok(more)
 }
 
@@ -203,18 +237,54 @@ fn character(characters: Characters<'_>, at: usize) -> Characters<'_>
     }
 }
 
-// Characters at the end of a text.
-fn push(text: &mut Text, characters: Characters<'_>) -> Result<(), NoMemory>
-    ensures { OnOk result (text.new ≡ text.old ++ characters_in characters.entry) }
+// Characters at the end of what is gathered.
+#[inline(always)]
+fn push(alloc: Global, gathered: &mut Gathered, characters: Characters<'_>) -> Result<(), NoMemory>
+    ensures { OnOk result (characters_gathered gathered.new ≡ characters_gathered gathered.old ++ characters_in characters.entry) }
 {
     match characters {
-        Characters::Narrow(characters) => push_narrow(text, characters),
-        Characters::Wide(characters) => push_wide(text, characters),
+        Characters::Narrow(characters) => push_narrow(gathered, characters),
+        Characters::Wide(characters) => push_wide(alloc, gathered, characters),
     }
 }
 
-// Characters below 256, of which most texts have only ASCII: that is copied as it stands.
-fn push_narrow(text: &mut Text, characters: &[u8]) -> Result<(), NoMemory>
+// Characters below 256: as they stand, unless some before them are not.
+#[inline(always)]
+fn push_narrow(gathered: &mut Gathered, characters: &[u8]) -> Result<(), NoMemory>
+    ensures { OnOk result (characters_gathered gathered.new ≡ characters_gathered gathered.old ++ characters.now) }
+{
+    match gathered {
+        Gathered::Narrow(narrow) => narrow.extend_from_slice(characters),
+        Gathered::Wide(text) => push_latin(text, characters),
+    }
+}
+
+// Any characters: from here on it is a text.
+fn push_wide(alloc: Global, gathered: &mut Gathered, characters: &[char]) -> Result<(), NoMemory>
+    ensures { OnOk result (characters_gathered gathered.new ≡ characters_gathered gathered.old ++ characters.now) }
+{
+    match gathered {
+        Gathered::Narrow(narrow) => {
+            let mut text = text_of_narrow(alloc, narrow)?;
+            push_each(&mut text, characters)?;
+            *gathered = Gathered::Wide(text);
+            Ok(())
+        }
+        Gathered::Wide(text) => push_each(text, characters),
+    }
+}
+
+// The text of characters below 256.
+fn text_of_narrow(alloc: Global, characters: &[u8]) -> Result<Text, NoMemory>
+    ensures { IfOk result (λ text. text ≡ characters.now) }
+{
+    let mut text = Text::with_capacity(alloc, characters.len())?;
+    push_latin(&mut text, characters)?;
+    Ok(text)
+}
+
+// Characters below 256 at the end of a text, of which most have only ASCII: that is copied as it stands.
+fn push_latin(text: &mut Text, characters: &[u8]) -> Result<(), NoMemory>
     ensures { OnOk result (text.new ≡ text.old ++ characters.now) }
 {
     if characters.is_ascii() {
@@ -222,11 +292,11 @@ fn push_narrow(text: &mut Text, characters: &[u8]) -> Result<(), NoMemory>
             return text.push_str(ascii);
         }
     }
-    push_latin(text, characters)
+    push_each_latin(text, characters)
 }
 
-// Characters below 256, one by one.
-fn push_latin(text: &mut Text, characters: &[u8]) -> Result<(), NoMemory>
+// Characters below 256 at the end of a text, one by one.
+fn push_each_latin(text: &mut Text, characters: &[u8]) -> Result<(), NoMemory>
     ensures { OnOk result (text.new ≡ text.old ++ characters.now) }
 {
     for c in characters {
@@ -235,8 +305,8 @@ fn push_latin(text: &mut Text, characters: &[u8]) -> Result<(), NoMemory>
     Ok(())
 }
 
-// Any characters, one by one.
-fn push_wide(text: &mut Text, characters: &[char]) -> Result<(), NoMemory>
+// Any characters at the end of a text, one by one.
+fn push_each(text: &mut Text, characters: &[char]) -> Result<(), NoMemory>
     ensures { OnOk result (text.new ≡ text.old ++ characters.now) }
 {
     for c in characters {

@@ -1,13 +1,13 @@
 use Rattle.std.proofs.Common.{◌≡◌, ◌++◌, length, drop, Some, sym, ap, refl, ◌∙◌, arith}
 use Rattle.si_semantics.specs.Attributes.{joined_after}
 use Rattle.si_arena.specs.Texts.{characters_in}
-use Rattle.si_methods.specs.Joining.{values_in, told}
+use Rattle.si_methods.specs.Joining.{values_in, characters_gathered, told}
 use Rattle.si_methods.proofs.Joined.{next_joined, next_other, all_joined, begins_so}
 use Rattle.si_methods.proofs.Calling.{past_the_most, no_text_made}
 use Rattle.si_methods.proofs.joining.join_others.Goals as goal
 
 pub loop-i-init : goal.loop-i-init
-loop-i-init c = (characters_in c.args.first, begins_so (characters_in c.args.first) c.push.new.text c.length_of-count.result c.length_of-count.ensures (c.in_ok-push.ensures ∙ ap (λ t. t ++ characters_in c.args.first) c.new-text.ensures), refl)
+loop-i-init c = (characters_in c.args.first, begins_so (characters_in c.args.first) (characters_gathered c.push.new.gathered) c.length_of-count.result c.length_of-count.ensures (c.in_ok-push.ensures ∙ ap (λ t. t ++ characters_in c.args.first) c.new.ensures.items), refl)
 
 pub returns-in-None : goal.returns-in-None
 returns-in-None c =

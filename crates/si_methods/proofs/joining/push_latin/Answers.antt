@@ -2,7 +2,7 @@ use Rattle.std.proofs.Common.{◌≡◌, ◌++◌, ℕ, List, subst, ap, ◌∙�
 use Rattle.std.specs.Prelude.{OnOk}
 use Rattle.std.proofs.lemmas.Str.{chars-IsAscii}
 use Rattle.si_plain.specs.Characters.{characters_of}
-use Rattle.si_methods.proofs.joining.push_narrow.Goals as goal
+use Rattle.si_methods.proofs.joining.push_latin.Goals as goal
 
 pub returns-in-Ok : goal.returns-in-Ok
 returns-in-Ok c =
