@@ -27,3 +27,4 @@ pub mod Appended
 pub mod Shown
 pub mod Fetching
 pub mod Indices
+pub mod There
