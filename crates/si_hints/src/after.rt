@@ -74,7 +74,7 @@ impl<'a> Walk<'a> {
                 Symbol::LeftParenthesis | Symbol::LeftBracket | Symbol::Dot
             );
         if goes_on && self.state == State::AfterIs {
-            return Err(Stop::at(token.span.start, Reason::LeftOut(Form::Is)));
+            return Err(Stop::at(token.start(), Reason::LeftOut(Form::Is)));
         }
         if is_arithmetic(symbol) {
             return self.operator(token, State::Tight);
@@ -109,7 +109,7 @@ impl<'a> Walk<'a> {
     // Whether the same symbol follows at once.
     fn is_doubled(&self, token: Token<'a>) -> bool {
         match self.next {
-            Some(next) => next.kind == token.kind && next.span.start == token.span.end,
+            Some(next) => next.kind == token.kind && next.start() == token.end(),
             None => false,
         }
     }
@@ -133,7 +133,7 @@ impl<'a> Walk<'a> {
                 self.operator(token, State::Operand)
             }
             Keyword::For | Keyword::Async if !self.frames.is_empty() => Err(Stop::at(
-                token.span.start,
+                token.start(),
                 Reason::LeftOut(Form::Comprehensions),
             )),
             Keyword::As if self.part == Part::Except && self.frames.is_empty() => {
@@ -142,7 +142,7 @@ impl<'a> Walk<'a> {
                 Ok(())
             }
             Keyword::From if self.part == Part::Raise && self.frames.is_empty() => Err(Stop::at(
-                token.span.start,
+                token.start(),
                 Reason::LeftOut(Form::RaiseFrom),
             )),
             _ => self.no_operator(token),
@@ -156,9 +156,9 @@ impl<'a> Walk<'a> {
         };
         match before.kind {
             TokenKind::Str | TokenKind::Bytes if before.kind == token.kind => Ok(()),
-            TokenKind::Str | TokenKind::Bytes => { Err(Stop::at(token.span.start, Reason::Mixed)) }
-            TokenKind::Name if before.span.end == token.span.start && is_format(before.text) => {
-                Err(Stop::at(before.span.start, Reason::LeftOut(Form::FStrings)))
+            TokenKind::Str | TokenKind::Bytes => { Err(Stop::at(token.start(), Reason::Mixed)) }
+            TokenKind::Name if before.end() == token.start() && is_format(before.text) => {
+                Err(Stop::at(before.start(), Reason::LeftOut(Form::FStrings)))
             }
             _ => self.no_operator(token),
         }
@@ -168,13 +168,13 @@ impl<'a> Walk<'a> {
     pub(crate) fn no_operator(&mut self, token: Token<'a>) -> Result<(), Stop<'a>> {
         if self.frames.is_empty() && self.part == Part::Plain {
             if let Some(reason) = self.first_word(token) {
-                return Err(Stop::at(self.level.first_or(token.span.start), reason));
+                return Err(Stop::at(self.level.first_or(token.start()), reason));
             }
         }
         self.unclosed(token)?;
         if let TokenKind::Keyword(keyword) = token.kind {
             if let Some(form) = form_of(keyword) {
-                return Err(Stop::at(token.span.start, Reason::LeftOut(form)));
+                return Err(Stop::at(token.start(), Reason::LeftOut(form)));
             }
         }
         self.expected(self.wanted(), token)

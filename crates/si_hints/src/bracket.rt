@@ -62,7 +62,7 @@ impl<'a> Walk<'a> {
 
     // A closed bracket.
     pub(crate) fn close(&mut self, symbol: Symbol, token: Token<'a>) -> Result<(), Stop<'a>> {
-        let at = token.span.start;
+        let at = token.start();
         let Some(frame) = self.frames.last() else {
             return Err(Stop::at(at, Reason::Unopened(token.text)));
         };
@@ -100,7 +100,7 @@ impl<'a> Walk<'a> {
             return false;
         };
         token.kind == TokenKind::Name
-            && token.span.line > before.span.line
+            && token.line() > before.line()
             && matches!(
                 next.kind,
                 TokenKind::Symbol(Symbol::Equal | Symbol::LeftParenthesis | Symbol::Dot)
@@ -111,7 +111,7 @@ impl<'a> Walk<'a> {
     pub(crate) fn unclosed(&self, token: Token<'a>) -> Result<(), Stop<'a>> {
         match self.frames.last() {
             Some(frame) if begins_statement(token) || self.begins_line(token) => Err(Stop::at(
-                frame.open.span.start,
+                frame.open.start(),
                 Reason::Unclosed(frame.open.text),
             )),
             _ => Ok(()),
@@ -130,7 +130,7 @@ impl<'a> Walk<'a> {
                 self.expected(self.wanted(), token)
             }
             Part::Delete if self.level.item_shape() != Shape::Item => Err(Stop::at(
-                self.level.first_or(token.span.start),
+                self.level.first_or(token.start()),
                 Reason::NoDelete(self.level.item_shape()),
             )),
             _ => self.end(token),

@@ -36,7 +36,7 @@ impl<'a> Walk<'a> {
                 self.state = State::Colon;
                 Ok(())
             }
-            _ => Err(Stop::at(token.span.start, Reason::Alone(token.text))),
+            _ => Err(Stop::at(token.start(), Reason::Alone(token.text))),
         }
     }
 
@@ -47,8 +47,8 @@ impl<'a> Walk<'a> {
                 self.expression(Part::Except, State::Except);
                 Ok(())
             }
-            Clause::Bare => Err(Stop::at(token.span.start, Reason::BareNotLast)),
-            _ => Err(Stop::at(token.span.start, Reason::Alone(token.text))),
+            Clause::Bare => Err(Stop::at(token.start(), Reason::BareNotLast)),
+            _ => Err(Stop::at(token.start(), Reason::Alone(token.text))),
         }
     }
 
@@ -60,7 +60,7 @@ impl<'a> Walk<'a> {
                 self.colon(token)
             }
             TokenKind::Symbol(Symbol::Star) => Err(Stop::at(
-                token.span.start,
+                token.start(),
                 Reason::LeftOut(Form::ExceptStar),
             )),
             _ => {
@@ -84,10 +84,10 @@ impl<'a> Walk<'a> {
                 Ok(())
             }
             TokenKind::Keyword(Keyword::If) if self.clause == Clause::Last => {
-                Err(Stop::at(token.span.start, Reason::Slip(Slip::ElseIf)))
+                Err(Stop::at(token.start(), Reason::Slip(Slip::ElseIf)))
             }
             TokenKind::Symbol(Symbol::Minus) if self.clause == Clause::Define => Err(Stop::at(
-                token.span.start,
+                token.start(),
                 Reason::LeftOut(Form::Annotations),
             )),
             _ => self.expected("`:`", token),

@@ -20,7 +20,7 @@ impl<'a> Walk<'a> {
     // A comma.
     pub(crate) fn comma(&mut self, token: Token<'a>) -> Result<(), Stop<'a>> {
         self.whole(token)?;
-        let at = token.span.start;
+        let at = token.start();
         match self.frames.last() {
             Some(frame) => match frame.bracket {
                 Bracket::Index => {
@@ -52,7 +52,7 @@ impl<'a> Walk<'a> {
         if self.level.after_named {
             return self.expected("`:`", token);
         }
-        Err(Stop::at(token.span.start, Reason::LeftOut(Form::Sets)))
+        Err(Stop::at(token.start(), Reason::LeftOut(Form::Sets)))
     }
 
     // An argument ends, which is passed by name or stands before all that are.
@@ -66,10 +66,10 @@ impl<'a> Walk<'a> {
     // A colon after an operand.
     pub(crate) fn inner_colon(&mut self, token: Token<'a>) -> Result<(), Stop<'a>> {
         self.whole(token)?;
-        let at = token.span.start;
+        let at = token.start();
         let is_walrus = match self.next {
             Some(next) => {
-                next.kind == TokenKind::Symbol(Symbol::Equal) && next.span.start == token.span.end
+                next.kind == TokenKind::Symbol(Symbol::Equal) && next.start() == token.end()
             }
             None => false,
         };
@@ -99,10 +99,10 @@ impl<'a> Walk<'a> {
         match self.part {
             Part::Test | Part::Over | Part::Except => self.colon(token),
             Part::Plain if self.level.first_text() == "match" => Err(Stop::at(
-                self.level.first_or(token.span.start),
+                self.level.first_or(token.start()),
                 Reason::LeftOut(Form::Match),
             )),
-            Part::Plain => Err(Stop::at(token.span.start, Reason::LeftOut(Form::Annotations))),
+            Part::Plain => Err(Stop::at(token.start(), Reason::LeftOut(Form::Annotations))),
             _ => self.expected(self.wanted(), token),
         }
     }
@@ -110,7 +110,7 @@ impl<'a> Walk<'a> {
     // An `=` after an operand.
     pub(crate) fn equal(&mut self, token: Token<'a>) -> Result<(), Stop<'a>> {
         self.whole(token)?;
-        let at = token.span.start;
+        let at = token.start();
         match self.frames.last() {
             Some(frame) => {
                 let name = self.level.one_name();
@@ -138,7 +138,7 @@ impl<'a> Walk<'a> {
     // What is meant by an `=` in a test.
     fn assigning(&self, token: Token<'a>) -> Slip {
         match self.next {
-            Some(next) if next.span.start == token.span.end => match next.kind {
+            Some(next) if next.start() == token.end() => match next.kind {
                 TokenKind::Symbol(Symbol::Greater) => Slip::AtLeast,
                 TokenKind::Symbol(Symbol::Less) => Slip::AtMost,
                 _ => Slip::Assigns,
@@ -172,7 +172,7 @@ impl<'a> Walk<'a> {
         let shape = self.level.shape(false);
         if !shape.is_augmented() || self.level.comma {
             return Err(Stop::at(
-                self.level.first_or(token.span.start),
+                self.level.first_or(token.start()),
                 Reason::NoAugmented(shape),
             ));
         }

@@ -88,7 +88,7 @@ impl<'a> Level<'a> {
     // The place of the item's first token, or else another.
     pub(crate) fn first_or(&self, place: usize) -> usize {
         match self.first {
-            Some(token) => token.span.start,
+            Some(token) => token.start(),
             None => place,
         }
     }
@@ -139,7 +139,7 @@ impl<'a> Level<'a> {
         if self.item_shape().is_target() {
             None
         } else {
-            Some((first.span.start, self.item_shape()))
+            Some((first.start(), self.item_shape()))
         }
     }
 

@@ -63,7 +63,7 @@ impl<'a> Walk<'a> {
 
     // A parameter, or the closed bracket.
     fn parameter(&mut self, token: Token<'a>) -> Result<(), Stop<'a>> {
-        let at = token.span.start;
+        let at = token.start();
         match token.kind {
             TokenKind::Name => {
                 if self.parameters.position(token.text).is_some() {
@@ -91,7 +91,7 @@ impl<'a> Walk<'a> {
 
     // After a parameter.
     fn after_parameter(&mut self, token: Token<'a>) -> Result<(), Stop<'a>> {
-        let at = token.span.start;
+        let at = token.start();
         match token.kind {
             TokenKind::Symbol(Symbol::Comma) => {
                 self.state = State::Parameter;
@@ -121,7 +121,7 @@ impl<'a> Walk<'a> {
         } else {
             return Ok(());
         };
-        Err(Stop::at(token.span.start, Reason::Rule(rule)))
+        Err(Stop::at(token.start(), Reason::Rule(rule)))
     }
 
     // A part of an import.
@@ -144,7 +144,7 @@ impl<'a> Walk<'a> {
                 self.state = State::EndOfImport;
                 Ok(())
             }
-            _ => Err(Stop::at(token.span.start, Reason::LeftOut(Form::Import))),
+            _ => Err(Stop::at(token.start(), Reason::LeftOut(Form::Import))),
         }
     }
 
@@ -161,7 +161,7 @@ impl<'a> Walk<'a> {
             }
             TokenKind::Symbol(Symbol::Comma | Symbol::Dot) | TokenKind::Keyword(Keyword::As)
                 if self.state == State::EndOfImport => {
-                Err(Stop::at(token.span.start, Reason::LeftOut(Form::Import)))
+                Err(Stop::at(token.start(), Reason::LeftOut(Form::Import)))
             }
             _ => self.expected("a line's end", token),
         }

@@ -98,7 +98,7 @@ impl<'a> Walk<'a> {
                 Ok(())
             }
             _ => match form_of(keyword) {
-                Some(form) => Err(Stop::at(token.span.start, Reason::LeftOut(form))),
+                Some(form) => Err(Stop::at(token.start(), Reason::LeftOut(form))),
                 None => self.no_operand(token),
             },
         }
@@ -116,14 +116,14 @@ impl<'a> Walk<'a> {
             Symbol::LeftBracket => self.open(Bracket::List, token),
             Symbol::LeftBrace => self.open(Bracket::Dict, token),
             Symbol::Star | Symbol::DoubleStar if self.level.is_empty() => {
-                Err(Stop::at(token.span.start, Reason::LeftOut(self.starred())))
+                Err(Stop::at(token.start(), Reason::LeftOut(self.starred())))
             }
-            Symbol::Dot => Err(Stop::at(token.span.start, self.dotted(token))),
+            Symbol::Dot => Err(Stop::at(token.start(), self.dotted(token))),
             Symbol::Colon if self.is_in_index() => {
-                Err(Stop::at(token.span.start, Reason::LeftOut(Form::Slices)))
+                Err(Stop::at(token.start(), Reason::LeftOut(Form::Slices)))
             }
             _ => match self.slip(symbol, token) {
-                Some(slip) => Err(Stop::at(token.span.start, Reason::Slip(slip))),
+                Some(slip) => Err(Stop::at(token.start(), Reason::Slip(slip))),
                 None => self.no_operand(token),
             },
         }
@@ -149,7 +149,7 @@ impl<'a> Walk<'a> {
     // What a point is where an operand is expected.
     fn dotted(&self, token: Token<'a>) -> Reason<'a> {
         match self.next {
-            Some(next) if next.span.start == token.span.end => match next.kind {
+            Some(next) if next.start() == token.end() => match next.kind {
                 TokenKind::Int => Reason::LeftOut(Form::Floats),
                 TokenKind::Symbol(Symbol::Dot) => Reason::LeftOut(Form::Ellipsis),
                 _ => Reason::Expected("an expression", found(token)),
@@ -174,7 +174,7 @@ impl<'a> Walk<'a> {
     fn no_operand(&mut self, token: Token<'a>) -> Result<(), Stop<'a>> {
         if self.doubled && self.state == State::Tight {
             if let Some(before) = self.before {
-                let at = before.span.start.saturating_sub(1);
+                let at = before.start().saturating_sub(1);
                 match before.kind {
                     TokenKind::Symbol(Symbol::Plus) => {
                         return Err(Stop::at(at, Reason::Slip(Slip::Increment)));
@@ -201,7 +201,7 @@ impl<'a> Walk<'a> {
                 self.state = State::AfterIs;
                 Ok(())
             }
-            _ => Err(Stop::at(token.span.start, Reason::LeftOut(Form::Is))),
+            _ => Err(Stop::at(token.start(), Reason::LeftOut(Form::Is))),
         }
     }
 

@@ -39,13 +39,15 @@ impl<'a> Statements<'a> {
         let mut count = Count::new(alloc);
         match tokens(alloc, text) {
             Ok(all) => {
-                for token in &all {
-                    count.step(*token)?;
+                for place in 0..all.len() {
+                    if let Some(token) = all.get(place) {
+                        count.step(token)?;
+                    }
                 }
                 Ok(count.found)
             }
             Err(TokenFault::NoMemory) => Err(AllocError),
-            Err(TokenFault::BadText(_)) => Ok(count.found),
+            Err(TokenFault::BadText(_) | TokenFault::TooLong) => Ok(count.found),
         }
     }
 
@@ -158,7 +160,7 @@ impl<'a> Count<'a> {
                 return Ok(());
             }
         }
-        let line = u32::try_from(token.span.line).unwrap_or(u32::MAX);
+        let line = token.span.line;
         match self.function {
             Some(level) => {
                 self.in_line = level == self.level;

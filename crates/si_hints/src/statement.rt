@@ -89,7 +89,7 @@ impl<'a> Walk<'a> {
         }
         if let TokenKind::Keyword(keyword) = token.kind {
             if compound(keyword).is_some() {
-                return Err(Stop::at(token.span.start, Reason::OwnLine(token.text)));
+                return Err(Stop::at(token.start(), Reason::OwnLine(token.text)));
             }
         }
         self.begin(token)
@@ -125,10 +125,10 @@ impl<'a> Walk<'a> {
     // A compound statement begins.
     fn begin_compound(&mut self, clause: Clause, token: Token<'a>) -> Result<(), Stop<'a>> {
         if self.blocks.len() >= MAX_NESTING as usize {
-            return Err(Stop::at(token.span.start, Reason::Nesting));
+            return Err(Stop::at(token.start(), Reason::Nesting));
         }
         if clause == Clause::Define && self.context().in_function {
-            return Err(Stop::at(token.span.start, Reason::LeftOut(Form::NestedFunctions)));
+            return Err(Stop::at(token.start(), Reason::LeftOut(Form::NestedFunctions)));
         }
         self.clause = clause;
         match clause {
@@ -152,7 +152,7 @@ impl<'a> Walk<'a> {
         match token.kind {
             TokenKind::Keyword(keyword) => self.begin_keyword(keyword, token),
             TokenKind::Symbol(Symbol::Star) => Err(Stop::at(
-                token.span.start,
+                token.start(),
                 Reason::LeftOut(Form::StarTargets),
             )),
             TokenKind::Symbol(Symbol::Semicolon) => self.expected("a statement", token),
@@ -179,7 +179,7 @@ impl<'a> Walk<'a> {
             Keyword::Del => self.expression(Part::Delete, State::Operand),
             Keyword::Global => {
                 if !self.context().in_function {
-                    return Err(Stop::at(token.span.start, Reason::Rule(Rule::GlobalOutside)));
+                    return Err(Stop::at(token.start(), Reason::Rule(Rule::GlobalOutside)));
                 }
                 self.state = State::Global;
             }
@@ -195,7 +195,7 @@ impl<'a> Walk<'a> {
     // An import begins.
     fn begin_import(&mut self, keyword: Keyword, token: Token<'a>) -> Result<(), Stop<'a>> {
         if self.context().in_function {
-            return Err(Stop::at(token.span.start, Reason::Rule(Rule::ImportInside)));
+            return Err(Stop::at(token.start(), Reason::Rule(Rule::ImportInside)));
         }
         self.state = if keyword == Keyword::Import {
             State::Import
@@ -216,7 +216,7 @@ impl<'a> Walk<'a> {
         } else {
             Rule::NotInLoop(token.text)
         };
-        Err(Stop::at(token.span.start, Reason::Rule(rule)))
+        Err(Stop::at(token.start(), Reason::Rule(rule)))
     }
 
     // `return` stands in a function.
@@ -229,6 +229,6 @@ impl<'a> Walk<'a> {
         } else {
             return Ok(());
         };
-        Err(Stop::at(token.span.start, Reason::Rule(rule)))
+        Err(Stop::at(token.start(), Reason::Rule(rule)))
     }
 }

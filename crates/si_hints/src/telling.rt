@@ -8,7 +8,7 @@ use crate::walk::Walk;
 use crate::words::bad_word;
 use si_plain::NoMemory;
 use si_plain::limits::{MAX_EXPRESSION_DEPTH, MAX_TEXT_BYTES};
-use si_token::{Token, TokenFault, tokens};
+use si_token::{TokenFault, TokenRow, tokens};
 use std::alloc::{AllocError, Global};
 
 /// A byte order mark in UTF-8.
@@ -80,13 +80,15 @@ fn first_fault<'a>(
         let rest = text.get(start..).unwrap_or("");
         match tokens(alloc, rest) {
             Ok(all) => {
-                if let Some(Fault { at, reason }) = walked(alloc, all.as_slice(), None)? {
+                if let Some(Fault { at, reason }) = walked(alloc, &all, None)? {
                     let at = at.saturating_add(start);
                     return Ok(Some(Fault { at, reason }));
                 }
             }
             Err(TokenFault::NoMemory) => return Err(AllocError),
-            Err(TokenFault::BadText(_)) => return first_of_words(alloc, text, start),
+            Err(TokenFault::BadText(_) | TokenFault::TooLong) => {
+                return first_of_words(alloc, text, start);
+            }
         }
     }
     first_of_all(alloc, text, line)
@@ -99,7 +101,7 @@ fn first_of_all<'a>(
     line: usize,
 ) -> Result<Option<Fault<'a>>, NoMemory> {
     match tokens(alloc, text) {
-        Ok(all) => match walked(alloc, all.as_slice(), None)? {
+        Ok(all) => match walked(alloc, &all, None)? {
             None if all.len() > MAX_EXPRESSION_DEPTH as usize => Ok(Some(Fault {
                 at: first_place(text, line),
                 reason: Reason::Depth,
@@ -107,7 +109,7 @@ fn first_of_all<'a>(
             found => Ok(found),
         },
         Err(TokenFault::NoMemory) => Err(AllocError),
-        Err(TokenFault::BadText(_)) => first_of_words(alloc, text, 0),
+        Err(TokenFault::BadText(_) | TokenFault::TooLong) => first_of_words(alloc, text, 0),
     }
 }
 
@@ -122,9 +124,10 @@ fn first_of_words<'a>(
         None => (text.len(), None),
     };
     match tokens(alloc, text.get(..end).unwrap_or("")) {
-        Ok(all) => walked(alloc, all.as_slice(), bad),
+        Ok(all) => walked(alloc, &all, bad),
         Err(TokenFault::NoMemory) => Err(AllocError),
         Err(TokenFault::BadText(line)) => first_of_lines(alloc, text, line),
+        Err(TokenFault::TooLong) => Ok(None),
     }
 }
 
@@ -136,16 +139,16 @@ fn first_of_lines<'a>(
 ) -> Result<Option<Fault<'a>>, NoMemory> {
     let (start, fault) = bad_indentation(text, line);
     match tokens(alloc, text.get(..start).unwrap_or("")) {
-        Ok(all) => walked(alloc, all.as_slice(), Some(fault)),
+        Ok(all) => walked(alloc, &all, Some(fault)),
         Err(TokenFault::NoMemory) => Err(AllocError),
-        Err(TokenFault::BadText(_)) => Ok(Some(fault)),
+        Err(TokenFault::BadText(_) | TokenFault::TooLong) => Ok(Some(fault)),
     }
 }
 
 // The first fault of tokens, after which a fault of the text follows, or none.
 fn walked<'a>(
     alloc: Global,
-    tokens: &[Token<'a>],
+    tokens: &TokenRow<'a>,
     bad: Option<Fault<'a>>,
 ) -> Result<Option<Fault<'a>>, NoMemory> {
     let mut walk = Walk::new(alloc);

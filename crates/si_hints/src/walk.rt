@@ -7,7 +7,7 @@ use crate::level::{Frame, Level};
 use crate::reason::{Found, Reason};
 use crate::state::{Part, State};
 use si_plain::Names;
-use si_token::{Symbol, Token, TokenKind};
+use si_token::{Symbol, Token, TokenKind, TokenRow};
 use std::alloc::Global;
 
 // What was read, and what is expected next.
@@ -69,7 +69,7 @@ impl<'a> Walk<'a> {
         wanted: &'static str,
         token: Token<'a>,
     ) -> Result<T, Stop<'a>> {
-        Err(Stop::at(token.span.start, Reason::Expected(wanted, found(token))))
+        Err(Stop::at(token.start(), Reason::Expected(wanted, found(token))))
     }
 
     // Goes over one token.
@@ -108,22 +108,25 @@ impl<'a> Walk<'a> {
     // Goes over all tokens. Where a fault of the text cut off what follows, what a text's end adds is not gone over.
     pub(crate) fn all(
         &mut self,
-        tokens: &[Token<'a>],
+        tokens: &TokenRow<'a>,
         bad: Option<Fault<'a>>,
     ) -> Result<(), Stop<'a>> {
-        let end = match tokens.last() {
-            Some(last) => last.span.start,
+        let end = match tokens.get(tokens.len().saturating_sub(1)) {
+            Some(last) => last.start(),
             None => 0,
         };
-        for (place, token) in tokens.iter().enumerate() {
+        for place in 0..tokens.len() {
+            let Some(token) = tokens.get(place) else {
+                return Ok(());
+            };
             if let Some(fault) = bad {
-                if token.span.start >= end {
+                if token.start() >= end {
                     return Err(self.at_bad_word(fault));
                 }
             }
-            self.next = tokens.get(place.saturating_add(1)).copied();
-            self.step(*token)?;
-            self.before = Some(*token);
+            self.next = tokens.get(place.saturating_add(1));
+            self.step(token)?;
+            self.before = Some(token);
         }
         Ok(())
     }
@@ -132,7 +135,7 @@ impl<'a> Walk<'a> {
     pub(crate) fn joins(&self, symbol: Symbol, token: Token<'a>) -> bool {
         match self.before {
             Some(before) => {
-                before.kind == TokenKind::Symbol(symbol) && before.span.end == token.span.start
+                before.kind == TokenKind::Symbol(symbol) && before.end() == token.start()
             }
             None => false,
         }

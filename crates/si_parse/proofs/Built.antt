@@ -1,5 +1,5 @@
 -- The trees of statements and of targets that are built of their parts.
-use Rattle.std.proofs.Common.{◌≡◌, map, Vec, Global, sym, ap, ◌∙◌}
+use Rattle.std.proofs.Common.{◌≡◌, map, Box, Vec, Global, sym, ap, ◌∙◌}
 use Rattle.si_semantics.specs.Tree as tree
 use Rattle.si_semantics.specs.Grammar.{clauses_of}
 use Rattle.si_semantics.specs.Grammar as grammar
@@ -23,7 +23,7 @@ use Rattle.si_syntax.specs.declared.target.Target.TheFolds.{fold-roll-Target}
 use Rattle.si_syntax.specs.declared.target.Target.TheOpen.{Target-F}
 use Rattle.si_syntax.specs.declared.target.Target.TheVariants.{rolls-Unpack}
 use Rattle.si_syntax.specs.declared.target.Target.TheViews as targets
-use Rattle.si_syntax.specs.Trees.{body_of, clause_of, expr_of, stmt_of, target_step, target_of, targets_of, Tried, tried_of, stmt_step, branch_step, clause_step, define_step, finally_step, for_step, if_step, try_step, while_step}
+use Rattle.si_syntax.specs.Trees.{body_of, clause_of, expr_of, finally_of, stmt_of, target_step, target_of, targets_of, Tried, tried_of, stmt_step, branch_step, clause_step, define_step, finally_step, for_step, if_step, try_step, while_step}
 use Rattle.si_syntax.proofs.Forms.{finally_is, try_is}
 
 -- the parts of a `try`, and of one with a finally suite
@@ -45,9 +45,9 @@ finally_with r = tree.Finally (tried_of r.tried).0 (clauses_of (tried_of r.tried
 abbrev pub ends_with : Vec Stmt Global → TryParts → tree.Stmt
 ends_with end r = tree.Finally (body_of r.body.items) (clauses_of (map clause_of r.clauses.items)) (body_of r.last.items) (body_of end.items)
 
-pub finally_built : (r : TryParts) (end : Vec Stmt Global) → stmt_of (stmts.Finally (roll-Finally (record { tried = roll-Try r; end = end }))) ≡ ends_with end r
-finally_built r end =
-    finally_is (roll-Finally (record { tried = roll-Try r; end = end })) ∙ ap finally_with (out-roll-Finally (record { tried = roll-Try r; end = end })) ∙ ap (ends_with end) (out-roll-Try r)
+pub finally_built : (b : Box Finally Global) (r : TryParts) (end : Vec Stmt Global) → b.value ≡ roll-Finally (record { tried = roll-Try r; end = end }) → stmt_of (stmts.Finally b) ≡ ends_with end r
+finally_built b r end is =
+    finally_is b ∙ ap finally_of is ∙ ap finally_with (out-roll-Finally (record { tried = roll-Try r; end = end })) ∙ ap (ends_with end) (out-roll-Try r)
 
 pub assign_built : (a : Assign) → stmt_of (stmts.Assign a) ≡ tree.Assign (targets_of a.targets.items) (expr_of a.value)
 assign_built a =

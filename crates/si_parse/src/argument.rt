@@ -6,10 +6,11 @@ ghost use Rattle.si_parse.specs.inner.Expressions.{named_at, passed_from};
 ghost use Rattle.si_parse.specs.inner.Gives.{Gives, from, argument_of};
 
 use crate::fault::ParseFault;
+use crate::fitted::fitted;
 use crate::lookahead::{after, token_at};
 use si_plain::Names;
 use si_syntax::Expr;
-use si_token::{Symbol, Token, TokenKind};
+use si_token::{Symbol, TokenKind, TokenRow};
 use std::alloc::Global;
 
 // An argument of a call.
@@ -22,7 +23,7 @@ pub(crate) enum Argument {
 
 // The name by which an argument is passed, where one with an `=` after it stands at the place, and the place after
 // both.
-pub(crate) fn named_at<'a>(tokens: &[Token<'a>], at: usize) -> Option<(&'a str, usize)>
+pub(crate) fn named_at<'a>(tokens: &TokenRow<'a>, at: usize) -> Option<(&'a str, usize)>
     ensures { option_map (λ x. (x.0.now, from tokens.now x.1)) result ≡ named_at (from tokens.now at) }
 {
     let token = token_at(tokens, at)?;
@@ -44,7 +45,7 @@ pub(crate) fn passed(
 ) -> Result<(Vec<Expr>, Vec<String>), ParseFault>
     ensures { Gives (λ x. (map expr_of x.0.items, map string_bytes x.1.items)) result (passed_from ([], []) (map argument_of arguments.items)) }
 {
-    let mut values = Vec::new(alloc);
+    let mut values = Vec::with_capacity(alloc, arguments.len())?;
     let mut names = Vec::new(alloc);
     let mut seen = Names::new(alloc);
     for argument in arguments {
@@ -65,5 +66,5 @@ pub(crate) fn passed(
             }
         }
     }
-    Ok((values, names))
+    Ok((values, fitted(names)))
 }

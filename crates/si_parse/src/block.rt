@@ -9,6 +9,7 @@ ghost use Rattle.si_parse.specs.inner.Gives.{Gives, from, header_view};
 use crate::expression::expression;
 use crate::expressions::expressions;
 use crate::fault::ParseFault;
+use crate::fitted::fitted;
 use crate::handler::try_statement;
 use crate::lookahead::{
     Header, after, after_dedent, after_indent, after_newline, after_word, header_at, line_at,
@@ -19,7 +20,7 @@ use crate::statement::line;
 use crate::target::target;
 use si_plain::limits::MAX_EXPRESSION_DEPTH;
 use si_syntax::{Branch, Define, For, If, Stmt, While};
-use si_token::{Keyword, Symbol, Token};
+use si_token::{Keyword, Symbol, TokenRow};
 use std::alloc::Global;
 
 // Statements, and the place after them.
@@ -32,7 +33,7 @@ pub(crate) fn block(
     alloc: Global,
     nesting: u32,
     before: Vec<Stmt>,
-    tokens: &[Token],
+    tokens: &TokenRow,
     at: usize,
 ) -> Suite
     requires { nesting < 1000 }
@@ -58,7 +59,7 @@ fn compound(
     parts: u32,
     header: Header,
     line: usize,
-    tokens: &[Token],
+    tokens: &TokenRow,
     start: usize,
 ) -> Result<(Stmt, usize), ParseFault>
     requires { parts < 999 }
@@ -79,7 +80,7 @@ fn compound(
 fn if_statement(
     alloc: Global,
     parts: u32,
-    tokens: &[Token],
+    tokens: &TokenRow,
     start: usize,
 ) -> Result<(Stmt, usize), ParseFault>
     requires { parts < 999 }
@@ -88,7 +89,8 @@ fn if_statement(
     let (first, rest) = branch(alloc, parts, tokens, start)?;
     let (elifs, at) = elifs(alloc, parts, tokens, rest)?;
     let (last, end) = otherwise(alloc, parts, tokens, at)?;
-    Ok((Stmt::If(If { first, elifs, last }), end))
+    let statement = Box::new(alloc, If { first, elifs, last })?;
+    Ok((Stmt::If(statement), end))
 }
 
 // The statement from after its `while`.
@@ -96,7 +98,7 @@ fn if_statement(
 fn while_statement(
     alloc: Global,
     parts: u32,
-    tokens: &[Token],
+    tokens: &TokenRow,
     start: usize,
 ) -> Result<(Stmt, usize), ParseFault>
     requires { parts < 999 }
@@ -105,7 +107,8 @@ fn while_statement(
     let (first, at) = branch(alloc, parts, tokens, start)?;
     let Branch { test, body } = first;
     let (last, end) = otherwise(alloc, parts, tokens, at)?;
-    Ok((Stmt::While(While { test, body, last }), end))
+    let statement = Box::new(alloc, While { test, body, last })?;
+    Ok((Stmt::While(statement), end))
 }
 
 // The statement from after its `for`.
@@ -113,7 +116,7 @@ fn while_statement(
 fn for_statement(
     alloc: Global,
     parts: u32,
-    tokens: &[Token],
+    tokens: &TokenRow,
     start: usize,
 ) -> Result<(Stmt, usize), ParseFault>
     requires { parts < 999 }
@@ -129,7 +132,7 @@ fn for_statement(
         body,
         last,
     };
-    Ok((Stmt::For(statement), end))
+    Ok((Stmt::For(Box::new(alloc, statement)?), end))
 }
 
 // The statement from after its `def`, which stands in the line.
@@ -138,7 +141,7 @@ fn definition(
     alloc: Global,
     parts: u32,
     line: usize,
-    tokens: &[Token],
+    tokens: &TokenRow,
     start: usize,
 ) -> Result<(Stmt, usize), ParseFault>
     requires { parts < 999 }
@@ -164,7 +167,7 @@ fn definition(
 fn branch(
     alloc: Global,
     parts: u32,
-    tokens: &[Token],
+    tokens: &TokenRow,
     start: usize,
 ) -> Result<(Branch, usize), ParseFault>
     requires { parts < 999 }
@@ -180,7 +183,7 @@ fn branch(
 fn over(
     alloc: Global,
     parts: u32,
-    tokens: &[Token],
+    tokens: &TokenRow,
     start: usize,
 ) -> Result<(Branch, usize), ParseFault>
     requires { parts < 999 }
@@ -197,7 +200,7 @@ fn over(
 fn elifs(
     alloc: Global,
     parts: u32,
-    tokens: &[Token],
+    tokens: &TokenRow,
     start: usize,
 ) -> Result<(Vec<Branch>, usize), ParseFault>
     requires { parts < 999 }
@@ -207,7 +210,7 @@ fn elifs(
     let mut at = start;
     for _turn in start..tokens.len() {
         let Some(rest) = after_word(tokens, at, Keyword::Elif) else {
-            return Ok((elifs, at));
+            return Ok((fitted(elifs), at));
         };
         let (next, end) = branch(alloc, parts, tokens, rest)?;
         elifs.push(next)?;
@@ -218,7 +221,7 @@ fn elifs(
 
 // The suite of an `else`, where one stands at the place.
 #[cycle(blocks)]
-pub(crate) fn otherwise(alloc: Global, parts: u32, tokens: &[Token], at: usize) -> Suite
+pub(crate) fn otherwise(alloc: Global, parts: u32, tokens: &TokenRow, at: usize) -> Suite
     requires { parts < 999 }
     ensures { Gives (λ x. (map stmt_of x.0.items, from tokens.now x.1)) result (otherwise_by (block_at parts) (from tokens.now at)) }
 {
@@ -230,7 +233,7 @@ pub(crate) fn otherwise(alloc: Global, parts: u32, tokens: &[Token], at: usize) 
 
 // A colon with a line after it, or with indented lines.
 #[cycle(blocks)]
-pub(crate) fn suite(alloc: Global, parts: u32, tokens: &[Token], at: usize) -> Suite
+pub(crate) fn suite(alloc: Global, parts: u32, tokens: &TokenRow, at: usize) -> Suite
     requires { parts < 999 }
     ensures { Gives (λ x. (map stmt_of x.0.items, from tokens.now x.1)) result (suite_by (block_at parts) (from tokens.now at)) }
 {
@@ -238,7 +241,8 @@ pub(crate) fn suite(alloc: Global, parts: u32, tokens: &[Token], at: usize) -> S
         return Err(ParseFault::Syntax(line_at(tokens, at)));
     };
     let Some(next) = after_newline(tokens, rest) else {
-        return line(alloc, Vec::new(alloc), tokens, rest);
+        let (body, end) = line(alloc, Vec::new(alloc), tokens, rest)?;
+        return Ok((fitted(body), end));
     };
     match after_indent(tokens, next) {
         Some(first) => indented(alloc, parts, tokens, first),
@@ -249,7 +253,7 @@ pub(crate) fn suite(alloc: Global, parts: u32, tokens: &[Token], at: usize) -> S
 // The lines from after an indent up to the dedent, of which there is one at least.
 #[cycle(blocks)]
 #[tactic(auto, using(crate::proofs::Steps::many_by_zero, crate::proofs::Steps::many_by_step))]
-fn indented(alloc: Global, parts: u32, tokens: &[Token], start: usize) -> Suite
+fn indented(alloc: Global, parts: u32, tokens: &TokenRow, start: usize) -> Suite
     requires { parts < 999 }
     ensures { Gives (λ x. (map stmt_of x.0.items, from tokens.now x.1)) result (indented_by (block_at parts) (from tokens.now start)) }
 {
@@ -260,7 +264,7 @@ fn indented(alloc: Global, parts: u32, tokens: &[Token], start: usize) -> Suite
     let mut at = start;
     for _turn in start..tokens.len() {
         if let Some(end) = after_dedent(tokens, at) {
-            return Ok((body, end));
+            return Ok((fitted(body), end));
         }
         let (longer, rest) = block(alloc, parts, body, tokens, at)?;
         body = longer;

@@ -9,6 +9,7 @@ ghost use Rattle.si_parse.specs.inner.Gives.{Gives, from, continuation_view, arg
 
 use crate::argument::{Argument, named_at, passed};
 use crate::fault::ParseFault;
+use crate::fitted::fitted;
 use crate::literal::str_value;
 use crate::lookahead::{after, after_boolean, after_items, after_word, line_at, token_at};
 use crate::name::name;
@@ -20,14 +21,14 @@ use crate::precedence::{
 use si_plain::limits::MAX_STR_LENGTH;
 use si_plain::{BinaryOperator, BooleanOperator, ComparisonOperator, Octets, Text, UnaryOperator};
 use si_syntax::{CallNames, Expr};
-use si_token::{Keyword, Symbol, Token, TokenKind, int_value};
+use si_token::{Keyword, Symbol, TokenKind, TokenRow, int_value};
 use std::alloc::{AllocError, Global};
 
 // An expression with its depth, and the place after it.
 pub(crate) type Read = Result<(Expr, u32, usize), ParseFault>;
 
 // The tree, where it is no deeper than the limit.
-pub(crate) fn within(limit: u32, tree: Expr, depth: u32, tokens: &[Token], at: usize) -> Read
+pub(crate) fn within(limit: u32, tree: Expr, depth: u32, tokens: &TokenRow, at: usize) -> Read
     ensures reads { Gives (λ x. (expr_of x.0, x.1, from tokens.now x.2)) result (within limit (expr_of tree) depth (from tokens.now at)) }
     ensures shallow { IfOk result (λ x. x.1 ≤ limit) }
 {
@@ -39,7 +40,7 @@ pub(crate) fn within(limit: u32, tree: Expr, depth: u32, tokens: &[Token], at: u
 }
 
 // The value of the str literals from the place on, and the place after them.
-fn strings(alloc: Global, tokens: &[Token], at: usize) -> Result<(Text, usize), ParseFault>
+fn strings(alloc: Global, tokens: &TokenRow, at: usize) -> Result<(Text, usize), ParseFault>
     ensures { Gives (λ x. (x.0, from tokens.now x.1)) result (strings_by [] (from tokens.now at)) }
 {
     let mut text = Text::new(alloc);
@@ -50,14 +51,14 @@ fn strings(alloc: Global, tokens: &[Token], at: usize) -> Result<(Text, usize), 
         let TokenKind::Str = token.kind else {
             return Ok((text, place));
         };
-        let value = str_value(alloc, token.text, token.span.line)?;
+        let value = str_value(alloc, token.text, token.line())?;
         text.append(&value)?;
     }
     Ok((text, tokens.len()))
 }
 
 // The same, no longer than a str may be.
-fn str_at(alloc: Global, tokens: &[Token], at: usize) -> Result<(Text, usize), ParseFault>
+fn str_at(alloc: Global, tokens: &TokenRow, at: usize) -> Result<(Text, usize), ParseFault>
     ensures { Gives (λ x. (x.0, from tokens.now x.1)) result (str_by (from tokens.now at)) }
 {
     let (text, end) = strings(alloc, tokens, at)?;
@@ -74,7 +75,7 @@ pub(crate) fn expression(
     alloc: Global,
     budget: u32,
     level: u32,
-    tokens: &[Token],
+    tokens: &TokenRow,
     at: usize,
 ) -> Read
     requires { budget < 1000 }
@@ -90,7 +91,7 @@ pub(crate) fn expression(
 
 // An operator before its operand, or an operand without one.
 #[cycle(expressions)]
-fn operand(alloc: Global, parts: u32, level: u32, tokens: &[Token], at: usize) -> Read
+fn operand(alloc: Global, parts: u32, level: u32, tokens: &TokenRow, at: usize) -> Read
     requires { parts < 999 }
     ensures reads { Gives (λ x. (expr_of x.0, x.1, from tokens.now x.2)) result (operand_by (expression_at parts) level (from tokens.now at)) }
     ensures shallow { IfOk result (λ x. x.1 ≤ parts + 1) }
@@ -103,7 +104,7 @@ fn operand(alloc: Global, parts: u32, level: u32, tokens: &[Token], at: usize) -
 
 // A name, a literal, a word that is one, or what stands in brackets.
 #[cycle(expressions)]
-fn atom(alloc: Global, parts: u32, tokens: &[Token], at: usize) -> Read
+fn atom(alloc: Global, parts: u32, tokens: &TokenRow, at: usize) -> Read
     requires { parts < 999 }
     ensures reads { Gives (λ x. (expr_of x.0, x.1, from tokens.now x.2)) result (atom_by (expression_at parts) (from tokens.now at)) }
     ensures shallow { IfOk result (λ x. x.1 ≤ parts + 1) }
@@ -115,7 +116,7 @@ fn atom(alloc: Global, parts: u32, tokens: &[Token], at: usize) -> Read
         TokenKind::Name => Ok((Expr::Name(String::from_str(alloc, token.text)?), 1, at + 1)),
         TokenKind::Int => match int_value(token.text.as_bytes()) {
             Some(value) => Ok((Expr::Int(value), 1, at + 1)),
-            None => Err(ParseFault::Syntax(token.span.line)),
+            None => Err(ParseFault::Syntax(token.line())),
         },
         TokenKind::Str => {
             let (text, at) = str_at(alloc, tokens, at)?;
@@ -131,7 +132,7 @@ fn atom(alloc: Global, parts: u32, tokens: &[Token], at: usize) -> Read
         TokenKind::Symbol(Symbol::LeftParenthesis) => bracketed(alloc, parts, tokens, at + 1),
         TokenKind::Symbol(Symbol::LeftBracket) => list(alloc, parts, tokens, at + 1),
         TokenKind::Symbol(Symbol::LeftBrace) => dict(alloc, parts, tokens, at + 1),
-        _ => Err(ParseFault::Syntax(token.span.line)),
+        _ => Err(ParseFault::Syntax(token.line())),
     }
 }
 
@@ -142,7 +143,7 @@ fn unary(
     parts: u32,
     level: u32,
     operator: UnaryOperator,
-    tokens: &[Token],
+    tokens: &TokenRow,
     at: usize,
 ) -> Read
     requires { parts < 999 }
@@ -162,7 +163,7 @@ fn unary(
 
 // The expression or the tuple after an open round bracket, up to the closed one.
 #[cycle(expressions)]
-fn bracketed(alloc: Global, parts: u32, tokens: &[Token], at: usize) -> Read
+fn bracketed(alloc: Global, parts: u32, tokens: &TokenRow, at: usize) -> Read
     requires { parts < 999 }
     ensures reads { Gives (λ x. (expr_of x.0, x.1, from tokens.now x.2)) result (bracketed_by (expression_at parts) (from tokens.now at)) }
     ensures shallow { IfOk result (λ x. x.1 ≤ parts + 1) }
@@ -186,7 +187,7 @@ fn bracketed(alloc: Global, parts: u32, tokens: &[Token], at: usize) -> Read
 
 // The list after an open bracket, up to the closed one.
 #[cycle(expressions)]
-fn list(alloc: Global, parts: u32, tokens: &[Token], at: usize) -> Read
+fn list(alloc: Global, parts: u32, tokens: &TokenRow, at: usize) -> Read
     requires { parts < 999 }
     ensures reads { Gives (λ x. (expr_of x.0, x.1, from tokens.now x.2)) result (list_by (expression_at parts) (from tokens.now at)) }
     ensures shallow { IfOk result (λ x. x.1 ≤ parts + 1) }
@@ -198,7 +199,7 @@ fn list(alloc: Global, parts: u32, tokens: &[Token], at: usize) -> Read
 
 // The dict after an open brace, up to the closed one.
 #[cycle(expressions)]
-fn dict(alloc: Global, parts: u32, tokens: &[Token], at: usize) -> Read
+fn dict(alloc: Global, parts: u32, tokens: &TokenRow, at: usize) -> Read
     requires { parts < 999 }
     ensures reads { Gives (λ x. (expr_of x.0, x.1, from tokens.now x.2)) result (dict_by (expression_at parts) (from tokens.now at)) }
     ensures shallow { IfOk result (λ x. x.1 ≤ parts + 1) }
@@ -212,7 +213,7 @@ fn dict(alloc: Global, parts: u32, tokens: &[Token], at: usize) -> Read
 fn pair(
     alloc: Global,
     parts: u32,
-    tokens: &[Token],
+    tokens: &TokenRow,
     at: usize,
 ) -> Result<(Expr, Expr, u32, usize), ParseFault>
     requires { parts < 999 }
@@ -233,7 +234,7 @@ fn pair(
 fn pairs(
     alloc: Global,
     parts: u32,
-    tokens: &[Token],
+    tokens: &TokenRow,
     start: usize,
 ) -> Result<(Vec<Expr>, u32, usize), ParseFault>
     requires { parts < 999 }
@@ -252,7 +253,7 @@ fn pairs(
         values.push(value)?;
         depth = depth.max(pair_depth);
         if let Some(end) = after_items(tokens, rest, Symbol::RightBrace) {
-            return Ok((values, depth, end));
+            return Ok((fitted(values), depth, end));
         }
         let Some(more) = after(tokens, rest, Symbol::Comma) else {
             return Err(ParseFault::Syntax(line_at(tokens, rest)));
@@ -271,7 +272,7 @@ fn items(
     bracket: Symbol,
     before: Vec<Expr>,
     before_depth: u32,
-    tokens: &[Token],
+    tokens: &TokenRow,
     start: usize,
 ) -> Result<(Vec<Expr>, u32, usize), ParseFault>
     requires limit { parts < 999 }
@@ -290,7 +291,7 @@ fn items(
         values.push(next)?;
         depth = depth.max(next_depth);
         if let Some(end) = after_items(tokens, rest, bracket) {
-            return Ok((values, depth, end));
+            return Ok((fitted(values), depth, end));
         }
         let Some(more) = after(tokens, rest, Symbol::Comma) else {
             return Err(ParseFault::Syntax(line_at(tokens, rest)));
@@ -309,7 +310,7 @@ fn continued(
     level: u32,
     operand: Expr,
     operand_depth: u32,
-    tokens: &[Token],
+    tokens: &TokenRow,
     start: usize,
 ) -> Read
     requires limit { parts < 999 }
@@ -343,7 +344,7 @@ fn extended(
     left: Expr,
     depth: u32,
     continuation: Continuation,
-    tokens: &[Token],
+    tokens: &TokenRow,
     at: usize,
     rest: usize,
 ) -> Read
@@ -375,7 +376,7 @@ fn binary(
     left: Expr,
     depth: u32,
     operator: BinaryOperator,
-    tokens: &[Token],
+    tokens: &TokenRow,
     at: usize,
 ) -> Read
     requires limit { parts < 999 }
@@ -389,7 +390,14 @@ fn binary(
 }
 
 // The object with the name of its attribute, from after the dot.
-fn attribute(alloc: Global, parts: u32, left: Expr, depth: u32, tokens: &[Token], at: usize) -> Read
+fn attribute(
+    alloc: Global,
+    parts: u32,
+    left: Expr,
+    depth: u32,
+    tokens: &TokenRow,
+    at: usize,
+) -> Read
     requires limit { parts < 999 }
     requires shallow { depth ≤ parts + 1 }
     ensures reads { Gives (λ x. (expr_of x.0, x.1, from tokens.now x.2)) result (attribute_by (parts + 1) (expr_of left) depth (from tokens.now at)) }
@@ -440,7 +448,7 @@ fn called(
 
 // The callee with its arguments, from after the open bracket.
 #[cycle(expressions)]
-fn call(alloc: Global, parts: u32, left: Expr, depth: u32, tokens: &[Token], at: usize) -> Read
+fn call(alloc: Global, parts: u32, left: Expr, depth: u32, tokens: &TokenRow, at: usize) -> Read
     requires limit { parts < 999 }
     requires shallow { depth ≤ parts + 1 }
     ensures reads { Gives (λ x. (expr_of x.0, x.1, from tokens.now x.2)) result (call_by (expression_at parts) (parts + 1) (expr_of left) depth (from tokens.now at)) }
@@ -454,7 +462,14 @@ fn call(alloc: Global, parts: u32, left: Expr, depth: u32, tokens: &[Token], at:
 
 // The object with its index, from after the open bracket.
 #[cycle(expressions)]
-fn subscript(alloc: Global, parts: u32, left: Expr, depth: u32, tokens: &[Token], at: usize) -> Read
+fn subscript(
+    alloc: Global,
+    parts: u32,
+    left: Expr,
+    depth: u32,
+    tokens: &TokenRow,
+    at: usize,
+) -> Read
     requires limit { parts < 999 }
     requires shallow { depth ≤ parts + 1 }
     ensures reads { Gives (λ x. (expr_of x.0, x.1, from tokens.now x.2)) result (subscript_by (expression_at parts) (parts + 1) (expr_of left) depth (from tokens.now at)) }
@@ -471,7 +486,7 @@ fn subscript(alloc: Global, parts: u32, left: Expr, depth: u32, tokens: &[Token]
 // The operand with a chain of comparisons, whose first operator stands at the place.
 #[cycle(expressions)]
 #[tactic(auto, using(si_syntax::proofs::Forms::compare_is))]
-fn compare(alloc: Global, parts: u32, left: Expr, depth: u32, tokens: &[Token], at: usize) -> Read
+fn compare(alloc: Global, parts: u32, left: Expr, depth: u32, tokens: &TokenRow, at: usize) -> Read
     requires limit { parts < 999 }
     requires shallow { depth ≤ parts + 1 }
     ensures reads { Gives (λ x. (expr_of x.0, x.1, from tokens.now x.2)) result (compare_by (expression_at parts) (parts + 1) (expr_of left) depth (from tokens.now at)) }
@@ -490,7 +505,7 @@ fn boolean(
     left: Expr,
     depth: u32,
     operator: BooleanOperator,
-    tokens: &[Token],
+    tokens: &TokenRow,
     at: usize,
 ) -> Read
     requires limit { parts < 999 }
@@ -510,7 +525,7 @@ fn conditional(
     parts: u32,
     left: Expr,
     depth: u32,
-    tokens: &[Token],
+    tokens: &TokenRow,
     at: usize,
 ) -> Read
     requires limit { parts < 999 }
@@ -542,7 +557,7 @@ fn conditional(
 fn argument(
     alloc: Global,
     parts: u32,
-    tokens: &[Token],
+    tokens: &TokenRow,
     at: usize,
 ) -> Result<(Argument, u32, usize), ParseFault>
     requires { parts < 999 }
@@ -571,7 +586,7 @@ fn argument(
 fn arguments(
     alloc: Global,
     parts: u32,
-    tokens: &[Token],
+    tokens: &TokenRow,
     start: usize,
 ) -> Result<(Vec<Argument>, u32, usize), ParseFault>
     requires { parts < 999 }
@@ -606,19 +621,19 @@ fn operands(
     alloc: Global,
     parts: u32,
     operator: BooleanOperator,
-    tokens: &[Token],
+    tokens: &TokenRow,
     start: usize,
 ) -> Result<(Vec<Expr>, u32, usize), ParseFault>
     requires { parts < 999 }
     ensures reads { Gives (λ x. ((map expr_of x.0.items, x.1), from tokens.now x.2)) result (operands_by (expression_at parts) operator (from tokens.now start)) }
     ensures shallow { IfOk result (λ x. x.1 ≤ parts) }
 {
-    let mut others = Vec::new(alloc);
+    let mut others = Vec::with_capacity(alloc, 1)?;
     let mut depth: u32 = 0;
     let mut at = start;
     for _turn in start..tokens.len() {
         let Some(rest) = after_boolean(operator, tokens, at) else {
-            return Ok((others, depth, at));
+            return Ok((fitted(others), depth, at));
         };
         let (other, other_depth, end) = expression(
             alloc,
@@ -650,7 +665,7 @@ fn compared(
     alloc: Global,
     parts: u32,
     operator: ComparisonOperator,
-    tokens: &[Token],
+    tokens: &TokenRow,
     at: usize,
 ) -> Read
     requires { parts < 999 }
@@ -671,19 +686,19 @@ fn compared(
 fn links(
     alloc: Global,
     parts: u32,
-    tokens: &[Token],
+    tokens: &TokenRow,
     start: usize,
 ) -> Result<(Vec<(ComparisonOperator, Expr)>, u32, usize), ParseFault>
     requires { parts < 999 }
     ensures reads { Gives (λ x. ((map link_of x.0.items, x.1), from tokens.now x.2)) result (links_by (expression_at parts) (from tokens.now start)) }
     ensures shallow { IfOk result (λ x. x.1 ≤ parts) }
 {
-    let mut links = Vec::new(alloc);
+    let mut links = Vec::with_capacity(alloc, 1)?;
     let mut depth: u32 = 0;
     let mut at = start;
     for _turn in start..tokens.len() {
         let Some((operator, rest)) = comparison_at(tokens, at) else {
-            return Ok((links, depth, at));
+            return Ok((fitted(links), depth, at));
         };
         let (operand, operand_depth, end) = compared(alloc, parts, operator, tokens, rest)?;
         links.push((operator, operand))?;

@@ -9,14 +9,15 @@ ghost use Rattle.si_parse.specs.inner.Gives.{Gives, from};
 
 use crate::expression::{Read, expression, within};
 use crate::fault::ParseFault;
+use crate::fitted::fitted;
 use crate::lookahead::{after, after_comma, line_at, past_comma};
 use si_plain::limits::MAX_EXPRESSION_DEPTH;
 use si_syntax::Expr;
-use si_token::{Symbol, Token};
+use si_token::{Symbol, TokenRow};
 use std::alloc::Global;
 
 // An expression of a level, or the tuple that it begins where a comma follows.
-pub(crate) fn expressions(alloc: Global, level: u32, tokens: &[Token], start: usize) -> Read
+pub(crate) fn expressions(alloc: Global, level: u32, tokens: &TokenRow, start: usize) -> Read
     ensures { Gives (λ x. (expr_of x.0, x.1, from tokens.now x.2)) result (expressions_by (expression_at max_depth) level (from tokens.now start)) }
 {
     let (first, depth, at) = expression(alloc, MAX_EXPRESSION_DEPTH, level, tokens, start)?;
@@ -41,7 +42,7 @@ fn further(
     level: u32,
     first: Expr,
     first_depth: u32,
-    tokens: &[Token],
+    tokens: &TokenRow,
     start: usize,
 ) -> Result<(Vec<Expr>, u32, usize), ParseFault>
     requires { first_depth ≤ max_depth }
@@ -54,7 +55,7 @@ fn further(
     let mut at = start;
     for _turn in start..tokens.len() {
         let Some(rest) = after_comma(tokens, at) else {
-            return Ok((items, depth, at));
+            return Ok((fitted(items), depth, at));
         };
         let (next, next_depth, end) = expression(alloc, MAX_EXPRESSION_DEPTH, level, tokens, rest)?;
         items.push(next)?;

@@ -43,6 +43,7 @@ impl From<TokenFault> for ParseFault {
     fn from(fault: TokenFault) -> ParseFault {
         match fault {
             TokenFault::BadText(line) => ParseFault::Syntax(line),
+            TokenFault::TooLong => ParseFault::Syntax(1),
             TokenFault::NoMemory => ParseFault::NoMemory,
         }
     }

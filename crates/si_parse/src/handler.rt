@@ -9,12 +9,13 @@ ghost use Rattle.si_parse.specs.inner.Gives.{Gives, from};
 use crate::block::{otherwise, suite};
 use crate::expression::expression;
 use crate::fault::ParseFault;
+use crate::fitted::fitted;
 use crate::lookahead::{after_catch, after_word, line_at};
 use crate::name::name;
 use crate::precedence::EXPRESSION;
 use si_plain::limits::MAX_EXPRESSION_DEPTH;
 use si_syntax::{Clause, Expr, Finally, Stmt, Try};
-use si_token::{Keyword, Token};
+use si_token::{Keyword, TokenRow};
 use std::alloc::Global;
 
 // Except clauses, and the place after them.
@@ -26,7 +27,7 @@ type Clauses = Result<(Vec<Clause>, usize), ParseFault>;
 pub(crate) fn try_statement(
     alloc: Global,
     parts: u32,
-    tokens: &[Token],
+    tokens: &TokenRow,
     start: usize,
 ) -> Result<(Stmt, usize), ParseFault>
     requires { parts < 999 }
@@ -45,7 +46,7 @@ pub(crate) fn try_statement(
             tried,
             end: cleanup,
         };
-        return Ok((Stmt::Finally(statement), end));
+        return Ok((Stmt::Finally(Box::new(alloc, statement)?), end));
     }
     if clauses.is_empty() {
         return Err(ParseFault::Syntax(line_at(tokens, at)));
@@ -64,7 +65,7 @@ pub(crate) fn try_statement(
 fn handlers(
     alloc: Global,
     parts: u32,
-    tokens: &[Token],
+    tokens: &TokenRow,
     start: usize,
 ) -> Result<(Vec<Clause>, Vec<Stmt>, usize), ParseFault>
     requires { parts < 999 }
@@ -82,7 +83,7 @@ fn handlers(
 // The except clauses that have an expression.
 #[cycle(blocks)]
 #[tactic(auto, using(crate::proofs::Steps::many_by_zero, crate::proofs::Steps::many_by_step))]
-fn catches(alloc: Global, parts: u32, tokens: &[Token], start: usize) -> Clauses
+fn catches(alloc: Global, parts: u32, tokens: &TokenRow, start: usize) -> Clauses
     requires { parts < 999 }
     ensures { Gives (λ x. (map clause_of x.0.items, from tokens.now x.1)) result (catches_by (block_at parts) (from tokens.now start)) }
 {
@@ -90,7 +91,7 @@ fn catches(alloc: Global, parts: u32, tokens: &[Token], start: usize) -> Clauses
     let mut at = start;
     for _turn in start..tokens.len() {
         let Some(rest) = after_catch(tokens, at) else {
-            return Ok((clauses, at));
+            return Ok((fitted(clauses), at));
         };
         let (next, end) = clause(alloc, parts, tokens, rest)?;
         clauses.push(next)?;
@@ -101,7 +102,7 @@ fn catches(alloc: Global, parts: u32, tokens: &[Token], start: usize) -> Clauses
 
 // The clauses with a bare one after them, where an `except` stands at the place.
 #[cycle(blocks)]
-fn bare(alloc: Global, parts: u32, before: Vec<Clause>, tokens: &[Token], at: usize) -> Clauses
+fn bare(alloc: Global, parts: u32, before: Vec<Clause>, tokens: &TokenRow, at: usize) -> Clauses
     requires { parts < 999 }
     ensures { Gives (λ x. (map clause_of x.0.items, from tokens.now x.1)) result (bare_by (block_at parts) (map clause_of before.items) (from tokens.now at)) }
 {
@@ -123,7 +124,7 @@ fn bare(alloc: Global, parts: u32, before: Vec<Clause>, tokens: &[Token], at: us
 fn clause(
     alloc: Global,
     parts: u32,
-    tokens: &[Token],
+    tokens: &TokenRow,
     start: usize,
 ) -> Result<(Clause, usize), ParseFault>
     requires { parts < 999 }
@@ -142,7 +143,7 @@ fn clause(
 // The expression of an except clause, the name after its `as` where there is one, and the place after them.
 fn caught(
     alloc: Global,
-    tokens: &[Token],
+    tokens: &TokenRow,
     start: usize,
 ) -> Result<(Expr, Option<String>, usize), ParseFault>
     ensures { Gives (λ x. ((expr_of x.0, option_map string_bytes x.1), from tokens.now x.2)) result (caught_by (from tokens.now start)) }

@@ -1,6 +1,6 @@
 // One token of look-ahead: the token at a place, and the place after it.
 
-ghost use Rattle.std.specs.Prelude.{◌≡◌, ◌+◌, ◌<◌, length, [], ◌∷◌, option_map, MatchOption, OnSome};
+ghost use Rattle.std.specs.Prelude.{◌≡◌, ◌+◌, ◌<◌, ◌^◌, [], ◌∷◌, option_map, MatchOption, OnSome};
 ghost use Rattle.si_semantics.specs.Grammar.{terminal_of, Sign, Word, NEWLINE, INDENT, DEDENT};
 ghost use Rattle.si_semantics.specs.Tokens as token;
 ghost use Rattle.si_token.specs.Views.{keyword_of, symbol_of, token_of};
@@ -12,7 +12,7 @@ ghost use Rattle.si_parse.specs.inner.Handlers.{after_catch};
 ghost use Rattle.si_parse.specs.inner.Gives.{from, header_view};
 
 use si_plain::{BooleanOperator, ModuleName};
-use si_token::{Keyword, Symbol, Token, TokenKind};
+use si_token::{Keyword, Symbol, Token, TokenKind, TokenRow};
 
 // The word with which a compound statement begins.
 #[derive(Clone, Copy)]
@@ -25,28 +25,24 @@ pub(crate) enum Header {
 }
 
 // The token at the place.
-pub(crate) fn token_at<'a>(tokens: &[Token<'a>], at: usize) -> Option<Token<'a>>
+pub(crate) fn token_at<'a>(tokens: &TokenRow<'a>, at: usize) -> Option<Token<'a>>
     ensures split { MatchOption result (from tokens.now at ≡ []) (λ t. from tokens.now at ≡ terminal_of (token_of t) ∷ from tokens.now (at + 1)) }
-    ensures inside { OnSome result (at < length tokens.now) }
+    ensures inside { OnSome result (at < 2 ^ 63) }
 {
-    if at < tokens.len() {
-        Some(tokens[at])
-    } else {
-        None
-    }
+    tokens.get(at)
 }
 
 // The line of the token at the place, and 1 where there is none.
-pub(crate) fn line_at(tokens: &[Token], at: usize) -> usize {
+pub(crate) fn line_at(tokens: &TokenRow, at: usize) -> usize {
     match token_at(tokens, at) {
-        Some(token) => token.span.line,
+        Some(token) => token.line(),
         None => 1,
     }
 }
 
 // The place after the symbol, where it stands at the place.
 #[tactic(auto, using(crate::proofs::Numbers::symbols_same, crate::proofs::Numbers::symbols_differ))]
-pub(crate) fn after(tokens: &[Token], at: usize, symbol: Symbol) -> Option<usize>
+pub(crate) fn after(tokens: &TokenRow, at: usize, symbol: Symbol) -> Option<usize>
     ensures { option_map (from tokens.now) result ≡ after (Sign (symbol_of symbol)) (from tokens.now at) }
 {
     let token = token_at(tokens, at)?;
@@ -58,7 +54,7 @@ pub(crate) fn after(tokens: &[Token], at: usize, symbol: Symbol) -> Option<usize
 
 // The place after the keyword, where it stands at the place.
 #[tactic(auto, using(crate::proofs::Numbers::keywords_same, crate::proofs::Numbers::keywords_differ))]
-pub(crate) fn after_word(tokens: &[Token], at: usize, keyword: Keyword) -> Option<usize>
+pub(crate) fn after_word(tokens: &TokenRow, at: usize, keyword: Keyword) -> Option<usize>
     ensures { option_map (from tokens.now) result ≡ after (Word (keyword_of keyword)) (from tokens.now at) }
 {
     let token = token_at(tokens, at)?;
@@ -69,7 +65,7 @@ pub(crate) fn after_word(tokens: &[Token], at: usize, keyword: Keyword) -> Optio
 }
 
 // The place after the name, where it stands at the place.
-fn after_name(tokens: &[Token], at: usize, name: &str) -> Option<usize>
+fn after_name(tokens: &TokenRow, at: usize, name: &str) -> Option<usize>
     ensures { option_map (from tokens.now) result ≡ after_name name.now (from tokens.now at) }
 {
     let token = token_at(tokens, at)?;
@@ -86,7 +82,7 @@ fn after_name(tokens: &[Token], at: usize, name: &str) -> Option<usize>
 }
 
 // The place after an `import` of the name, where one stands at the place.
-fn after_import(tokens: &[Token], at: usize, name: &str) -> Option<usize>
+fn after_import(tokens: &TokenRow, at: usize, name: &str) -> Option<usize>
     ensures { option_map (from tokens.now) result ≡ after_import name.now (from tokens.now at) }
 {
     let rest = after_word(tokens, at, Keyword::Import)?;
@@ -94,7 +90,7 @@ fn after_import(tokens: &[Token], at: usize, name: &str) -> Option<usize>
 }
 
 // The place after a `from` and the name, where they stand at the place.
-fn after_from(tokens: &[Token], at: usize, name: &str) -> Option<usize>
+fn after_from(tokens: &TokenRow, at: usize, name: &str) -> Option<usize>
     ensures { option_map (from tokens.now) result ≡ after_from name.now (from tokens.now at) }
 {
     let rest = after_word(tokens, at, Keyword::From)?;
@@ -102,7 +98,7 @@ fn after_from(tokens: &[Token], at: usize, name: &str) -> Option<usize>
 }
 
 // The place after the import of `concurrent.interpreters`, where it stands at the place.
-fn after_interpreters(tokens: &[Token], at: usize) -> Option<usize>
+fn after_interpreters(tokens: &TokenRow, at: usize) -> Option<usize>
     ensures { option_map (from tokens.now) result ≡ after_interpreters (from tokens.now at) }
 {
     let rest = after_from(tokens, at, "concurrent")?;
@@ -110,7 +106,7 @@ fn after_interpreters(tokens: &[Token], at: usize) -> Option<usize>
 }
 
 // The module whose import stands at the place, and the place after it.
-pub(crate) fn import_at(tokens: &[Token], at: usize) -> Option<(ModuleName, usize)>
+pub(crate) fn import_at(tokens: &TokenRow, at: usize) -> Option<(ModuleName, usize)>
     ensures { option_map (λ x. (x.0, from tokens.now x.1)) result ≡ import_at (from tokens.now at) }
 {
     if let Some(rest) = after_import(tokens, at, "threading") {
@@ -121,7 +117,7 @@ pub(crate) fn import_at(tokens: &[Token], at: usize) -> Option<(ModuleName, usiz
 }
 
 // The place after the end of a line, where it stands at the place.
-pub(crate) fn after_newline(tokens: &[Token], at: usize) -> Option<usize>
+pub(crate) fn after_newline(tokens: &TokenRow, at: usize) -> Option<usize>
     ensures { option_map (from tokens.now) result ≡ after NEWLINE (from tokens.now at) }
 {
     let token = token_at(tokens, at)?;
@@ -132,7 +128,7 @@ pub(crate) fn after_newline(tokens: &[Token], at: usize) -> Option<usize>
 }
 
 // The place after an indent, where one stands at the place.
-pub(crate) fn after_indent(tokens: &[Token], at: usize) -> Option<usize>
+pub(crate) fn after_indent(tokens: &TokenRow, at: usize) -> Option<usize>
     ensures { option_map (from tokens.now) result ≡ after INDENT (from tokens.now at) }
 {
     let token = token_at(tokens, at)?;
@@ -143,7 +139,7 @@ pub(crate) fn after_indent(tokens: &[Token], at: usize) -> Option<usize>
 }
 
 // The place after a dedent, where one stands at the place.
-pub(crate) fn after_dedent(tokens: &[Token], at: usize) -> Option<usize>
+pub(crate) fn after_dedent(tokens: &TokenRow, at: usize) -> Option<usize>
     ensures { option_map (from tokens.now) result ≡ after DEDENT (from tokens.now at) }
 {
     let token = token_at(tokens, at)?;
@@ -154,7 +150,11 @@ pub(crate) fn after_dedent(tokens: &[Token], at: usize) -> Option<usize>
 }
 
 // The place after the word of the operator, where it stands at the place.
-pub(crate) fn after_boolean(operator: BooleanOperator, tokens: &[Token], at: usize) -> Option<usize>
+pub(crate) fn after_boolean(
+    operator: BooleanOperator,
+    tokens: &TokenRow,
+    at: usize,
+) -> Option<usize>
     ensures { option_map (from tokens.now) result ≡ after_boolean operator (from tokens.now at) }
 {
     match operator {
@@ -164,7 +164,7 @@ pub(crate) fn after_boolean(operator: BooleanOperator, tokens: &[Token], at: usi
 }
 
 // The place after a closed bracket, before which a comma may stand.
-pub(crate) fn after_items(tokens: &[Token], at: usize, bracket: Symbol) -> Option<usize>
+pub(crate) fn after_items(tokens: &TokenRow, at: usize, bracket: Symbol) -> Option<usize>
     ensures { option_map (from tokens.now) result ≡ closing (after (Sign token.Comma)) (after (Sign (symbol_of bracket))) (from tokens.now at) }
 {
     match after(tokens, at, Symbol::Comma) {
@@ -174,7 +174,7 @@ pub(crate) fn after_items(tokens: &[Token], at: usize, bracket: Symbol) -> Optio
 }
 
 // The place after the end of a line, before which a semicolon may stand.
-pub(crate) fn after_line(tokens: &[Token], at: usize) -> Option<usize>
+pub(crate) fn after_line(tokens: &TokenRow, at: usize) -> Option<usize>
     ensures { option_map (from tokens.now) result ≡ closing (after (Sign token.Semicolon)) (after NEWLINE) (from tokens.now at) }
 {
     match after(tokens, at, Symbol::Semicolon) {
@@ -184,7 +184,7 @@ pub(crate) fn after_line(tokens: &[Token], at: usize) -> Option<usize>
 }
 
 // The place after an `except` that no colon follows, where one stands at the place.
-pub(crate) fn after_catch(tokens: &[Token], at: usize) -> Option<usize>
+pub(crate) fn after_catch(tokens: &TokenRow, at: usize) -> Option<usize>
     ensures { option_map (from tokens.now) result ≡ after_catch (from tokens.now at) }
 {
     let rest = after_word(tokens, at, Keyword::Except)?;
@@ -195,7 +195,7 @@ pub(crate) fn after_catch(tokens: &[Token], at: usize) -> Option<usize>
 }
 
 // The place after a comma, where one stands at the place and an item of a tuple has to follow it.
-pub(crate) fn after_comma(tokens: &[Token], at: usize) -> Option<usize>
+pub(crate) fn after_comma(tokens: &TokenRow, at: usize) -> Option<usize>
     ensures { option_map (from tokens.now) result ≡ after_comma (from tokens.now at) }
 {
     let rest = after(tokens, at, Symbol::Comma)?;
@@ -207,7 +207,7 @@ pub(crate) fn after_comma(tokens: &[Token], at: usize) -> Option<usize>
 }
 
 // The place after the comma, where one stands at the place, or else the place itself.
-pub(crate) fn past_comma(tokens: &[Token], at: usize) -> usize
+pub(crate) fn past_comma(tokens: &TokenRow, at: usize) -> usize
     ensures { from tokens.now result ≡ past_comma (from tokens.now at) }
 {
     match after(tokens, at, Symbol::Comma) {
@@ -217,7 +217,7 @@ pub(crate) fn past_comma(tokens: &[Token], at: usize) -> usize
 }
 
 // Whether no item of a tuple without brackets can stand at the place.
-fn ends_items(tokens: &[Token], at: usize) -> bool
+fn ends_items(tokens: &TokenRow, at: usize) -> bool
     ensures { result ≡ ends_items (from tokens.now at) }
 {
     let Some(token) = token_at(tokens, at) else {
@@ -232,7 +232,7 @@ fn ends_items(tokens: &[Token], at: usize) -> bool
 }
 
 // Whether a small statement ends at the place.
-pub(crate) fn ends_small(tokens: &[Token], at: usize) -> bool
+pub(crate) fn ends_small(tokens: &TokenRow, at: usize) -> bool
     ensures { result ≡ ends_small (from tokens.now at) }
 {
     let Some(token) = token_at(tokens, at) else {
@@ -245,7 +245,7 @@ pub(crate) fn ends_small(tokens: &[Token], at: usize) -> bool
 }
 
 // The word of a compound statement, where one stands at the place, and the place after it.
-pub(crate) fn header_at(tokens: &[Token], at: usize) -> Option<(Header, usize)>
+pub(crate) fn header_at(tokens: &TokenRow, at: usize) -> Option<(Header, usize)>
     ensures { option_map (λ x. (header_view x.0, from tokens.now x.1)) result ≡ header_at (from tokens.now at) }
 {
     let token = token_at(tokens, at)?;

@@ -8,11 +8,11 @@ use crate::fault::ParseFault;
 use crate::literal::bytes_value;
 use crate::lookahead::{line_at, token_at};
 use si_plain::limits::MAX_STR_LENGTH;
-use si_token::{Token, TokenKind};
+use si_token::{TokenKind, TokenRow};
 use std::alloc::{AllocError, Global};
 
 // The bytes of the bytes literals from the place on, and the place after them.
-fn octets(alloc: Global, tokens: &[Token], at: usize) -> Result<(Vec<u8>, usize), ParseFault>
+fn octets(alloc: Global, tokens: &TokenRow, at: usize) -> Result<(Vec<u8>, usize), ParseFault>
     ensures { Gives (λ x. (x.0.items, from tokens.now x.1)) result (octets_by [] (from tokens.now at)) }
 {
     let mut bytes = Vec::new(alloc);
@@ -23,7 +23,7 @@ fn octets(alloc: Global, tokens: &[Token], at: usize) -> Result<(Vec<u8>, usize)
         let TokenKind::Bytes = token.kind else {
             return Ok((bytes, place));
         };
-        let value = bytes_value(alloc, token.text, token.span.line)?;
+        let value = bytes_value(alloc, token.text, token.line())?;
         append(&mut bytes, value.as_slice())?;
     }
     Ok((bytes, tokens.len()))
@@ -39,7 +39,7 @@ fn append(bytes: &mut Vec<u8>, more: &[u8]) -> Result<(), AllocError>
 // The same, no more than bytes may be.
 pub(crate) fn bytes_at(
     alloc: Global,
-    tokens: &[Token],
+    tokens: &TokenRow,
     at: usize,
 ) -> Result<(Vec<u8>, usize), ParseFault>
     ensures { Gives (λ x. (x.0.items, from tokens.now x.1)) result (bytes_by (from tokens.now at)) }

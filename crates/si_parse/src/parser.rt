@@ -10,9 +10,8 @@ ghost use Rattle.si_parse.specs.inner.Gives.{from, IsSyntax};
 
 use crate::fault::ParseFault;
 use crate::statement::statements;
-use si_plain::limits::MAX_TEXT_BYTES;
 use si_syntax::Module;
-use si_token::{Token, tokens};
+use si_token::{TokenRow, tokens};
 use std::alloc::Global;
 
 /// The module that tokens derive.
@@ -20,7 +19,7 @@ use std::alloc::Global;
 /// # Errors
 ///
 /// `Syntax` where they derive none, with the line where reading stopped; `NoMemory`.
-pub fn module_of(alloc: Global, tokens: &[Token]) -> Result<Module, ParseFault>
+pub fn module_of(alloc: Global, tokens: &TokenRow) -> Result<Module, ParseFault>
     // What is read is derived.
     ensures found { IfOk result (λ m. Derives (tree_of m) (from tokens.now 0)) }
     // A refusal for its syntax comes only where nothing is derived.
@@ -46,11 +45,8 @@ pub fn parse(alloc: Global, text: &str) -> Result<Module, ParseFault>
     // It has no other.
     ensures only { IfOk result (λ m. (body : Stmts) → IsRead text.now body → tree_of m ≡ body) }
 {
-    if text.len() > MAX_TEXT_BYTES {
-        return Err(ParseFault::Syntax(1));
-    }
     let all = tokens(alloc, text)?;
-    module_of(alloc, all.as_slice())
+    module_of(alloc, &all)
 }
 
 /// Every tree that tokens derive is within the limits.

@@ -9,7 +9,7 @@ ghost use Rattle.si_parse.specs.inner.Gives.{from, continuation_view};
 
 use crate::lookahead::{after_word, token_at};
 use si_plain::{BinaryOperator, BooleanOperator, ComparisonOperator, UnaryOperator};
-use si_token::{Keyword, Symbol, Token, TokenKind};
+use si_token::{Keyword, Symbol, TokenKind, TokenRow};
 
 // The levels of expressions, each named for its production, the loosest first.
 pub(crate) const EXPRESSION: u32 = 1;
@@ -128,7 +128,7 @@ fn role_of(symbol: Symbol) -> Continuation
 
 // What a keyword does after an operand, in front of what stands at the place: a `not` does something where `in` stands
 // there.
-fn word_role(keyword: Keyword, tokens: &[Token], rest: usize) -> Continuation
+fn word_role(keyword: Keyword, tokens: &TokenRow, rest: usize) -> Continuation
     ensures { continuation_view result ≡ continuation_at (Word (keyword_of keyword) ∷ from tokens.now rest) }
 {
     match keyword {
@@ -145,7 +145,7 @@ fn word_role(keyword: Keyword, tokens: &[Token], rest: usize) -> Continuation
 }
 
 // What the token at the place does after an operand, and the place after it.
-pub(crate) fn what_follows(tokens: &[Token], at: usize) -> (Continuation, usize)
+pub(crate) fn what_follows(tokens: &TokenRow, at: usize) -> (Continuation, usize)
     ensures role { continuation_view result.0 ≡ continuation_at (from tokens.now at) }
     ensures rest { from tokens.now result.1 ≡ rest_of (from tokens.now at) }
 {
@@ -175,7 +175,7 @@ pub(crate) fn strength(continuation: Continuation) -> u32
 }
 
 // The operator before an operand, where one stands at the place, and the place after it.
-pub(crate) fn prefix_at(tokens: &[Token], at: usize) -> Option<(UnaryOperator, usize)>
+pub(crate) fn prefix_at(tokens: &TokenRow, at: usize) -> Option<(UnaryOperator, usize)>
     ensures operator { option_map (λ x. x.0) result ≡ prefix_at (from tokens.now at) }
     ensures rest { IfSome result (λ x. from tokens.now x.1 ≡ rest_of (from tokens.now at)) }
 {
@@ -205,7 +205,7 @@ fn comparison_symbol(symbol: Symbol) -> Option<ComparisonOperator>
 }
 
 // The operator of a comparison, where one stands at the place, and the place after it.
-pub(crate) fn comparison_at(tokens: &[Token], at: usize) -> Option<(ComparisonOperator, usize)>
+pub(crate) fn comparison_at(tokens: &TokenRow, at: usize) -> Option<(ComparisonOperator, usize)>
     ensures { option_map (λ x. (x.0, from tokens.now x.1)) result ≡ comparison_at (from tokens.now at) }
 {
     let token = token_at(tokens, at)?;

@@ -14,6 +14,7 @@ use crate::block::block;
 use crate::expression::expression;
 use crate::expressions::expressions;
 use crate::fault::ParseFault;
+use crate::fitted::fitted;
 use crate::lookahead::{after, after_line, after_word, ends_small, import_at, line_at, token_at};
 use crate::name::names;
 use crate::precedence::{EXPRESSION, FACTOR};
@@ -21,7 +22,7 @@ use crate::target::as_target;
 use si_plain::BinaryOperator;
 use si_plain::limits::{MAX_EXPRESSION_DEPTH, MAX_NESTING};
 use si_syntax::{Assign, Augment, AugmentItem, Expr, Item, Stmt};
-use si_token::{Keyword, Symbol, Token, TokenKind};
+use si_token::{Keyword, Symbol, TokenKind, TokenRow};
 use std::alloc::Global;
 
 // The assignment that a sign is: a plain one, or an augmented one with its operator.
@@ -46,7 +47,7 @@ fn assignment_symbol(symbol: Symbol) -> Option<Option<BinaryOperator>>
 }
 
 // The assignment whose sign stands at the place, and the place after it.
-fn assignment_at(tokens: &[Token], at: usize) -> Option<(Option<BinaryOperator>, usize)>
+fn assignment_at(tokens: &TokenRow, at: usize) -> Option<(Option<BinaryOperator>, usize)>
     ensures { option_map (λ x. (x.0, from tokens.now x.1)) result ≡ assignment_at (from tokens.now at) }
 {
     let token = token_at(tokens, at)?;
@@ -60,21 +61,21 @@ fn assignment_at(tokens: &[Token], at: usize) -> Option<(Option<BinaryOperator>,
 }
 
 // The statement that is one word, where it stands at the place, and the place after it.
-fn word_statement(tokens: &[Token], at: usize) -> Option<(Stmt, usize)>
+fn word_statement(tokens: &TokenRow, at: usize) -> Option<(Stmt, usize)>
     ensures statement { option_map (λ x. stmt_of x.0) result ≡ word_statement (from tokens.now at) }
     ensures rest { IfSome result (λ x. from tokens.now x.1 ≡ rest_of (from tokens.now at)) }
 {
     let token = token_at(tokens, at)?;
     match token.kind {
         TokenKind::Keyword(Keyword::Pass) => Some((Stmt::Pass, at + 1)),
-        TokenKind::Keyword(Keyword::Break) => Some((Stmt::Break(token.span.line), at + 1)),
-        TokenKind::Keyword(Keyword::Continue) => Some((Stmt::Continue(token.span.line), at + 1)),
+        TokenKind::Keyword(Keyword::Break) => Some((Stmt::Break(token.line()), at + 1)),
+        TokenKind::Keyword(Keyword::Continue) => Some((Stmt::Continue(token.line()), at + 1)),
         _ => None,
     }
 }
 
 // An expression or an assignment, and the place after it.
-fn spelled(alloc: Global, tokens: &[Token], start: usize) -> Result<(Stmt, usize), ParseFault>
+fn spelled(alloc: Global, tokens: &TokenRow, start: usize) -> Result<(Stmt, usize), ParseFault>
     ensures { Gives (λ x. (stmt_of x.0, from tokens.now x.1)) result (spelled_by (expression_at max_depth) (from tokens.now start)) }
 {
     let (first, _, at) = expressions(alloc, EXPRESSION, tokens, start)?;
@@ -90,16 +91,17 @@ fn spelled(alloc: Global, tokens: &[Token], start: usize) -> Result<(Stmt, usize
 fn assigned(
     alloc: Global,
     first: Expr,
-    tokens: &[Token],
+    tokens: &TokenRow,
     start: usize,
 ) -> Result<(Stmt, usize), ParseFault>
     ensures { Gives (λ x. (stmt_of x.0, from tokens.now x.1)) result (assigned_by (expression_at max_depth) (expr_of first) (from tokens.now start)) }
 {
-    let mut targets = Vec::new(alloc);
+    let mut targets = Vec::with_capacity(alloc, 1)?;
     let mut value = first;
     let mut at = start;
     for _turn in start..tokens.len() {
         let Some(rest) = after(tokens, at, Symbol::Equal) else {
+            let targets = fitted(targets);
             return Ok((Stmt::Assign(Assign { targets, value }), at));
         };
         let target = as_target(alloc, value, line_at(tokens, at))?;
@@ -116,7 +118,7 @@ fn augmented(
     alloc: Global,
     target: Expr,
     operator: BinaryOperator,
-    tokens: &[Token],
+    tokens: &TokenRow,
     start: usize,
 ) -> Result<(Stmt, usize), ParseFault>
     ensures { Gives (λ x. (stmt_of x.0, from tokens.now x.1)) result (augmented_by (expression_at max_depth) (expr_of target) operator (from tokens.now start)) }
@@ -144,7 +146,7 @@ fn augmented(
 }
 
 // The statement from after its `del`.
-fn deleted(alloc: Global, tokens: &[Token], start: usize) -> Result<(Stmt, usize), ParseFault>
+fn deleted(alloc: Global, tokens: &TokenRow, start: usize) -> Result<(Stmt, usize), ParseFault>
     ensures { Gives (λ x. (stmt_of x.0, from tokens.now x.1)) result (deleted_by (expression_at max_depth) (from tokens.now start)) }
 {
     let (target, _, end) = expression(alloc, MAX_EXPRESSION_DEPTH, FACTOR, tokens, start)?;
@@ -158,7 +160,7 @@ fn deleted(alloc: Global, tokens: &[Token], start: usize) -> Result<(Stmt, usize
 fn returned(
     alloc: Global,
     line: usize,
-    tokens: &[Token],
+    tokens: &TokenRow,
     at: usize,
 ) -> Result<(Stmt, usize), ParseFault>
     ensures { Gives (λ x. (stmt_of x.0, from tokens.now x.1)) result (returned_by (expression_at max_depth) (from tokens.now at)) }
@@ -171,7 +173,7 @@ fn returned(
 }
 
 // The statement from after its `raise`.
-fn raised(alloc: Global, tokens: &[Token], at: usize) -> Result<(Stmt, usize), ParseFault>
+fn raised(alloc: Global, tokens: &TokenRow, at: usize) -> Result<(Stmt, usize), ParseFault>
     ensures { Gives (λ x. (stmt_of x.0, from tokens.now x.1)) result (raised_by (expression_at max_depth) (from tokens.now at)) }
 {
     if ends_small(tokens, at) {
@@ -185,7 +187,7 @@ fn raised(alloc: Global, tokens: &[Token], at: usize) -> Result<(Stmt, usize), P
 fn global(
     alloc: Global,
     line: usize,
-    tokens: &[Token],
+    tokens: &TokenRow,
     at: usize,
 ) -> Result<(Stmt, usize), ParseFault>
     ensures { Gives (λ x. (stmt_of x.0, from tokens.now x.1)) result (global_by (from tokens.now at)) }
@@ -195,7 +197,7 @@ fn global(
 }
 
 // A small statement, and the place after it.
-fn statement(alloc: Global, tokens: &[Token], start: usize) -> Result<(Stmt, usize), ParseFault>
+fn statement(alloc: Global, tokens: &TokenRow, start: usize) -> Result<(Stmt, usize), ParseFault>
     ensures { Gives (λ x. (stmt_of x.0, from tokens.now x.1)) result (statement_by (expression_at max_depth) (from tokens.now start)) }
 {
     if let Some((word, rest)) = word_statement(tokens, start) {
@@ -224,7 +226,7 @@ fn statement(alloc: Global, tokens: &[Token], start: usize) -> Result<(Stmt, usi
 pub(crate) fn line(
     alloc: Global,
     before: Vec<Stmt>,
-    tokens: &[Token],
+    tokens: &TokenRow,
     start: usize,
 ) -> Result<(Vec<Stmt>, usize), ParseFault>
     ensures { Gives (λ x. (map stmt_of x.0.items, from tokens.now x.1)) result (line_by (expression_at max_depth) (map stmt_of before.items) (from tokens.now start)) }
@@ -246,7 +248,7 @@ pub(crate) fn line(
 }
 
 // Whether the token at the place is the last one, the end of the text.
-fn is_end(tokens: &[Token], at: usize) -> bool
+fn is_end(tokens: &TokenRow, at: usize) -> bool
     ensures { result ≡ is_end (from tokens.now at) }
 {
     let Some(token) = token_at(tokens, at) else {
@@ -263,7 +265,7 @@ fn is_end(tokens: &[Token], at: usize) -> bool
 
 // The statements of all lines.
 #[tactic(auto, using(crate::proofs::Steps::many_by_zero, crate::proofs::Steps::many_by_step))]
-pub(crate) fn statements(alloc: Global, tokens: &[Token]) -> Result<Vec<Stmt>, ParseFault>
+pub(crate) fn statements(alloc: Global, tokens: &TokenRow) -> Result<Vec<Stmt>, ParseFault>
     ensures { Gives (λ body. map stmt_of body.items) result (option_map (λ r. r.0) (module_by (from tokens.now 0))) }
 {
     let mut body = Vec::new(alloc);

@@ -12,7 +12,7 @@ use crate::fault::ParseFault;
 use crate::lookahead::{after_word, line_at};
 use crate::precedence::FACTOR;
 use si_syntax::{Expr, Item, Target};
-use si_token::{Keyword, Token};
+use si_token::{Keyword, TokenRow};
 use std::alloc::Global;
 
 // The target that an expression is; the line is that of the fault where it is none.
@@ -58,7 +58,7 @@ fn as_targets(alloc: Global, exprs: Vec<Expr>, line: usize) -> Result<Vec<Target
 // operator but `**` is read.
 pub(crate) fn target(
     alloc: Global,
-    tokens: &[Token],
+    tokens: &TokenRow,
     start: usize,
 ) -> Result<(Target, usize), ParseFault>
     ensures { Gives (λ x. (target_of x.0, from tokens.now x.1)) result (target_by (from tokens.now start)) }

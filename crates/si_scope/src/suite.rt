@@ -8,7 +8,7 @@ ghost use Rattle.si_scope.specs.inner.Walk.{after, after_all, after_clauses, usi
 
 use crate::fault::{ScopeFault, allowed};
 use crate::seen::Seen;
-use si_syntax::{Branch, Clause, Finally, If, Stmt, Try, While};
+use si_syntax::{Branch, Clause, If, Stmt, Try};
 
 // Where statements of a function stand: in a loop of it or in none, and whether `return` may stand there.
 #[derive(Clone, Copy)]
@@ -58,10 +58,10 @@ fn see_stmt(stmt: &Stmt, place: Place, seen: &mut Seen) -> Result<(), ScopeFault
         Stmt::Delete(item) => Ok(seen.use_item(item)?),
         Stmt::Pass => Ok(()),
         Stmt::If(statement) => see_if(statement, place, seen),
-        Stmt::While(While { test, body, last }) => {
-            seen.use_expr(test)?;
-            see_suite(body, place.looping(), seen)?;
-            see_suite(last, place, seen)
+        Stmt::While(statement) => {
+            seen.use_expr(&statement.test)?;
+            see_suite(&statement.body, place.looping(), seen)?;
+            see_suite(&statement.last, place, seen)
         }
         Stmt::For(statement) => {
             seen.set(&statement.target, &statement.items)?;
@@ -77,9 +77,9 @@ fn see_stmt(stmt: &Stmt, place: Place, seen: &mut Seen) -> Result<(), ScopeFault
         Stmt::Global(line, names) => seen.declare(*line, names),
         Stmt::Import(line, _) => Err(ScopeFault::Scope(*line)),
         Stmt::Try(statement) => see_try(statement, place, seen),
-        Stmt::Finally(Finally { tried, end }) => {
-            see_try(tried, place, seen)?;
-            see_end(end, seen)
+        Stmt::Finally(statement) => {
+            see_try(&statement.tried, place, seen)?;
+            see_end(&statement.end, seen)
         }
     }
 }

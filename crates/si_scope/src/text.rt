@@ -13,7 +13,7 @@ use crate::scoped::Scoped;
 use crate::seen::Seen;
 use crate::suite::{Place, see_suite};
 use si_plain::Names;
-use si_syntax::{Clause, Define, Finally, If, Module, Stmt, Try};
+use si_syntax::{Clause, Define, If, Module, Stmt, Try};
 use std::alloc::Global;
 
 /// The script of a tree with its names resolved: which are local to each of its functions.
@@ -90,9 +90,9 @@ fn resolve_stmt(
         }
         Stmt::Return(line, _) | Stmt::Global(line, _) => Err(ScopeFault::Scope(*line)),
         Stmt::Try(statement) => resolve_try(alloc, statement, in_loop, locals),
-        Stmt::Finally(Finally { tried, end }) => {
-            resolve_try(alloc, tried, in_loop, locals)?;
-            resolve_suite(alloc, end, false, locals)
+        Stmt::Finally(statement) => {
+            resolve_try(alloc, &statement.tried, in_loop, locals)?;
+            resolve_suite(alloc, &statement.end, false, locals)
         }
     }
 }

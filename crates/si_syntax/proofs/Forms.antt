@@ -37,17 +37,17 @@ clauses_are (c ∷ cs) = ap (λ x. x ∷ map (fold-Clause tree.Stmt Branch Claus
 tried_is : (t : Try) → fold-Try tree.Stmt Branch Clause tree.Stmt tree.Stmt tree.Stmt tree.Stmt Tried tree.Stmt stmt_step branch_step clause_step define_step finally_step for_step if_step try_step while_step t ≡ tried_of t
 tried_is t = fold_out-Try tree.Stmt Branch Clause tree.Stmt tree.Stmt tree.Stmt tree.Stmt Tried tree.Stmt stmt_step branch_step clause_step define_step finally_step for_step if_step try_step while_step t ∙ ap (λ cs. ((tried_of t).0, cs, (tried_of t).2)) (clauses_are (out-Try t).clauses.items)
 
-pub if_is : (i : If) → stmt_of (stmts.If i) ≡ if_of i
+pub if_is : (i : Box If Global) → stmt_of (stmts.If i) ≡ if_of i.value
 if_is i =
-    ap stmt_of (sym (rolls-If i)) ∙ fold-roll-Stmt tree.Stmt Branch Clause tree.Stmt tree.Stmt tree.Stmt tree.Stmt Tried tree.Stmt stmt_step branch_step clause_step define_step finally_step for_step if_step try_step while_step (Stmt-F.If i) ∙ fold_out-If tree.Stmt Branch Clause tree.Stmt tree.Stmt tree.Stmt tree.Stmt Tried tree.Stmt stmt_step branch_step clause_step define_step finally_step for_step if_step try_step while_step i
-    ∙ ap (λ b. tree.If b.0 b.1 (elifs_of (map (fold-Branch tree.Stmt Branch Clause tree.Stmt tree.Stmt tree.Stmt tree.Stmt Tried tree.Stmt stmt_step branch_step clause_step define_step finally_step for_step if_step try_step while_step) (out-If i).elifs.items) (body_of (out-If i).last.items))) (fold_out-Branch tree.Stmt Branch Clause tree.Stmt tree.Stmt tree.Stmt tree.Stmt Tried tree.Stmt stmt_step branch_step clause_step define_step finally_step for_step if_step try_step while_step (out-If i).first)
-    ∙ ap (λ l. tree.If (branch_of (out-If i).first).0 (branch_of (out-If i).first).1 (elifs_of l (body_of (out-If i).last.items))) (branches_are (out-If i).elifs.items)
+    ap stmt_of (sym (rolls-If i)) ∙ fold-roll-Stmt tree.Stmt Branch Clause tree.Stmt tree.Stmt tree.Stmt tree.Stmt Tried tree.Stmt stmt_step branch_step clause_step define_step finally_step for_step if_step try_step while_step (Stmt-F.If i) ∙ fold_out-If tree.Stmt Branch Clause tree.Stmt tree.Stmt tree.Stmt tree.Stmt Tried tree.Stmt stmt_step branch_step clause_step define_step finally_step for_step if_step try_step while_step i.value
+    ∙ ap (λ b. tree.If b.0 b.1 (elifs_of (map (fold-Branch tree.Stmt Branch Clause tree.Stmt tree.Stmt tree.Stmt tree.Stmt Tried tree.Stmt stmt_step branch_step clause_step define_step finally_step for_step if_step try_step while_step) (out-If i.value).elifs.items) (body_of (out-If i.value).last.items))) (fold_out-Branch tree.Stmt Branch Clause tree.Stmt tree.Stmt tree.Stmt tree.Stmt Tried tree.Stmt stmt_step branch_step clause_step define_step finally_step for_step if_step try_step while_step (out-If i.value).first)
+    ∙ ap (λ l. tree.If (branch_of (out-If i.value).first).0 (branch_of (out-If i.value).first).1 (elifs_of l (body_of (out-If i.value).last.items))) (branches_are (out-If i.value).elifs.items)
 
-pub while_is : (w : While) → stmt_of (stmts.While w) ≡ while_of w
-while_is w = ap stmt_of (sym (rolls-While w)) ∙ fold-roll-Stmt tree.Stmt Branch Clause tree.Stmt tree.Stmt tree.Stmt tree.Stmt Tried tree.Stmt stmt_step branch_step clause_step define_step finally_step for_step if_step try_step while_step (Stmt-F.While w) ∙ fold_out-While tree.Stmt Branch Clause tree.Stmt tree.Stmt tree.Stmt tree.Stmt Tried tree.Stmt stmt_step branch_step clause_step define_step finally_step for_step if_step try_step while_step w
+pub while_is : (w : Box While Global) → stmt_of (stmts.While w) ≡ while_of w.value
+while_is w = ap stmt_of (sym (rolls-While w)) ∙ fold-roll-Stmt tree.Stmt Branch Clause tree.Stmt tree.Stmt tree.Stmt tree.Stmt Tried tree.Stmt stmt_step branch_step clause_step define_step finally_step for_step if_step try_step while_step (Stmt-F.While w) ∙ fold_out-While tree.Stmt Branch Clause tree.Stmt tree.Stmt tree.Stmt tree.Stmt Tried tree.Stmt stmt_step branch_step clause_step define_step finally_step for_step if_step try_step while_step w.value
 
-pub for_is : (f : For) → stmt_of (stmts.For f) ≡ for_of f
-for_is f = ap stmt_of (sym (rolls-For f)) ∙ fold-roll-Stmt tree.Stmt Branch Clause tree.Stmt tree.Stmt tree.Stmt tree.Stmt Tried tree.Stmt stmt_step branch_step clause_step define_step finally_step for_step if_step try_step while_step (Stmt-F.For f) ∙ fold_out-For tree.Stmt Branch Clause tree.Stmt tree.Stmt tree.Stmt tree.Stmt Tried tree.Stmt stmt_step branch_step clause_step define_step finally_step for_step if_step try_step while_step f
+pub for_is : (f : Box For Global) → stmt_of (stmts.For f) ≡ for_of f.value
+for_is f = ap stmt_of (sym (rolls-For f)) ∙ fold-roll-Stmt tree.Stmt Branch Clause tree.Stmt tree.Stmt tree.Stmt tree.Stmt Tried tree.Stmt stmt_step branch_step clause_step define_step finally_step for_step if_step try_step while_step (Stmt-F.For f) ∙ fold_out-For tree.Stmt Branch Clause tree.Stmt tree.Stmt tree.Stmt tree.Stmt Tried tree.Stmt stmt_step branch_step clause_step define_step finally_step for_step if_step try_step while_step f.value
 
 pub define_is : (d : Define) → stmt_of (stmts.Define d) ≡ define_of d
 define_is d = ap stmt_of (sym (rolls-Define d)) ∙ fold-roll-Stmt tree.Stmt Branch Clause tree.Stmt tree.Stmt tree.Stmt tree.Stmt Tried tree.Stmt stmt_step branch_step clause_step define_step finally_step for_step if_step try_step while_step (Stmt-F.Define d) ∙ fold_out-Define tree.Stmt Branch Clause tree.Stmt tree.Stmt tree.Stmt tree.Stmt Tried tree.Stmt stmt_step branch_step clause_step define_step finally_step for_step if_step try_step while_step d
@@ -55,7 +55,7 @@ define_is d = ap stmt_of (sym (rolls-Define d)) ∙ fold-roll-Stmt tree.Stmt Bra
 pub try_is : (t : Try) → stmt_of (stmts.Try t) ≡ try_of t
 try_is t = ap stmt_of (sym (rolls-Try t)) ∙ fold-roll-Stmt tree.Stmt Branch Clause tree.Stmt tree.Stmt tree.Stmt tree.Stmt Tried tree.Stmt stmt_step branch_step clause_step define_step finally_step for_step if_step try_step while_step (Stmt-F.Try t) ∙ ap (λ x. tree.Try x.0 (clauses_of x.1) x.2) (tried_is t)
 
-pub finally_is : (f : Finally) → stmt_of (stmts.Finally f) ≡ finally_of f
+pub finally_is : (f : Box Finally Global) → stmt_of (stmts.Finally f) ≡ finally_of f.value
 finally_is f =
-    ap stmt_of (sym (rolls-Finally f)) ∙ fold-roll-Stmt tree.Stmt Branch Clause tree.Stmt tree.Stmt tree.Stmt tree.Stmt Tried tree.Stmt stmt_step branch_step clause_step define_step finally_step for_step if_step try_step while_step (Stmt-F.Finally f) ∙ fold_out-Finally tree.Stmt Branch Clause tree.Stmt tree.Stmt tree.Stmt tree.Stmt Tried tree.Stmt stmt_step branch_step clause_step define_step finally_step for_step if_step try_step while_step f
-    ∙ ap (λ x. tree.Finally x.0 (clauses_of x.1) x.2 (body_of (out-Finally f).end.items)) (tried_is (out-Finally f).tried)
+    ap stmt_of (sym (rolls-Finally f)) ∙ fold-roll-Stmt tree.Stmt Branch Clause tree.Stmt tree.Stmt tree.Stmt tree.Stmt Tried tree.Stmt stmt_step branch_step clause_step define_step finally_step for_step if_step try_step while_step (Stmt-F.Finally f) ∙ fold_out-Finally tree.Stmt Branch Clause tree.Stmt tree.Stmt tree.Stmt tree.Stmt Tried tree.Stmt stmt_step branch_step clause_step define_step finally_step for_step if_step try_step while_step f.value
+    ∙ ap (λ x. tree.Finally x.0 (clauses_of x.1) x.2 (body_of (out-Finally f.value).end.items)) (tried_is (out-Finally f.value).tried)

@@ -111,9 +111,9 @@ stmt_step (Stmt-F.Augment a) = tree.Augment (string_bytes a.name) a.operator (ex
 stmt_step (Stmt-F.AugmentItem a) = tree.AugmentItem (object_of a.item) (index_of a.item) a.operator (expr_of a.value)
 stmt_step (Stmt-F.Delete i) = tree.Delete (object_of i) (index_of i)
 stmt_step Stmt-F.Pass = tree.Pass
-stmt_step (Stmt-F.If i) = i
-stmt_step (Stmt-F.While w) = w
-stmt_step (Stmt-F.For f) = f
+stmt_step (Stmt-F.If i) = i.value
+stmt_step (Stmt-F.While w) = w.value
+stmt_step (Stmt-F.For f) = f.value
 stmt_step (Stmt-F.Break line) = tree.Break
 stmt_step (Stmt-F.Continue line) = tree.Continue
 stmt_step (Stmt-F.Define d) = d
@@ -122,7 +122,7 @@ stmt_step (Stmt-F.Global line names) = tree.Global (map string_bytes names.items
 stmt_step (Stmt-F.Import line m) = tree.Import m
 stmt_step (Stmt-F.Raise value) = tree.Raise (option_map expr_of value)
 stmt_step (Stmt-F.Try t) = tree.Try t.0 (clauses_of t.1) t.2
-stmt_step (Stmt-F.Finally f) = f
+stmt_step (Stmt-F.Finally f) = f.value
 
 abbrev pub stmt_of : Stmt → tree.Stmt
 stmt_of = fold-Stmt tree.Stmt Branch Clause tree.Stmt tree.Stmt tree.Stmt tree.Stmt Tried tree.Stmt stmt_step branch_step clause_step define_step finally_step for_step if_step try_step while_step

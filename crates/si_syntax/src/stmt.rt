@@ -19,9 +19,9 @@ pub enum Stmt {
     /// `del object[index]`: its item (Python Language Reference 3.14, 7.5).
     Delete(Item),
     Pass,
-    If(If),
-    While(While),
-    For(For),
+    If(Box<If>),
+    While(Box<While>),
+    For(Box<For>),
     Break(Line),
     Continue(Line),
     Define(Define),
@@ -35,8 +35,11 @@ pub enum Stmt {
     /// `raise`, and its expression where there is one.
     Raise(Option<Expr>),
     Try(Try),
-    Finally(Finally),
+    Finally(Box<Finally>),
 }
+
+// There is one for each statement of a script, and so they are small.
+const _: () = prove!(size_of::<Stmt>() <= 88);
 
 /// `target = .. = value` (Python Language Reference 3.14, 7.2).
 #[derive(Debug, Drop)]

@@ -6,6 +6,7 @@ pub mod Boundaries
 pub mod Lines
 pub mod Steps
 pub mod Slices
+pub mod Kept
 pub mod Added
 pub mod Loop
 pub mod Literals

@@ -42,7 +42,7 @@ drop_more (suc at) n (b ∷ s) = (λ i. drop (sum i) (b ∷ s)) ∙ drop_more at
 pub word_dropped : (source word after : List ℕ) (at : ℕ) → drop at source ≡ word ++ after → drop (at + length word) source ≡ after
 word_dropped source word after at h = drop_more at (length word) source ∙ ap (drop (length word)) h ∙ drop_append word after
 
-part_slice : (source word after : List ℕ) (at line : ℕ) (t : Token) → drop at source ≡ word ++ after → IsPart at line word t → IsSliceOf source t
+pub part_slice : (source word after : List ℕ) (at line : ℕ) (t : Token) → drop at source ≡ word ++ after → IsPart at line word t → IsSliceOf source t
 part_slice source word after at line t h p =
     let long : at + length word - at ≡ length word = omega arith in
     p.text ∙ sym (take_append word after) ∙ sym (λ i. take (long i) (h i)) ∙ sym (λ i. slice_range source (p.start i) (p.end i))

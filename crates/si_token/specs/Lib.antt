@@ -1,4 +1,5 @@
 pub mod Views
 pub mod Faults
 pub mod Spans
+pub mod Rows
 pub mod inner

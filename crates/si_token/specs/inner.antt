@@ -3,3 +3,4 @@ pub mod Reading
 pub mod Laying
 pub mod Places
 pub mod Literals
+pub mod Kept

@@ -9,6 +9,7 @@ ghost use Rattle.si_token.specs.inner.Laying.{line_start, after, after_spaces, a
 ghost use Rattle.si_token.specs.inner.Places.{IsWithin};
 ghost use Rattle.si_token.specs.Spans.{IsPart};
 
+use crate::row::TokenRow;
 use crate::token::{Span, Symbol, Token, TokenKind};
 use crate::words::Sort;
 use std::alloc::AllocError;
@@ -49,7 +50,8 @@ pub fn line_start(at: usize, line: usize) -> Place
 
 /// The token that this word is here.
 pub fn token_at<'a>(place: Place, kind: TokenKind, word: &'a str) -> Token<'a>
-    requires { place.at + length word.now < 2 ^ 63 }
+    requires room { place.at + length word.now < 2 ^ 31 }
+    requires within { IsWithin place }
     ensures kind { result.kind ≡ kind }
     ensures part { IsPart place.at place.line word.now result }
 {
@@ -57,9 +59,9 @@ pub fn token_at<'a>(place: Place, kind: TokenKind, word: &'a str) -> Token<'a>
         kind,
         text: word,
         span: Span {
-            start: place.at,
-            end: place.at + word.len(),
-            line: place.line,
+            start: place.at as u32,
+            end: (place.at + word.len()) as u32,
+            line: place.line as u32,
         },
     }
 }
@@ -105,7 +107,7 @@ fn brackets_after(kind: TokenKind, brackets: usize) -> usize
 
 // After a word that makes no token and moves no column.
 fn after(place: Place, word: &str) -> Place
-    requires room { place.at + length word.now < 2 ^ 63 }
+    requires room { place.at + length word.now < 2 ^ 31 }
     requires within { IsWithin place }
     ensures gives { place_of result ≡ after (place_of place) word.now }
     ensures within { IsWithin result }
@@ -118,7 +120,7 @@ fn after(place: Place, word: &str) -> Place
 
 // After spaces, which count at a line's beginning.
 fn after_spaces(place: Place, word: &str) -> Place
-    requires room { place.at + length word.now < 2 ^ 63 }
+    requires room { place.at + length word.now < 2 ^ 31 }
     requires within { IsWithin place }
     ensures gives { place_of result ≡ after_spaces (place_of place) word.now }
     ensures within { IsWithin result }
@@ -132,7 +134,7 @@ fn after_spaces(place: Place, word: &str) -> Place
 
 // After tabs, which leave a line's first token no column.
 fn after_tabs(place: Place, word: &str) -> Place
-    requires room { place.at + length word.now < 2 ^ 63 }
+    requires room { place.at + length word.now < 2 ^ 31 }
     requires within { IsWithin place }
     ensures gives { place_of result ≡ after_tabs (place_of place) word.now }
     ensures within { IsWithin result }
@@ -146,7 +148,7 @@ fn after_tabs(place: Place, word: &str) -> Place
 
 // A word that is a token.
 fn with_token<'a>(place: Place, kind: TokenKind, word: &'a str) -> (Option<Token<'a>>, Place)
-    requires room { place.at + length word.now < 2 ^ 63 }
+    requires room { place.at + length word.now < 2 ^ 31 }
     requires some { 0 < length word.now }
     requires within { IsWithin place }
     ensures gives { laid_of result ≡ (token place.at word.now (kind_of kind) ∷ [], after_token (place_of place) (kind_of kind) word.now) }
@@ -164,7 +166,7 @@ fn with_token<'a>(place: Place, kind: TokenKind, word: &'a str) -> (Option<Token
 
 // A line end makes a NEWLINE after a token, and nothing inside brackets or in a line with no token.
 fn with_line_end<'a>(place: Place, word: &'a str) -> (Option<Token<'a>>, Place)
-    requires room { place.at + length word.now < 2 ^ 63 }
+    requires room { place.at + length word.now < 2 ^ 31 }
     requires some { 0 < length word.now }
     requires within { IsWithin place }
     ensures gives { laid_of result ≡ with_line_end (place_of place) word.now }
@@ -191,7 +193,7 @@ pub fn laid<'a>(
     sort: Sort,
     word: &'a str,
 ) -> (Option<Token<'a>>, Place)
-    requires room { place.at + length word.now < 2 ^ 63 }
+    requires room { place.at + length word.now < 2 ^ 31 }
     requires some { 0 < length word.now }
     requires within { IsWithin place }
     ensures gives { laid_of result ≡ laid (place_of place) (option_map kind_of kind) (sort_of sort) word.now }
@@ -211,7 +213,8 @@ pub fn laid<'a>(
 
 /// The NEWLINE that is missing at the end of the text, where one is.
 pub fn missing_newline<'a>(place: Place) -> Option<Token<'a>>
-    requires { place.at < 2 ^ 63 }
+    requires room { place.at < 2 ^ 31 }
+    requires within { IsWithin place }
     ensures gives { option_to_list (option_map token_of result) ≡ missing_newline (place_of place) }
     ensures part { IfSome result (IsPart place.at place.line []) }
 {
@@ -244,13 +247,25 @@ pub fn close_deeper(columns: &mut Vec<usize>, column: usize) -> usize
     closed
 }
 
+/// Puts an empty token of this kind after the others.
+pub fn put_empty(all: &mut TokenRow<'_>, place: Place, kind: TokenKind) -> Result<(), AllocError>
+    requires room { place.at < 2 ^ 31 }
+    requires within { IsWithin place }
+    ensures source { all.new.source ≡ all.old.source }
+    ensures adds { OnOk result (Adds place.at place.line (kind_of kind ∷ []) all.old.items all.new.items) }
+{
+    all.push(token_at(place, kind, ""))
+}
+
 /// Puts so many DEDENTs after the others.
-pub fn dedents<'a>(all: &mut Vec<Token<'a>>, place: Place, count: usize) -> Result<(), AllocError>
-    requires { place.at < 2 ^ 63 }
-    ensures { OnOk result (Adds place.at place.line (replicate count Dedent) all.old.items all.new.items) }
+pub fn dedents(all: &mut TokenRow<'_>, place: Place, count: usize) -> Result<(), AllocError>
+    requires room { place.at < 2 ^ 31 }
+    requires within { IsWithin place }
+    ensures source { all.new.source ≡ all.old.source }
+    ensures adds { OnOk result (Adds place.at place.line (replicate count Dedent) all.old.items all.new.items) }
 {
     for _ in 0..count {
-        all.push(token_at(place, TokenKind::Dedent, ""))?;
+        put_empty(all, place, TokenKind::Dedent)?;
     }
     Ok(())
 }

@@ -1,6 +1,6 @@
 // From a text to its tokens.
 
-ghost use Rattle.std.specs.Prelude.{◌≡◌, ◌<◌, ◌^◌, ◌++◌, length, List, reverse, All, map, IfSome, IfNone, IfOk, IfErr, OnOk};
+ghost use Rattle.std.specs.Prelude.{◌≡◌, ◌<◌, ◌≤◌, ◌^◌, ◌++◌, length, List, reverse, All, map, IfSome, IfNone, IfOk, IfErr, OnOk};
 ghost use Rattle.std.specs.Option.{option_map, option_to_list};
 ghost use Rattle.std.specs.Str.{IsUtf8};
 ghost use Rattle.si_token.specs.inner.Reading.{word_at};
@@ -11,17 +11,22 @@ ghost use Rattle.si_semantics.specs.Layout as lines;
 ghost use Rattle.si_semantics.specs.Tokens as tokens;
 ghost use Rattle.si_token.specs.Views.{kind_of, sort_of, token_of, place_of};
 ghost use Rattle.si_token.specs.inner.Laying.{begins, before_word, Stands};
-ghost use Rattle.si_token.specs.Faults.{IsBadText};
+ghost use Rattle.si_token.specs.inner.Kept.{IsWhole};
+ghost use Rattle.si_token.specs.Rows.{plain};
+ghost use Rattle.si_token.specs.inner.Places.{IsWithin};
+ghost use Rattle.si_token.specs.Faults.{IsBadText, IsTooLong};
 ghost use Rattle.si_token.specs.Spans.{IsSliceOf, IsOnLine, LieBetween, EndsIn};
 ghost use Rattle.si_token.specs.declared.token.TokenKind.TheVariants.{End};
 
 use crate::keywords::keyword;
 use crate::layout::{
-    Place, close_deeper, dedents, innermost, laid, line_start, missing_newline, token_at,
+    Place, close_deeper, dedents, innermost, laid, line_start, missing_newline, put_empty, token_at,
 };
+use crate::row::TokenRow;
 use crate::symbols::symbol;
 use crate::token::{Token, TokenKind};
 use crate::words::{Sort, begins_bytes, is_allowed, longest_word};
+use si_plain::limits::MAX_TEXT_BYTES;
 use si_plain::line_ends;
 use std::alloc::{AllocError, AllocFailed, Global};
 
@@ -30,6 +35,8 @@ use std::alloc::{AllocError, AllocFailed, Global};
 pub enum TokenFault {
     /// The lexical rules allow no tokens. The first line that breaks them is counted from 1 and is for people.
     BadText(usize),
+    /// The text is longer than 1,048,576 bytes.
+    TooLong,
     /// Memory was refused.
     NoMemory,
 }
@@ -109,8 +116,11 @@ fn cut<'a>(rest: &'a str) -> Option<(Sort, &'a str, &'a str)>
 }
 
 // Puts the token after the others, where there is one.
-fn keep<'a>(all: &mut Vec<Token<'a>>, made: Option<Token<'a>>) -> Result<(), AllocError>
-    ensures { OnOk result (all.new.items ≡ all.old.items ++ option_to_list made.entry) }
+fn keep<'a>(all: &mut TokenRow<'a>, made: Option<Token<'a>>) -> Result<(), AllocError>
+    requires slice { IfSome made (IsSliceOf all.old.source) }
+    requires whole { IfSome made (λ t. IsWhole all.old.source t.span) }
+    ensures source { all.new.source ≡ all.old.source }
+    ensures items { OnOk result (all.new.items ≡ all.old.items ++ option_to_list (option_map plain made.entry)) }
 {
     if let Some(token) = made {
         all.push(token)?;
@@ -120,20 +130,23 @@ fn keep<'a>(all: &mut Vec<Token<'a>>, made: Option<Token<'a>>) -> Result<(), All
 
 // Puts what stands before a line's first token after the other tokens: an INDENT, or DEDENTs.
 fn begin_line<'a>(
-    all: &mut Vec<Token<'a>>,
+    all: &mut TokenRow<'a>,
     columns: &mut Vec<usize>,
     place: Place,
 ) -> Result<(), TokenFault>
-    requires { place.at < 2 ^ 63 }
+    requires room { place.at < 2 ^ 31 }
+    requires within { IsWithin place }
+    ensures source { all.new.source ≡ all.old.source }
     ensures begun { OnOk result (Stands place.at place.line (begins (place_of place) (reverse columns.old.items)) (reverse columns.new.items) all.old.items all.new.items) }
     ensures refused { IfErr result (λ fault. IsBadText fault → begins (place_of place) (reverse columns.old.items) ≡ None) }
+    ensures short { IfErr result (λ fault. IsTooLong fault → ⊥) }
 {
     if place.has_tab {
         return Err(TokenFault::BadText(place.line));
     }
     if place.column > innermost(columns) {
         columns.push(place.column)?;
-        all.push(token_at(place, TokenKind::Indent, ""))?;
+        put_empty(all, place, TokenKind::Indent)?;
         return Ok(());
     }
     let closed = close_deeper(columns, place.column);
@@ -146,14 +159,17 @@ fn begin_line<'a>(
 
 // Puts what stands before a word after the other tokens, where the word is a line's first token.
 fn before_word<'a>(
-    all: &mut Vec<Token<'a>>,
+    all: &mut TokenRow<'a>,
     columns: &mut Vec<usize>,
     place: Place,
     kind: Option<TokenKind>,
 ) -> Result<(), TokenFault>
-    requires { place.at < 2 ^ 63 }
+    requires room { place.at < 2 ^ 31 }
+    requires within { IsWithin place }
+    ensures source { all.new.source ≡ all.old.source }
     ensures begun { OnOk result (Stands place.at place.line (before_word (place_of place) (reverse columns.old.items) (option_map kind_of kind)) (reverse columns.new.items) all.old.items all.new.items) }
     ensures refused { IfErr result (λ fault. IsBadText fault → before_word (place_of place) (reverse columns.old.items) (option_map kind_of kind) ≡ None) }
+    ensures short { IfErr result (λ fault. IsTooLong fault → ⊥) }
 {
     if kind.is_none() || place.begun {
         return Ok(());
@@ -166,8 +182,9 @@ fn before_word<'a>(
 /// `BadText` where the lexical rules allow none: a NUL, a byte that begins no word, a number or literal that is none, an
 /// escape that stands for no character, a tab before the first token of a line, a line that closes a block and stands at
 /// the column of none that stays open.
+/// `TooLong` where the text has more than 1,048,576 bytes (this project's own limit), whatever they are.
 /// `NoMemory` only where memory was refused.
-pub fn tokens(alloc: Global, text: &str) -> Result<Vec<Token<'_>>, TokenFault>
+pub fn tokens(alloc: Global, text: &str) -> Result<TokenRow<'_>, TokenFault>
     // What is answered is the one list that the rules allow.
     ensures tokens { IfOk result (λ all. HasTokens (map token_of all.items) text.now) }
     ensures only { IfOk result (λ all. (ts : List tokens.Token) → HasTokens ts text.now → ts ≡ map token_of all.items) }
@@ -180,10 +197,17 @@ pub fn tokens(alloc: Global, text: &str) -> Result<Vec<Token<'_>>, TokenFault>
     // Each begins in the line that its span says, counted over the whole source.
     ensures lines { IfOk result (λ all. All (IsOnLine text.now) all.items) }
 
+    // A text is called too long just where it is.
+    ensures short { IfOk result (λ _. length text.now ≤ 1048576) }
+    ensures long { IfErr result (λ fault. IsTooLong fault → 1048576 < length text.now) }
+
     // A text is refused only where the rules allow no tokens.
     ensures refused { IfErr result (λ fault. IsBadText fault → (ts : List tokens.Token) → HasTokens ts text.now → ⊥) }
 {
-    let mut all = Vec::new(alloc);
+    if text.len() > MAX_TEXT_BYTES {
+        return Err(TokenFault::TooLong);
+    }
+    let mut all = TokenRow::new(alloc, text);
     let mut columns = Vec::new(alloc);
     let mut place = line_start(0, 1);
     let mut rest = text;

@@ -110,17 +110,46 @@ pub enum TokenKind {
 
 /// Where a token stands: from the byte `start` up to the byte `end` of the source. The line in which it begins is
 /// counted from 1, by the line ends before it: LF, CR, and CR LF as one, those in literals and in brackets among them.
+/// Each fits into 32 bits, since the source is no longer than a script may be.
 #[derive(Clone, Copy, Debug, PartialEq, Eq)]
 pub struct Span {
-    pub start: usize,
-    pub end: usize,
-    pub line: usize,
+    pub start: u32,
+    pub end: u32,
+    pub line: u32,
 }
 
 /// A token. Its text is the part of the source that it is.
 #[derive(Clone, Copy, Debug)]
 pub struct Token<'a> {
-    pub kind: TokenKind,
     pub text: &'a str,
     pub span: Span,
+    pub kind: TokenKind,
 }
+
+impl Token<'_> {
+    ghost use Rattle.std.specs.Prelude.{◌≡◌};
+
+    /// The first byte of the source that is its own.
+    pub fn start(&self) -> usize
+        ensures { result ≡ self.now.span.start }
+    {
+        self.span.start as usize
+    }
+
+    /// The byte of the source after its last one.
+    pub fn end(&self) -> usize
+        ensures { result ≡ self.now.span.end }
+    {
+        self.span.end as usize
+    }
+
+    /// The line in which it begins, counted from 1.
+    pub fn line(&self) -> usize
+        ensures { result ≡ self.now.span.line }
+    {
+        self.span.line as usize
+    }
+}
+
+// There is one for each word of a script, and so they are small.
+const _: () = prove!(size_of::<Token>() <= 32);

@@ -60,12 +60,12 @@ decreases-handler::bare l = 9 * l.parts + 4
 
 abbrev pub invariant-block::elifs-loop-turn : goal.invariant-block::elifs-loop-turn
 invariant-block::elifs-loop-turn l =
-    many_by (elif_by (block_at l.parts)) no_elif (length l.tokens - l._turn) (map branch_of l.elifs.items) (from l.tokens l.at) ≡ elifs_by (block_at l.parts) (from l.tokens l.start)
+    many_by (elif_by (block_at l.parts)) no_elif (length l.tokens.items - l._turn) (map branch_of l.elifs.items) (from l.tokens l.at) ≡ elifs_by (block_at l.parts) (from l.tokens l.start)
 
 abbrev pub invariant-handler::catches-loop-turn : goal.invariant-handler::catches-loop-turn
 invariant-handler::catches-loop-turn l =
-    many_by (catch_by (block_at l.parts)) no_catch (length l.tokens - l._turn) (map clause_of l.clauses.items) (from l.tokens l.at) ≡ catches_by (block_at l.parts) (from l.tokens l.start)
+    many_by (catch_by (block_at l.parts)) no_catch (length l.tokens.items - l._turn) (map clause_of l.clauses.items) (from l.tokens l.at) ≡ catches_by (block_at l.parts) (from l.tokens l.start)
 
 abbrev pub invariant-block::indented-loop-turn : goal.invariant-block::indented-loop-turn
 invariant-block::indented-loop-turn l =
-    many_by (block_at l.parts) is_dedent (length l.tokens - l._turn) (map stmt_of l.body.items) (from l.tokens l.at) ≡ many_by (block_at l.parts) is_dedent (length (from l.tokens l.start)) [] (from l.tokens l.start)
+    many_by (block_at l.parts) is_dedent (length l.tokens.items - l._turn) (map stmt_of l.body.items) (from l.tokens l.at) ≡ many_by (block_at l.parts) is_dedent (length (from l.tokens l.start)) [] (from l.tokens l.start)

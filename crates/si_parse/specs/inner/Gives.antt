@@ -2,7 +2,7 @@
 use Rattle.std.specs.Prelude.{◌≡◌, ℕ, List, Option, Some, None, Result, Ok, Err, map, drop, string_bytes}
 use Rattle.si_semantics.specs.Grammar.{Terminal, terminal_of}
 use Rattle.si_semantics.specs.Grammar as grammar
-use Rattle.si_token.specs.declared.token.Token.{Token}
+use Rattle.si_token.specs.Rows.{Row}
 use Rattle.si_token.specs.declared.scan.TokenFault.{TokenFault}
 use Rattle.si_token.specs.declared.scan.TokenFault.TheVariants as tokens
 use Rattle.si_parse.specs.declared.fault.ParseFault.{ParseFault}
@@ -18,8 +18,8 @@ use Rattle.si_parse.specs.declared.argument.Argument.TheVariants as passed
 use Rattle.si_parse.specs.inner.Lookahead.{Continuation, operator, attribute, arguments, index, comparison, boolean, condition, nothing, Header, if_header, while_header, for_header, try_header, def_header}
 
 -- the terminals of tokens, from a place on
-abbrev pub from : List Token → ℕ → List Terminal
-from tokens at = drop at (map (λ t. terminal_of (token_of t)) tokens)
+abbrev pub from : Row → ℕ → List Terminal
+from tokens at = drop at (map (λ t. terminal_of (token_of t)) tokens.items)
 
 -- a syntax fault only where reading gives nothing
 abbrev pub Fails : {Y : Type 0} → ParseFault → Option Y → Type 0
@@ -61,4 +61,5 @@ IsSyntax (Syntax line) = Unit {0}
 -- the fault of a text, by that of its tokens
 abbrev pub fault_of : TokenFault → ParseFault
 fault_of (tokens.BadText line) = Syntax line
+fault_of tokens.TooLong = Syntax 1
 fault_of tokens.NoMemory = NoMemory

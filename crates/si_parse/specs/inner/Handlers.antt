@@ -1,5 +1,5 @@
 -- `try` statements: their except clauses, and the suites of `else` and `finally`.
-use Rattle.std.specs.Prelude.{◌+◌, List, [], ◌∷◌, ◌++◌, length, Option, Some, None, Bool, if◌then◌else◌}
+use Rattle.std.specs.Prelude.{List, [], ◌∷◌, ◌++◌, length, Option, Some, None, Bool, if◌then◌else◌}
 use Rattle.si_semantics.specs.Value.{Text}
 use Rattle.si_semantics.specs.Tree.{Expr, Stmt, Stmts}
 use Rattle.si_semantics.specs.Tree as tree

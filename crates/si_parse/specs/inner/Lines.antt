@@ -1,5 +1,5 @@
 -- Lines, and all lines of a text.
-use Rattle.std.specs.Prelude.{ℕ, zero, suc, ◌+◌, List, [], ◌∷◌, ◌++◌, length, Option, Some, None, Bool, true, false}
+use Rattle.std.specs.Prelude.{ℕ, zero, suc, List, [], ◌∷◌, ◌++◌, length, Option, Some, None, Bool, true, false}
 use Rattle.si_semantics.specs.Tree.{Stmt}
 use Rattle.si_semantics.specs.Grammar.{Terminal, ENDMARKER, max_nesting}
 use Rattle.si_parse.specs.inner.Lookahead.{Header, if_header, while_header, for_header, try_header, def_header, header_at}

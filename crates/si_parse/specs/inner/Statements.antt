@@ -1,5 +1,5 @@
 -- Small statements and lines, as the parser reads them.
-use Rattle.std.specs.Prelude.{codes, ◌+◌, List, [], ◌∷◌, ◌++◌, length, Option, Some, None, option_map, Bool, true, false, if◌then◌else◌}
+use Rattle.std.specs.Prelude.{codes, List, [], ◌∷◌, ◌++◌, length, Option, Some, None, option_map, Bool, true, false, if◌then◌else◌}
 use Rattle.si_plain.specs.declared.modules.ModuleName.{ModuleName}
 use Rattle.si_plain.specs.declared.modules.ModuleName.TheVariants.{Threading, Interpreters}
 use Rattle.si_semantics.specs.Value.{Text}

@@ -4,7 +4,7 @@ use Rattle.std.proofs.lemmas.Result.{on_ok_weaker}
 use Rattle.si_syntax.specs.declared.stmt.If.{out-If}
 use Rattle.si_syntax.specs.declared.stmt.Stmt.{size-Stmt}
 use Rattle.si_syntax.specs.declared.stmt.Stmt.TheViews as views
-use Rattle.si_syntax.specs.Trees.{body_of, branch_of, others_of, stmt_of}
+use Rattle.si_syntax.specs.Trees.{body_of, branch_of, finally_of, if_of, others_of, stmt_of}
 use Rattle.si_syntax.proofs.Forms.{if_is, try_is, finally_is}
 use Rattle.si_semantics.specs.Grammar.{elifs_of}
 use Rattle.si_semantics.specs.Tree.{functions_in, functions_of}
@@ -46,7 +46,9 @@ pub emit_functions_of-emit_functions_of_if-requires : goal.emit_functions_of-emi
 emit_functions_of-emit_functions_of_if-requires t c =
     let size = views.sized-If c.in-If.statement in
     let same = ap size-Stmt c.in-If.is in
-    (omega (arith, c.decreases, size, same), all_stand _ _ _ _ (ap (λ s. functions_of (stmt_of s)) c.in-If.is ∙ ap functions_of (if_is c.in-If.statement)) c.requires)
+    let inner = ap views.size-If c.deref.ensures in
+    let seen = ap (λ s. functions_of (stmt_of s)) c.in-If.is ∙ ap functions_of (if_is c.in-If.statement) ∙ ap (λ x. functions_of (if_of x)) (sym c.deref.ensures) in
+    (omega (arith, c.decreases, size, same, inner), all_stand _ _ _ _ seen c.requires)
 
 pub emit_functions_of-emit_functions_of_try-requires : goal.emit_functions_of-emit_functions_of_try-requires
 emit_functions_of-emit_functions_of_try-requires t c =
@@ -58,7 +60,9 @@ pub emit_functions_of-emit_functions_of_finally-requires : goal.emit_functions_o
 emit_functions_of-emit_functions_of_finally-requires t c =
     let size = views.sized-Finally c.in-Finally.statement in
     let same = ap size-Stmt c.in-Finally.is in
-    (omega (arith, c.decreases, size, same), all_stand _ _ _ _ (ap (λ s. functions_of (stmt_of s)) c.in-Finally.is ∙ ap functions_of (finally_is c.in-Finally.statement)) c.requires)
+    let inner = ap views.size-Finally c.deref-in-Finally.ensures in
+    let seen = ap (λ s. functions_of (stmt_of s)) c.in-Finally.is ∙ ap functions_of (finally_is c.in-Finally.statement) ∙ ap (λ x. functions_of (finally_of x)) (sym c.deref-in-Finally.ensures) in
+    (omega (arith, c.decreases, size, same, inner), all_stand _ _ _ _ seen c.requires)
 
 pub emit_functions_of_if-emit_functions-requires : goal.emit_functions_of_if-emit_functions-requires
 emit_functions_of_if-emit_functions-requires t c =

@@ -1,4 +1,4 @@
-use Rattle.std.proofs.Common.{◌≡◌, ◌<◌, [], ◌∷◌, ◌++◌, false, true, sym, ap, ◌∙◌, map, length, string_bytes, arith}
+use Rattle.std.proofs.Common.{◌≡◌, ◌<◌, Some, [], ◌∷◌, ◌++◌, false, true, sym, ap, ◌∙◌, map, length, string_bytes, arith}
 use Rattle.std.specs.Option.{is_some}
 use Rattle.std.proofs.lemmas.List.{map-append, length-map, nil_from_length}
 use Rattle.si_plain.specs.Names.{place_in, with_name}
@@ -12,7 +12,7 @@ use Rattle.si_parse.proofs.argument.passed.Goals as goal
 
 pub loop-argument-init : goal.loop-argument-init
 loop-argument-init c = record {
-  passed = ap (λ l. passed_from (map expr_of l, map string_bytes c.new-names.result.items) (map argument_of c.into_iter-argument-iterator.result.rest.items)) c.new-values.ensures.items
+  passed = ap (λ l. passed_from (map expr_of l, map string_bytes c.new-names.result.items) (map argument_of c.into_iter-argument-iterator.result.rest.items)) c.in_ok-values.ensures.items
       ∙ ap (λ l. passed_from ([], map string_bytes l) (map argument_of c.into_iter-argument-iterator.result.rest.items)) c.new-names.ensures.items
       ∙ ap (λ l. passed_from ([], []) (map argument_of l)) c.into_iter-argument-iterator.ensures.into_iter_gives.0;
   kept = c.new-seen.ensures ∙ sym (ap (map string_bytes) c.new-names.ensures.items);
@@ -27,8 +27,8 @@ returns-then-not-is_empty c =
     ∙ stuck (values, names) c.loop-argument.argument-iterator.rest.items c.next.new.self.rest.items c.in-Some.argument _ c.in-Some.ensures.steps.0 (ap argument_of c.in-Positional.is)
     (positional_stuck values names (expr_of c.in-Positional.value) some)
 
-pub loop-argument-preserved-in-Continue-1 : goal.loop-argument-preserved-in-Continue-1
-loop-argument-preserved-in-Continue-1 c =
+pub loop-argument-preserved-in-Continue-branch-2 : goal.loop-argument-preserved-in-Continue-branch-2
+loop-argument-preserved-in-Continue-branch-2 c =
     let values = map expr_of c.loop-argument.values.items in
     let names = map string_bytes c.loop-argument.names.items in
     let none : length names ≡ 0 = omega (arith, length-map c.loop-argument.names.items string_bytes, c.loop-argument.names.ok.0, empty c.loop-argument.names.len _ c.is_empty.ensures c.if-not-is_empty.false) in
@@ -88,3 +88,4 @@ pub returns : goal.returns
 returns c =
     let over = nil_from_length c.loop-argument.argument-iterator.rest.items (omega (arith, c.in-None.ensures.steps.0, c.loop-argument.argument-iterator.rest.ok.0)) in
     sym c.loop-argument.invariant.passed ∙ ap (λ l. passed_from (map expr_of c.loop-argument.values.items, map string_bytes c.loop-argument.names.items) (map argument_of l)) over
+    ∙ ap (λ l. Some (map expr_of c.loop-argument.values.items, map string_bytes l)) (sym c.fitted.ensures)

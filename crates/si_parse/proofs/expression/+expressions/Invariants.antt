@@ -88,34 +88,34 @@ invariant-continued-loop-turn l = record {
 abbrev pub invariant-arguments-loop-turn : goal.invariant-arguments-loop-turn
 invariant-arguments-loop-turn l = record {
   shallow : l.depth ≤ l.parts;
-  reads : enclosed_by alone (argument_by (expression_at l.parts)) token.RightParenthesis (length l.tokens - l._turn) (map argument_of l.arguments.items, l.depth) (from l.tokens l.at)
+  reads : enclosed_by alone (argument_by (expression_at l.parts)) token.RightParenthesis (length l.tokens.items - l._turn) (map argument_of l.arguments.items, l.depth) (from l.tokens l.at)
       ≡ arguments_by (expression_at l.parts) (from l.tokens l.start);
 }
 
 abbrev pub invariant-items-loop-turn : goal.invariant-items-loop-turn
 invariant-items-loop-turn l = record {
   shallow : l.depth ≤ l.parts;
-  reads : enclosed_by alone (expression_at l.parts 1) (symbol_of l.bracket) (length l.tokens - l._turn) (map expr_of l.values.items, l.depth) (from l.tokens l.at)
+  reads : enclosed_by alone (expression_at l.parts 1) (symbol_of l.bracket) (length l.tokens.items - l._turn) (map expr_of l.values.items, l.depth) (from l.tokens l.at)
       ≡ items_by (expression_at l.parts) (symbol_of l.bracket) (map expr_of l.fn.before.items, l.before_depth) (from l.tokens l.start);
 }
 
 abbrev pub invariant-pairs-loop-turn : goal.invariant-pairs-loop-turn
 invariant-pairs-loop-turn l = record {
   shallow : l.depth ≤ l.parts;
-  reads : enclosed_by both (pair_by (expression_at l.parts)) token.RightBrace (length l.tokens - l._turn) (map expr_of l.values.items, l.depth) (from l.tokens l.at)
+  reads : enclosed_by both (pair_by (expression_at l.parts)) token.RightBrace (length l.tokens.items - l._turn) (map expr_of l.values.items, l.depth) (from l.tokens l.at)
       ≡ pairs_by (expression_at l.parts) (from l.tokens l.start);
 }
 
 abbrev pub invariant-operands-loop-turn : goal.invariant-operands-loop-turn
 invariant-operands-loop-turn l = record {
   shallow : l.depth ≤ l.parts;
-  reads : chain_by (λ o e. e) (λ ts. with_word l.operator (after_boolean l.operator ts)) (λ o. expression_at l.parts (item_level o)) (length l.tokens - l._turn) (map expr_of l.others.items, l.depth) (from l.tokens l.at)
+  reads : chain_by (λ o e. e) (λ ts. with_word l.operator (after_boolean l.operator ts)) (λ o. expression_at l.parts (item_level o)) (length l.tokens.items - l._turn) (map expr_of l.others.items, l.depth) (from l.tokens l.at)
       ≡ operands_by (expression_at l.parts) l.operator (from l.tokens l.start);
 }
 
 abbrev pub invariant-links-loop-turn : goal.invariant-links-loop-turn
 invariant-links-loop-turn l = record {
   shallow : l.depth ≤ l.parts;
-  reads : chain_by (λ o e. (o, e)) comparison_at (compared_by (expression_at l.parts)) (length l.tokens - l._turn) (map link_of l.links.items, l.depth) (from l.tokens l.at)
+  reads : chain_by (λ o e. (o, e)) comparison_at (compared_by (expression_at l.parts)) (length l.tokens.items - l._turn) (map link_of l.links.items, l.depth) (from l.tokens l.at)
       ≡ links_by (expression_at l.parts) (from l.tokens l.start);
 }

@@ -10,6 +10,6 @@ use Rattle.si_parse.proofs.expressions.further.Given as goal
 abbrev pub invariant-loop-turn : goal.invariant-loop-turn
 invariant-loop-turn l = record {
   shallow : l.depth ≤ max_depth;
-  reads : chain_by (λ o e. e) (λ ts. item_follows (after_comma ts)) (λ o. expression_at max_depth l.level) (length l.tokens - l._turn) (map expr_of l.items.items, l.depth) (from l.tokens l.at)
+  reads : chain_by (λ o e. e) (λ ts. item_follows (after_comma ts)) (λ o. expression_at max_depth l.level) (length l.tokens.items - l._turn) (map expr_of l.items.items, l.depth) (from l.tokens l.at)
       ≡ further_by (expression_at max_depth) l.level (expr_of l.fn.first ∷ [], l.first_depth) (from l.tokens l.start);
 }

@@ -9,4 +9,4 @@ use Rattle.si_parse.proofs.name.listed.Given as goal
 
 abbrev pub invariant-loop-turn : goal.invariant-loop-turn
 invariant-loop-turn l =
-    separated_by with_parameter (λ r. r.1) name_at (after (Sign token.Comma)) (after (Sign token.RightParenthesis)) (length l.tokens - l._turn) (map string_bytes l.names.items) (from l.tokens l.at) ≡ listed_by (from l.tokens l.start)
+    separated_by with_parameter (λ r. r.1) name_at (after (Sign token.Comma)) (after (Sign token.RightParenthesis)) (length l.tokens.items - l._turn) (map string_bytes l.names.items) (from l.tokens l.at) ≡ listed_by (from l.tokens l.start)

@@ -12,7 +12,7 @@ loop-turn-preserved c =
     let next = sym c.after.ensures ∙ ap (option_map (from c.args.tokens.now)) c.in-Some.is in
     let pushed = ap (map string_bytes) c.in_ok-push-2.ensures.items ∙ map-append string_bytes c.loop-turn.names.items (c.in_ok-next.next ∷ []) in
     let read = next_name_read (map string_bytes c.loop-turn.names.items) (from c.args.tokens.now c.loop-turn.at) (from c.args.tokens.now c.in-Some.more) _ _ next c.in_ok-next.ensures in
-    ap (λ l. many_by next_name_by no_comma (length c.args.tokens.now - (c.loop-turn._turn + 1)) l (from c.args.tokens.now c.in_ok-next.end)) pushed
-    ∙ sym (many_on next_name_by no_comma (length c.args.tokens.now - c.loop-turn._turn) (length c.args.tokens.now - (c.loop-turn._turn + 1)) (map string_bytes c.loop-turn.names.items) (from c.args.tokens.now c.loop-turn.at)
+    ap (λ l. many_by next_name_by no_comma (length c.args.tokens.now.items - (c.loop-turn._turn + 1)) l (from c.args.tokens.now c.in_ok-next.end)) pushed
+    ∙ sym (many_on next_name_by no_comma (length c.args.tokens.now.items - c.loop-turn._turn) (length c.args.tokens.now.items - (c.loop-turn._turn + 1)) (map string_bytes c.loop-turn.names.items) (from c.args.tokens.now c.loop-turn.at)
     (omega arith) (ap is_none next) _ _ read)
     ∙ c.loop-turn.invariant

@@ -6,4 +6,4 @@ use Rattle.si_parse.proofs.name.names.Given as goal
 
 abbrev pub invariant-loop-turn : goal.invariant-loop-turn
 invariant-loop-turn l =
-    many_by next_name_by no_comma (length l.tokens - l._turn) (map string_bytes l.names.items) (from l.tokens l.at) ≡ names_by (from l.tokens l.start)
+    many_by next_name_by no_comma (length l.tokens.items - l._turn) (map string_bytes l.names.items) (from l.tokens l.at) ≡ names_by (from l.tokens l.start)

@@ -9,5 +9,5 @@ use Rattle.si_parse.proofs.statement.assigned.Given as goal
 
 abbrev pub invariant-loop-turn : goal.invariant-loop-turn
 invariant-loop-turn l =
-    many_by (chained_by (expression_at max_depth)) no_equal (length l.tokens - l._turn) (map target_of l.targets.items, expr_of l.value) (from l.tokens l.at)
+    many_by (chained_by (expression_at max_depth)) no_equal (length l.tokens.items - l._turn) (map target_of l.targets.items, expr_of l.value) (from l.tokens l.at)
     ≡ many_by (chained_by (expression_at max_depth)) no_equal (length (from l.tokens l.start)) ([], expr_of l.fn.first) (from l.tokens l.start)

@@ -15,7 +15,7 @@ use Rattle.si_parse.proofs.statement.line.Goals as goal
 
 pub returns-in_err-next : goal.returns-in_err-next
 returns-in_err-next c =
-    let fails = separated_fails with_statement (λ r. r.1) (statement_by (expression_at max_depth)) (after (Sign token.Semicolon)) (after NEWLINE) (length c.args.tokens.now - c.loop-turn._turn) (length c.args.tokens.now - (c.loop-turn._turn + 1)) (map stmt_of c.loop-turn.body.items) (from c.args.tokens.now c.loop-turn.at)
+    let fails = separated_fails with_statement (λ r. r.1) (statement_by (expression_at max_depth)) (after (Sign token.Semicolon)) (after NEWLINE) (length c.args.tokens.now.items - c.loop-turn._turn) (length c.args.tokens.now.items - (c.loop-turn._turn + 1)) (map stmt_of c.loop-turn.body.items) (from c.args.tokens.now c.loop-turn.at)
     (omega arith) _ c.in_err-next.ensures in
     let p = err_from_is_err_and c.from_residual.result c.from_residual.ensures.1 in
     rw (p.1, p.2) (subst (Fails _) c.loop-turn.invariant fails)
@@ -25,7 +25,7 @@ returns-in-Some c =
     let rest = sym c.after_line.ensures ∙ ap (option_map (from c.args.tokens.now)) c.in-Some.is in
     let pushed = ap (map stmt_of) c.in_ok-push.ensures.items ∙ map-append stmt_of c.loop-turn.body.items (c.in_ok-next.next ∷ []) in
     sym c.loop-turn.invariant
-    ∙ separated_last with_statement (λ r. r.1) (statement_by (expression_at max_depth)) (after (Sign token.Semicolon)) (after NEWLINE) (length c.args.tokens.now - c.loop-turn._turn) (length c.args.tokens.now - (c.loop-turn._turn + 1)) (map stmt_of c.loop-turn.body.items) (from c.args.tokens.now c.loop-turn.at)
+    ∙ separated_last with_statement (λ r. r.1) (statement_by (expression_at max_depth)) (after (Sign token.Semicolon)) (after NEWLINE) (length c.args.tokens.now.items - c.loop-turn._turn) (length c.args.tokens.now.items - (c.loop-turn._turn + 1)) (map stmt_of c.loop-turn.body.items) (from c.args.tokens.now c.loop-turn.at)
     (omega arith) _ c.in_ok-next.ensures _ rest
     ∙ ap (λ items. Some (items, from c.args.tokens.now c.in-Some.end)) (sym pushed)
 
@@ -34,7 +34,7 @@ returns-in_default-after c =
     let rest = sym c.after_line.ensures ∙ ap (option_map (from c.args.tokens.now)) c.in_default.is in
     let next = sym c.after.ensures ∙ ap (option_map (from c.args.tokens.now)) c.in_default-after.is in
     sym c.loop-turn.invariant
-    ∙ separated_stuck with_statement (λ r. r.1) (statement_by (expression_at max_depth)) (after (Sign token.Semicolon)) (after NEWLINE) (length c.args.tokens.now - c.loop-turn._turn) (length c.args.tokens.now - (c.loop-turn._turn + 1)) (map stmt_of c.loop-turn.body.items) (from c.args.tokens.now c.loop-turn.at)
+    ∙ separated_stuck with_statement (λ r. r.1) (statement_by (expression_at max_depth)) (after (Sign token.Semicolon)) (after NEWLINE) (length c.args.tokens.now.items - c.loop-turn._turn) (length c.args.tokens.now.items - (c.loop-turn._turn + 1)) (map stmt_of c.loop-turn.body.items) (from c.args.tokens.now c.loop-turn.at)
     (omega arith) _ c.in_ok-next.ensures rest next
 
 pub loop-turn-preserved : goal.loop-turn-preserved
@@ -42,7 +42,7 @@ loop-turn-preserved c =
     let rest = sym c.after_line.ensures ∙ ap (option_map (from c.args.tokens.now)) c.in_default.is in
     let next = sym c.after.ensures ∙ ap (option_map (from c.args.tokens.now)) c.in-Some-after.is in
     let pushed = ap (map stmt_of) c.in_ok-push.ensures.items ∙ map-append stmt_of c.loop-turn.body.items (c.in_ok-next.next ∷ []) in
-    ap (λ items. separated_by with_statement (λ r. r.1) (statement_by (expression_at max_depth)) (after (Sign token.Semicolon)) (after NEWLINE) (length c.args.tokens.now - (c.loop-turn._turn + 1)) items (from c.args.tokens.now c.in-Some-after.more)) pushed
-    ∙ sym (separated_on with_statement (λ r. r.1) (statement_by (expression_at max_depth)) (after (Sign token.Semicolon)) (after NEWLINE) (length c.args.tokens.now - c.loop-turn._turn) (length c.args.tokens.now - (c.loop-turn._turn + 1)) (map stmt_of c.loop-turn.body.items) (from c.args.tokens.now c.loop-turn.at)
+    ap (λ items. separated_by with_statement (λ r. r.1) (statement_by (expression_at max_depth)) (after (Sign token.Semicolon)) (after NEWLINE) (length c.args.tokens.now.items - (c.loop-turn._turn + 1)) items (from c.args.tokens.now c.in-Some-after.more)) pushed
+    ∙ sym (separated_on with_statement (λ r. r.1) (statement_by (expression_at max_depth)) (after (Sign token.Semicolon)) (after NEWLINE) (length c.args.tokens.now.items - c.loop-turn._turn) (length c.args.tokens.now.items - (c.loop-turn._turn + 1)) (map stmt_of c.loop-turn.body.items) (from c.args.tokens.now c.loop-turn.at)
     (omega arith) _ c.in_ok-next.ensures _ rest next)
     ∙ c.loop-turn.invariant

@@ -11,5 +11,5 @@ use Rattle.si_parse.proofs.statement.line.Given as goal
 
 abbrev pub invariant-loop-turn : goal.invariant-loop-turn
 invariant-loop-turn l =
-    separated_by with_statement (λ r. r.1) (statement_by (expression_at max_depth)) (after (Sign token.Semicolon)) (after NEWLINE) (length l.tokens - l._turn) (map stmt_of l.body.items) (from l.tokens l.at)
+    separated_by with_statement (λ r. r.1) (statement_by (expression_at max_depth)) (after (Sign token.Semicolon)) (after NEWLINE) (length l.tokens.items - l._turn) (map stmt_of l.body.items) (from l.tokens l.at)
     ≡ line_by (expression_at max_depth) (map stmt_of l.fn.before.items) (from l.tokens l.start)

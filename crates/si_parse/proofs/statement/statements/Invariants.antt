@@ -8,4 +8,4 @@ use Rattle.si_parse.proofs.statement.statements.Given as goal
 
 abbrev pub invariant-loop-turn : goal.invariant-loop-turn
 invariant-loop-turn l =
-    many_by (block_at max_nesting) is_end (length l.tokens - l._turn) (map stmt_of l.body.items) (from l.tokens l.at) ≡ module_by (from l.tokens 0)
+    many_by (block_at max_nesting) is_end (length l.tokens.items - l._turn) (map stmt_of l.body.items) (from l.tokens l.at) ≡ module_by (from l.tokens 0)

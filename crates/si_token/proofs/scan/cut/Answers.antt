@@ -1,4 +1,4 @@
-use Rattle.std.proofs.Common.{◌≡◌, length, Some, None, true, false, arith, sym, ◌∙◌, ap, Bool}
+use Rattle.std.proofs.Common.{◌≡◌, Some, None, arith, sym, ◌∙◌, ap, Bool}
 use Rattle.std.specs.Prelude.{if◌then◌else◌}
 use Rattle.si_token.proofs.Runs.{Longest, longest_found, word_by}
 use Rattle.si_token.proofs.Boundaries.{cut_at}

@@ -1,4 +1,4 @@
-use Rattle.std.proofs.Common.{length, ◌+◌, ◌≡◌, map, drop, reverse, IsUtf8}
+use Rattle.std.proofs.Common.{length, ◌≤◌, ◌+◌, ◌≡◌, map, drop, reverse, IsUtf8}
 use Rattle.si_semantics.specs.Layout.{line_at}
 use Rattle.si_token.specs.inner.Places.{IsWithin}
 use Rattle.si_token.specs.Views.{token_of, place_of}
@@ -8,7 +8,9 @@ use Rattle.si_token.proofs.scan.tokens.Given as goal
 
 abbrev pub invariant-loop-rest : goal.invariant-loop-rest
 invariant-loop-rest l = record {
+  source : l.all.source ≡ l.text;
   utf8 : IsUtf8 l.rest;
+  short : length l.text ≤ 1048576;
   at : l.place.at + length l.rest ≡ length l.text;
   within : IsWithin l.place;
   line : l.place.line ≡ line_at l.text l.place.at;
