@@ -7,7 +7,7 @@ ghost use Rattle.si_cli.specs.inner.Faults.{IsOfRepeating};
 
 use crate::fault::CliFault;
 use crate::report::{write_recorded, write_text};
-use crate::serving::{flush, read_script};
+use crate::serving::{flush, prepare_script};
 use crate::status::status_of_recording;
 use si_history::history;
 use si_notes::Notes;
@@ -71,9 +71,9 @@ fn repeated(
     ensures plan { IfErr result (IsNotRepeated limits script.now schedule.now) }
     ensures kind { IfErr result IsOfRepeating }
 {
-    let text = read_script(alloc, script)?;
+    let (text, reading) = prepare_script(alloc, script)?;
     let plan = read_schedule(alloc, schedule)?;
-    match replay(alloc, text, limits, &plan) {
+    match replay(alloc, text, Some(reading), limits, &plan) {
         Ok(recording) => Ok(recording),
         Err(ReplayFault::NoMemory) => Err(CliFault::NoMemory),
         Err(fault) => Err(CliFault::Replay(fault)),

@@ -1,9 +1,10 @@
 // Carrying out a command.
 
-ghost use Rattle.std.specs.Prelude.{◌≡◌, IfErr, IfOk, IsOkUnless, IsUtf8, OnOk};
+ghost use Rattle.std.specs.Prelude.{◌≡◌, ℕ, IfErr, IfOk, IsOkUnless, IsUtf8, OnOk};
 ghost use Rattle.std.specs.Io.KnownBytes.{Keeps};
 ghost use Rattle.si_semantics.specs.Layout.{line_at};
 ghost use Rattle.si_semantics.specs.Tree.{Stmts};
+ghost use Rattle.si_parse.specs.inner.Gives.{IsSyntax};
 ghost use Rattle.si_cli.specs.Service.{Answers, IsOfPlan, IsOfScript, IsOfThreads, HasRun, IsOfRun, IsReadable, IsRefusal, IsReported, IsScript, LeavesAlone, LeavesSaved, Reports, SavesFirst, SaysOk, without_mark};
 
 use crate::asked::Request;
@@ -15,7 +16,7 @@ use crate::status::status_of;
 use si_notes::Notes;
 use si_parse::ParseFault;
 use si_plain::{Limits, line_ends};
-use si_reading::read;
+use si_reading::{Reading, read};
 use si_world::World;
 use std::alloc::Global;
 use std::io::Write;
@@ -106,8 +107,9 @@ fn ran(alloc: Global, script: &[u8], limits: Limits) -> Result<World, CliFault>
     ensures refused { IfErr result (λ fault. IsRefusal fault → (body : Stmts) → IsScript script.now body → ⊥) }
     ensures fault { IfErr result IsOfScript }
 {
-    let text = read_script(alloc, script)?;
+    let (text, reading) = prepare_script(alloc, script)?;
     let mut world = World::new(alloc, text, limits)?;
+    world.prepare(reading);
     let _turns = world.serial(u64::MAX);
     world.facts();
     Ok(world)
@@ -130,24 +132,48 @@ fn check<W: Write>(alloc: Global, script: &[u8], out: &mut W) -> Result<u8, CliF
     ensures kind { IfErr result IsOfRun }
     ensures alone { IfErr result (LeavesAlone (W.contents out.old) (W.contents out.new)) }
 {
-    let _text = read_script(alloc, script)?;
+    read_script(alloc, script)?;
     write_text(out, "ok\n")?;
     flush(out)?;
     Ok(0)
 }
 
-/// The text of a script that is read.
-pub(crate) fn read_script(alloc: Global, script: &[u8]) -> Result<&str, CliFault>
-    ensures text { IfOk result (λ text. text.now ≡ without_mark script.now) }
+/// Reads a script, of which nothing is kept.
+fn read_script(alloc: Global, script: &[u8]) -> Result<(), CliFault>
     ensures read { OnOk result (IsReadable script.now) }
     ensures refused { IfErr result (λ fault. IsRefusal fault → (body : Stmts) → IsScript script.now body → ⊥) }
     ensures fault { IfErr result IsOfScript }
 {
     let text = decode(script)?;
     match read(alloc, text) {
-        Ok(_) => Ok(text),
-        Err(ParseFault::Syntax(line)) => Err(CliFault::Script(line)),
-        Err(ParseFault::NoMemory) => Err(CliFault::NoMemory),
+        Ok(_) => Ok(()),
+        Err(fault) => Err(refusal(fault)),
+    }
+}
+
+/// The text of a script that is read, and what it is read as.
+pub(crate) fn prepare_script(alloc: Global, script: &[u8]) -> Result<(&str, Reading), CliFault>
+    ensures text { IfOk result (λ both. both.0.now ≡ without_mark script.now) }
+    ensures read { OnOk result (IsReadable script.now) }
+    ensures refused { IfErr result (λ fault. IsRefusal fault → (body : Stmts) → IsScript script.now body → ⊥) }
+    ensures fault { IfErr result IsOfScript }
+{
+    let text = decode(script)?;
+    match Reading::new(alloc, text) {
+        Ok(reading) => Ok((text, reading)),
+        Err(fault) => Err(refusal(fault)),
+    }
+}
+
+/// Why the program ends where a script could not be read.
+fn refusal(fault: ParseFault) -> CliFault
+    ensures line { (line : ℕ) → fault ≡ ParseFault.Syntax line → result ≡ CliFault.Script line }
+    ensures syntax { IsRefusal result → IsSyntax fault }
+    ensures kind { IsOfScript result }
+{
+    match fault {
+        ParseFault::Syntax(line) => CliFault::Script(line),
+        ParseFault::NoMemory => CliFault::NoMemory,
     }
 }
 

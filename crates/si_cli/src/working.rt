@@ -9,7 +9,7 @@ use crate::asked::Request;
 use crate::fault::CliFault;
 use crate::report::write_recorded;
 use crate::saving::save_schedule_of;
-use crate::serving::{flush, read_script};
+use crate::serving::{flush, prepare_script};
 use crate::status::status_of_recording;
 use si_notes::Notes;
 use si_plain::Limits;
@@ -117,8 +117,8 @@ fn worked<G: Gate + Sync, R: Threads + Wait + Sync>(
     ensures refused { IfErr result (λ fault. IsRefusal fault → (body : Stmts) → IsScript script.now body → ⊥) }
     ensures fault { IfErr result IsOfWorking }
 {
-    let text = read_script(alloc, script)?;
-    match si_workers::run(rt, alloc, text, limits, gate) {
+    let (text, reading) = prepare_script(alloc, script)?;
+    match si_workers::run(rt, alloc, text, Some(reading), limits, gate) {
         Ok(recording) => Ok(recording),
         Err(RunFault::NoMemory) => Err(CliFault::NoMemory),
         Err(fault) => Err(CliFault::Run(fault)),

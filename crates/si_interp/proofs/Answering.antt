@@ -13,7 +13,6 @@ use Rattle.si_semantics.specs.World as world
 use Rattle.si_semantics.specs.World.{World, Globals}
 use Rattle.si_semantics.specs.Life as language
 use Rattle.si_semantics.specs.Life.{not_read}
-use Rattle.si_semantics.specs.Actions as shared
 use Rattle.si_semantics.specs.Actions.{Action, Take, End, fits}
 use Rattle.si_semantics.specs.Replies.{reply}
 use Rattle.si_methods.specs.Given as given

@@ -12,7 +12,7 @@ use Rattle.si_interp.specs.declared.interp.State.{State}
 use Rattle.si_interp.specs.declared.interp.State.TheVariants as states
 use Rattle.si_interp.specs.declared.interp.Step.{Step}
 use Rattle.si_interp.specs.declared.interp.Step.TheVariants as steps
-use Rattle.si_interp.specs.Meaning.{Logged, Ready, At, Gone, Starved, InterpView}
+use Rattle.si_interp.specs.Meaning.{Logged, Ready, At, Starved, InterpView}
 use Rattle.si_interp.specs.View.{view_of, step_at, starved_view, Counts, Stepped, HasRun, SteppedOn}
 use Rattle.si_interp.specs.inner.Keeps.{moment_of, IsGoing, ComesSo, Keeps, stand_in, taken_in}
 use Rattle.si_interp.specs.inner.Lines.{ready_view, GoneOn, LastLine, LinesLed}

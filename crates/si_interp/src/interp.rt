@@ -19,6 +19,7 @@ use crate::origins::{Origins, RunOrigin};
 use crate::taking::answered;
 use si_parcel::{Action, Answer};
 use si_plain::{NoMemory, Text};
+use si_reading::Reading;
 use si_steps::{Machine, NotShown, Step as Line};
 use std::alloc::Global;
 use std::marker::Model;
@@ -79,6 +80,8 @@ pub struct Interp {
     state: State,
     kept: Option<Action>,
     offered: Option<Action>,
+    /// A text that may be the first that it is given to run, with the script as which it is read.
+    prepared: Option<Reading>,
     origins: Origins,
     alloc: Global,
 }
@@ -157,9 +160,18 @@ impl Interp {
             state: State::AtAction,
             kept: Some(Action::Take),
             offered: Some(Action::Take),
+            prepared: None,
             origins: Origins::none(alloc),
             alloc,
         })
+    }
+
+    /// Has a text at hand with the script as which it is read: where it is the next text that it is given to run, it is not read
+    /// once more. Nothing else comes of it.
+    pub fn prepare(&mut self, reading: Reading)
+        ensures { self.new ≡ self.old }
+    {
+        self.prepared = Some(reading);
     }
 
     /// It shows its meaning. Costs nothing.
@@ -362,6 +374,7 @@ impl Interp {
             at,
             &action,
             &answer,
+            &mut self.prepared,
             &mut self.origins,
         ) {
             Err(_) => {

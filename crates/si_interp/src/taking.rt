@@ -1,6 +1,6 @@
 // What an answer makes of an interpreter.
 
-ghost use Rattle.std.specs.Prelude.{◌≡◌, ◌∷◌, [], true, IfOk, OnOk};
+ghost use Rattle.std.specs.Prelude.{◌≡◌, ◌∷◌, [], true, None, Some, IfErr, IfOk, OnOk};
 ghost use Rattle.si_methods.specs.Given as requests;
 ghost use Rattle.si_plain.specs.declared.kind.Kind.TheVariants.{SyntaxError};
 ghost use Rattle.si_semantics.specs.World as language;
@@ -14,7 +14,9 @@ ghost use Rattle.si_slots.specs.Machine.{Course, next};
 ghost use Rattle.si_slots.specs.Views.{table_of};
 ghost use Rattle.si_steps.specs.Machines.{Waits, printed_of};
 ghost use Rattle.si_parcel.specs.Shared.{action_of, answer_of, job_of, outcome_of};
+ghost use Rattle.si_parse.specs.inner.Gives.{IsSyntax};
 ghost use Rattle.si_reading.specs.Texts.{tree_of_text};
+ghost use Rattle.si_reading.specs.inner.Trees.{tree_in};
 ghost use Rattle.si_interp.specs.Life.{answer_in, job_in, values_of, is_ascii};
 ghost use Rattle.si_interp.specs.inner.Keeps.{IsUnderWay, IsWaiting, IsAwaiting, StandsBy, KnowsSome, Leads, Led, with_values};
 
@@ -25,13 +27,13 @@ use si_emit::compile;
 use si_parcel::{Action, Answer, BoxedText, Job, Outcome, Parcel};
 use si_parse::ParseFault;
 use si_plain::{Kind, NoMemory, Text};
-use si_reading::read;
+use si_reading::{Reading, read};
 use si_scope::Scoped;
 use si_steps::{Machine, Step as Line};
 use std::alloc::{AllocError, Global};
 
 /// Where the answer to an action leads, at which a machine stands that is at the moment of this number, log and lines; of these
-/// the contract speaks alone.
+/// the contract speaks alone. A text that was read before is in `prepared`, and is not read once more.
 ///
 /// # Errors
 ///
@@ -44,6 +46,7 @@ pub fn answered(
     locals: u64,
     action: &Action,
     answer: &Answer,
+    prepared: &mut Option<Reading>,
     origins: &mut Origins,
 ) -> Result<Next, NoMemory>
     ghost c: { Course }
@@ -58,7 +61,7 @@ pub fn answered(
     let _ = locals;
     match action {
         Action::Take => match answer {
-            Answer::Given(job) => take(alloc, machine, job, origins),
+            Answer::Given(job) => take(alloc, machine, job, prepared, origins),
             _ => unreachable!(),
         },
         Action::End(_) => Ok(Next::Takes),
@@ -109,6 +112,7 @@ fn take(
     alloc: Global,
     machine: &mut Machine,
     job: &Job,
+    prepared: &mut Option<Reading>,
     origins: &mut Origins,
 ) -> Result<Next, NoMemory>
     ghost c: { Course }
@@ -118,7 +122,7 @@ fn take(
     ensures printed { printed_of machine.new ≡ printed_of machine.old }
 {
     match job {
-        Job::Run(_, text) => run(alloc, machine, text.as_text(), origins),
+        Job::Run(_, text) => run(alloc, machine, text.as_text(), prepared, origins),
         Job::Bind(binds) => {
             bind_all(machine, binds.as_slice())?;
             Ok(Next::Takes)
@@ -132,6 +136,7 @@ fn run(
     alloc: Global,
     machine: &mut Machine,
     text: &Text,
+    prepared: &mut Option<Reading>,
     origins: &mut Origins,
 ) -> Result<Next, NoMemory>
     ghost c: { Course }
@@ -141,7 +146,7 @@ fn run(
     ensures printed { printed_of machine.new ≡ printed_of machine.old }
 {
     origins.begin_run();
-    match read(alloc, text.as_str()) {
+    match script_in(alloc, text.as_str(), prepared) {
         Ok(script) => {
             begin(machine, &script, origins)?;
             Ok(Next::Runs)
@@ -149,6 +154,23 @@ fn run(
         Err(ParseFault::Syntax(_)) => Ok(Next::Ends(unread(alloc)?)),
         Err(ParseFault::NoMemory) => Err(AllocError),
     }
+}
+
+// The script as which a text is read: where that was done before, and kept, it is not read once more.
+fn script_in(
+    alloc: Global,
+    text: &str,
+    prepared: &mut Option<Reading>,
+) -> Result<Scoped, ParseFault>
+    ensures tree { IfOk result (λ s. tree_in text.now ≡ Some (record { body = script_of s })) }
+    ensures none { IfErr result (λ e. IsSyntax e → tree_in text.now ≡ None) }
+{
+    if let Some(reading) = prepared.take() {
+        if let Some(script) = reading.script_of(text) {
+            return Ok(script);
+        }
+    }
+    read(alloc, text)
 }
 
 // The run of a script begins.

@@ -11,6 +11,8 @@
 #![tactic(auto)]
 
 pub mod laws;
+mod reading;
 mod script;
 
+pub use reading::Reading;
 pub use script::read;

@@ -4,12 +4,14 @@ ghost use Rattle.std.specs.Prelude.{◌≡◌, ◌≢◌, ℕ, List, [], IfOk, I
 ghost use Rattle.si_plain.specs.Characters.{characters_of};
 ghost use Rattle.si_interp.specs.Meaning.{InterpView, Starved};
 ghost use Rattle.si_world.specs.Core.{NoneStarved};
+ghost use Rattle.si_world.specs.Worlds.{first_of};
 ghost use Rattle.si_replay.specs.Replays.{limits_for, core_after, Completes, IsReplayed, IsOfTurns, IsFault, IsWantOfMemory};
 ghost use Rattle.si_replay.specs.inner.Steps.{Stretched, Entered, IsEntryFault, Settled, Rested, IsTailFault, Walked, IsLeft};
 
 use crate::fault::ReplayFault;
 use si_interp::State;
-use si_plain::Limits;
+use si_plain::{Limits, NoMemory};
+use si_reading::Reading;
 use si_schedule::Schedule;
 use si_world::{Mark, Recording, World};
 use std::alloc::Global;
@@ -100,17 +102,34 @@ fn finish(world: &mut World) -> Result<(), ReplayFault>
     Ok(())
 }
 
+// The world of a script before any turn, with the script as it was read, if it was.
+fn first_world(
+    alloc: Global,
+    script: &str,
+    prepared: Option<Reading>,
+    limits: Limits,
+) -> Result<World, NoMemory>
+    ensures { IfOk result (λ w. w ≡ first_of (characters_of script.now) limits) }
+{
+    let mut world = World::new(alloc, script, limits)?;
+    if let Some(reading) = prepared {
+        world.prepare(reading);
+    }
+    Ok(world)
+}
+
 // The world of a script after the calls of these entries, in their order, where no interpreter can move.
 fn replayed(
     alloc: Global,
     script: &str,
+    prepared: Option<Reading>,
     limits: Limits,
     entries: &[u32],
 ) -> Result<World, ReplayFault>
     ensures ok { IfOk result (λ w. IsLeft (characters_of script.now) limits entries.now w) }
     ensures err { IfErr result (λ f. IsFault (characters_of script.now) limits entries.now f) }
 {
-    let mut world = match World::new(alloc, script, limits) {
+    let mut world = match first_world(alloc, script, prepared, limits) {
         Err(_) => return Err(ReplayFault::NoMemory),
         Ok(world) => world,
     };
@@ -123,6 +142,7 @@ fn replayed(
 fn completed(
     alloc: Global,
     script: &str,
+    prepared: Option<Reading>,
     limits: Limits,
     entries: &[u32],
 ) -> Result<Recording, ReplayFault>
@@ -131,7 +151,7 @@ fn completed(
     ensures same { IfOk result (λ r. (turns : List ℕ) → Completes (characters_of script.now) limits entries.now turns → IsOfTurns (core_after (characters_of script.now) limits turns) r) }
     ensures memory { IfErr result (λ f. (turns : List ℕ) → Completes (characters_of script.now) limits entries.now turns → IsWantOfMemory f) }
 {
-    match replayed(alloc, script, limits, entries) {
+    match replayed(alloc, script, prepared, limits, entries) {
         Err(fault) => Err(fault),
         Ok(world) => {
             world.facts();
@@ -154,7 +174,8 @@ fn limits_of(limits: Limits, schedule: &Schedule) -> Limits
 }
 
 /// The run of a script that takes just the shared actions of a schedule, in their order, under these limits, but with the
-/// schedule's number of interpreters. Where some turns complete the schedule, it is what they leave.
+/// schedule's number of interpreters. Where some turns complete the schedule, it is what they leave. Where the script was read
+/// before, `prepared` has what it was read as, and it is not read once more; nothing else comes of that.
 ///
 /// # Errors
 ///
@@ -164,6 +185,7 @@ fn limits_of(limits: Limits, schedule: &Schedule) -> Limits
 pub fn replay(
     alloc: Global,
     script: &str,
+    prepared: Option<Reading>,
     limits: Limits,
     schedule: &Schedule,
 ) -> Result<Recording, ReplayFault>
@@ -177,5 +199,5 @@ pub fn replay(
     ensures memory { IfErr result (λ f. (turns : List ℕ) → Completes (characters_of script.now) (limits_for limits schedule.now) schedule.now.callers turns → IsWantOfMemory f) }
 {
     let own = limits_of(limits, schedule);
-    completed(alloc, script, own, schedule.callers())
+    completed(alloc, script, prepared, own, schedule.callers())
 }

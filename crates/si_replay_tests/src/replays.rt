@@ -48,7 +48,7 @@ fn run_twice(alloc: Global, script: &str) -> Result<(Recording, Recording), Fail
     replays_again(&world);
     let schedule = schedule_of(alloc, &world)?;
     let once = world.recording()?;
-    let Ok(again) = replay(alloc, script, limits(1_000)?, &schedule) else {
+    let Ok(again) = replay(alloc, script, None, limits(1_000)?, &schedule) else {
         return Err("not replayed")?;
     };
     Ok((once, again))
@@ -81,7 +81,7 @@ fn fault_of(
 ) -> Result<Option<ReplayFault>, Fail> {
     let schedule = schedule(alloc, callers)?;
     let limits = limits(turns)?;
-    Ok(match replay(alloc, script, limits, &schedule) {
+    Ok(match replay(alloc, script, None, limits, &schedule) {
         Ok(_) => None,
         Err(fault) => Some(fault),
     })
@@ -137,9 +137,9 @@ fn refused_schedule(rt: HostRuntime) -> Result<(), Fail> {
 
 // How many calls a replay has recorded, given again where memory was refused.
 fn calls_twice(alloc: Global, limits: Limits, schedule: &Schedule) -> Result<usize, NoMemory> {
-    match replay(alloc, "print(1)\n", limits, schedule) {
+    match replay(alloc, "print(1)\n", None, limits, schedule) {
         Ok(recording) => Ok(recording.journal().len()),
-        Err(_) => match replay(alloc, "print(1)\n", limits, schedule) {
+        Err(_) => match replay(alloc, "print(1)\n", None, limits, schedule) {
             Ok(recording) => Ok(recording.journal().len()),
             Err(_) => Err(AllocError),
         },

@@ -1,7 +1,8 @@
 // A text that is read, and texts that are refused, each in its line.
 
 use si_parse::ParseFault;
-use si_reading::read;
+use si_reading::{Reading, read};
+use si_scope::Scoped;
 use std::alloc::Global;
 use std::test::Fail;
 
@@ -37,4 +38,23 @@ fn others_are_refused_in_a_line(rt: HostRuntime) {
         fault(alloc, "x = 1\nif x:\n    break\n"),
         Some(ParseFault::Syntax(3))
     );
+}
+
+// How many statements a script has, where there is one.
+fn statements(script: Option<Scoped>) -> Option<usize> {
+    match script {
+        Some(script) => Some(script.body().len()),
+        None => None,
+    }
+}
+
+#[test]
+fn a_reading_has_the_script_of_its_text_alone(rt: HostRuntime) -> Result<(), Fail> {
+    let alloc = rt.alloc();
+    let text = "x = 1\nprint(x)\n";
+    let reading = Reading::new(alloc, text)?;
+    assert_eq!(rt; statements(reading.script_of(text)), Some(2));
+    let reading = Reading::new(alloc, text)?;
+    assert_eq!(rt; statements(reading.script_of("x = 1\nprint(y)\n")), None);
+    Ok(())
 }

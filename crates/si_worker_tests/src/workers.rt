@@ -124,7 +124,7 @@ fn left<G: Gate + Sync, R: Threads + Wait + Sync>(
     script: &str,
     gate: &G,
 ) -> Result<Recording, Fail> {
-    match run(rt, alloc, script, limits(8)?, gate) {
+    match run(rt, alloc, script, None, limits(8)?, gate) {
         Ok(recording) => Ok(recording),
         Err(_) => Err("no recording")?,
     }

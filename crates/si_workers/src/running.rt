@@ -16,6 +16,7 @@ use si_hub::Hub;
 use si_interp::{Interp, State};
 use si_parcel::Action;
 use si_plain::{Limits, NoMemory};
+use si_reading::Reading;
 use si_world::{Recording, stretch};
 use std::alloc::Global;
 use std::hint::spin_loop;
@@ -231,11 +232,20 @@ fn work<G: Gate, R: Wait>(rt: &R, desk: &Desk, gate: &G, interp: Interp, limits:
     unreachable!()
 }
 
-// An interpreter for each number that the limits allow.
-fn first_interps(alloc: Global, limits: Limits) -> Result<Vec<Interp>, NoMemory> {
+// An interpreter for each number that the limits allow, the first of them with its script as it was read, if it was.
+fn first_interps(
+    alloc: Global,
+    limits: Limits,
+    prepared: Option<Reading>,
+) -> Result<Vec<Interp>, NoMemory> {
+    let mut prepared = prepared;
     let mut interps = Vec::new(alloc);
     for i in 0..limits.interpreters() {
-        interps.push(Interp::new(alloc, i)?)?;
+        let mut interp = Interp::new(alloc, i)?;
+        if let Some(reading) = prepared.take() {
+            interp.prepare(reading);
+        }
+        interps.push(interp)?;
     }
     Ok(interps)
 }
@@ -290,7 +300,8 @@ fn work_all<G: Gate + Sync, R: Threads + Wait + Sync>(
 }
 
 /// Runs a script within these limits, each interpreter in a thread of its own: as many threads as the limits allow interpreters.
-/// The gate is told of each stretch that an interpreter runs by itself.
+/// The gate is told of each stretch that an interpreter runs by itself. Where the script was read before, `prepared` has what it
+/// was read as, and it is not read once more; nothing else comes of that.
 ///
 /// # Errors
 ///
@@ -299,6 +310,7 @@ pub fn run<G: Gate + Sync, R: Threads + Wait + Sync>(
     rt: &R,
     alloc: Global,
     script: &str,
+    prepared: Option<Reading>,
     limits: Limits,
     gate: &G,
 ) -> Result<Recording, RunFault>
@@ -308,7 +320,7 @@ pub fn run<G: Gate + Sync, R: Threads + Wait + Sync>(
     let book = Book::new(alloc, hub)?;
     let sleepers = Sleepers::new(alloc, limits.interpreters())?;
     let shared = Mutex::new(Shared { book, sleepers });
-    let interps = first_interps(alloc, limits)?;
+    let interps = first_interps(alloc, limits, prepared)?;
     let changed = Condvar::new();
     let desk = Desk { shared, changed };
     let worked = work_all(rt, alloc, &desk, gate, interps, limits)?;

@@ -15,6 +15,7 @@ use si_hub::{Call, Hub};
 use si_interp::Interp;
 use si_plain::{Limits, NoMemory};
 use si_queues::Queue;
+use si_reading::Reading;
 use std::alloc::Global;
 use std::marker::Model;
 
@@ -76,6 +77,16 @@ impl World {
             interps,
             made,
         })
+    }
+
+    /// Has a text at hand with the script as which it is read: where it is this world's script, and no turn was taken yet, it is not
+    /// read once more. Nothing else comes of it.
+    pub fn prepare(&mut self, reading: Reading)
+        ensures { self.new ≡ self.old }
+    {
+        if !self.interps.is_empty() {
+            self.interps[0].prepare(reading);
+        }
     }
 
     /// What holds of every world: its journal is a legal history, and each interpreter shows its meaning under the answers

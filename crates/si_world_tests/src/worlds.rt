@@ -6,6 +6,7 @@
 use si_interp::{NotShown, State};
 use si_parcel::{Action, Outcome};
 use si_plain::{Kind, Limits};
+use si_reading::Reading;
 use si_world::{End, Mark, Recording, Report, Standing, World};
 use std::alloc::{AllocError, Global};
 use std::test::Fail;
@@ -344,5 +345,31 @@ fn exception_of_a_function_in_another_interpreter(rt: HostRuntime) -> Result<(),
         "from concurrent import interpreters\ni = interpreters.create()\ni.exec('def f(x):\\n    raise ValueError(x)\\nf(1)')\n";
     let recording = recorded_of(rt.alloc(), script, 2, 1_000)?;
     assert!(rt; are_left_from(&recording, &[2], &[0, 2]));
+    Ok(())
+}
+
+// Whether a script prints this, with a text at hand as it was read.
+fn prints_with(
+    alloc: Global,
+    script: &str,
+    at_hand: &str,
+    wanted: &str,
+) -> Result<bool, AllocError> {
+    let mut world = world(alloc, script, 1, 1_000)?;
+    match Reading::new(alloc, at_hand) {
+        Ok(reading) => world.prepare(reading),
+        Err(_) => return Err(AllocError),
+    }
+    let _turns = world.serial(1_000);
+    match world.report(0)? {
+        Some(report) => Ok(report.printed().as_str() == wanted),
+        None => Ok(false),
+    }
+}
+
+#[test]
+fn script_that_was_read(rt: HostRuntime) -> Result<(), Fail> {
+    assert!(rt; prints_with(rt.alloc(), "print(1)\n", "print(1)\n", "1\n")?);
+    assert!(rt; prints_with(rt.alloc(), "print(1)\n", "print(2)\n", "1\n")?);
     Ok(())
 }
