@@ -60,6 +60,7 @@ use Rattle.std.specs.contracts.alloc.Global as global_row
 use Rattle.std.specs.contracts.impls.GlobalAllocator.TheImpl.{ghosts}
 use Rattle.std.proofs.sync.Mutex.TheSendSync as mutex
 use Rattle.std.proofs.sync.Condvar.TheSendSync as condvar
+use Rattle.si_workers.proofs.Read.{reading_send}
 use Rattle.si_workers.specs.contracts.page.Doing as doing
 use Rattle.si_workers.specs.contracts.page.Page as page
 use Rattle.si_workers.specs.contracts.book.Book as book
@@ -122,7 +123,7 @@ pub machine_send : IsSend machine.the_row
 machine_send = view_send _ _ _ _ _ (declared_send machine.TheInside.the_type (search (sendable, as_row_send, state_send) depth 20))
 
 pub interp_send : IsSend interp.the_row
-interp_send = view_send _ _ _ _ _ (declared_send interp.TheInside.the_type (search (sendable, as_row_send, machine_send, logged_send, origins.the_send, interp_state.the_field_send, option.the_field_send, action_send, vec.the_send, global.the_send, allocator.the_frees) depth 40))
+interp_send = view_send _ _ _ _ _ (declared_send interp.TheInside.the_type (search (sendable, as_row_send, machine_send, logged_send, reading_send, origins.the_send, interp_state.the_field_send, option.the_field_send, action_send, vec.the_send, global.the_send, allocator.the_frees) depth 40))
 
 pub worked_send : IsSend worked.the_row
 worked_send = view_send _ _ _ _ _ (declared_send worked.TheInside.the_type (search (sendable, as_row_send, interp_send) depth 20))

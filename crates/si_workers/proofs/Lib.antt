@@ -5,4 +5,5 @@ mod Scripts
 mod Finding
 mod Taking
 mod Left
+mod Read
 mod Crossing
