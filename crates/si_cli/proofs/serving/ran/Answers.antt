@@ -8,8 +8,8 @@ use Rattle.si_cli.proofs.serving.ran.Goals as goal
 pub returns-clause-ran : goal.returns-clause-ran
 returns-clause-ran c =
     let world = c.serial-turns.new.self in
-    let first : c.in_ok-world.world ≡ first_of (characters_of (without_mark c.args.script.now)) c.args.limits =
-    c.in_ok-world.ensures ∙ ap (λ text. first_of (characters_of text) c.args.limits) c.in_ok-text.ensures.text in
+    let first : c.prepare.new.self ≡ first_of (characters_of (without_mark c.args.script.now)) c.args.limits =
+    c.prepare.ensures ∙ c.in_ok-world.ensures ∙ ap (λ text. first_of (characters_of text) c.args.limits) c.in_ok-text.ensures.text in
     record {
       body = c.in_ok-text.ensures.read.0;
       read = c.in_ok-text.ensures.read.1;
