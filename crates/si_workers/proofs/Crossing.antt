@@ -54,13 +54,9 @@ use Rattle.std.proofs.option.Option.TheSendSync as option
 use Rattle.si_interp.proofs.interp.State.TheSendSync as interp_state
 use Rattle.si_interp.proofs.origins.Origins.TheSendSync as origins
 use Rattle.si_parcel.proofs.parcel.Parcel.TheLaws.TheKnot.{send-Parcel}
-use Rattle.std.specs.contracts.boxed.Box as box_row
-use Rattle.std.specs.contracts.vec.Vec as vec_row
-use Rattle.std.specs.contracts.alloc.Global as global_row
-use Rattle.std.specs.contracts.impls.GlobalAllocator.TheImpl.{ghosts}
 use Rattle.std.proofs.sync.Mutex.TheSendSync as mutex
 use Rattle.std.proofs.sync.Condvar.TheSendSync as condvar
-use Rattle.si_workers.proofs.Read.{reading_send}
+use Rattle.si_workers.proofs.Read.{boxed, reading_send, row}
 use Rattle.si_workers.specs.contracts.page.Doing as doing
 use Rattle.si_workers.specs.contracts.page.Page as page
 use Rattle.si_workers.specs.contracts.book.Book as book
@@ -69,13 +65,10 @@ use Rattle.si_workers.specs.contracts.worked.Worked as worked
 use Rattle.si_workers.specs.contracts.running.Shared as held
 use Rattle.si_workers.specs.contracts.running.Desk as desk
 
-boxed : (h : RattleType) → IsSend h → IsSend (box_row.the_row (vec_row.the_row h global_row.the_row ghosts) global_row.the_row ghosts)
-boxed h s = box.the_send (vec_row.the_row h global_row.the_row ghosts) global_row.the_row ghosts (vec.the_send h global_row.the_row ghosts s global.the_send allocator.the_frees) global.the_send allocator.the_frees
-
 pub parcel_send : IsSend parcel.the_row
 parcel_send =
     send-Parcel (search (sendable, as_row_send)) (search (sendable, as_row_send)) (search (sendable, as_row_send, boxed_text.the_send)) (search (sendable, as_row_send, octets.the_send))
-    (search (sendable, as_row_send)) (search (sendable, as_row_send)) (search (sendable, as_row_send)) boxed
+    (search (sendable, as_row_send)) (search (sendable, as_row_send)) (search (sendable, as_row_send)) (λ h s. boxed _ (row h s))
 
 pub binds_send : IsSend binds.the_row
 binds_send = view_send _ _ _ _ _ (declared_send binds.TheInside.the_type (search (sendable, as_row_send, parcel_send, text.the_send, box.the_send, vec.the_send, global.the_send, allocator.the_frees) depth 20))

@@ -43,10 +43,10 @@ use Rattle.std.specs.contracts.string.String as string_row
 use Rattle.std.specs.contracts.option.Option as option_row
 use Rattle.si_syntax.specs.contracts.stmt.Stmt as stmt
 
-boxed : (h : RattleType) → IsSend h → IsSend (box_row.the_row h global_row.the_row ghosts)
+pub boxed : (h : RattleType) → IsSend h → IsSend (box_row.the_row h global_row.the_row ghosts)
 boxed h s = box.the_send h global_row.the_row ghosts s global.the_send allocator.the_frees
 
-row : (h : RattleType) → IsSend h → IsSend (vec_row.the_row h global_row.the_row ghosts)
+pub row : (h : RattleType) → IsSend h → IsSend (vec_row.the_row h global_row.the_row ghosts)
 row h s = vec.the_send h global_row.the_row ghosts s global.the_send allocator.the_frees
 
 pair_send : (ν : Sym) (A B : RattleType) → IsSend A → IsSend B → IsSend (TupleAt ν (A ∷ B ∷ []))
