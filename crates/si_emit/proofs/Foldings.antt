@@ -1,16 +1,15 @@
 -- Constants that are computed, by what is known of their operands.
-use Rattle.std.proofs.Common.{◌≡◌, ℕ, ℤ, ◌+◌, ◌*◌, zero, suc, List, [], ◌∷◌, ◌++◌, length, Bool, true, false, Option, Some, None, refl, sym, ap, ◌∙◌, subst, arith, pos, negsuc, mul-zero, append-nil, append_assoc, add-one}
+use Rattle.std.proofs.Common.{◌≡◌, ℕ, ℤ, ◌+◌, ◌*◌, zero, suc, List, [], ◌++◌, length, Bool, true, false, Option, Some, None, refl, sym, ap, ◌∙◌, subst, pos, negsuc, mul-zero, append-nil, append_assoc, add-one}
 use Rattle.std.specs.Prelude.{Result, Ok, Err, nat_lt}
 use Rattle.std.specs.Option.{option_map}
 use Rattle.std.specs.Result.{result_ok}
-use Rattle.std.proofs.lemmas.Grind.{common_steps}
 use Rattle.si_plain.specs.declared.kind.Kind.{Kind}
 use Rattle.si_semantics.specs.Value.{Text, Value, Int, Str}
 use Rattle.si_semantics.specs.Tree as tree
 use Rattle.si_semantics.specs.Tree.{UnaryOperator, BinaryOperator}
-use Rattle.si_semantics.specs.Operations.{operate_integers, times}
+use Rattle.si_semantics.specs.Operations.{times}
 use Rattle.si_semantics.specs.Meaning.{choose}
-use Rattle.si_slots.specs.Code.{folded, in_place, folded_binary, folded_copies, folded_integer, folded_str, folded_unary, integer_source, max_folded}
+use Rattle.si_slots.specs.Code.{folded, in_place, folded_binary, folded_copies, folded_integer, folded_unary, integer_source, max_folded}
 use Rattle.si_emit.specs.inner.Foldings.{between_of, integer_of, signed_of}
 
 pub unary_of : (o : UnaryOperator) (m : Option Value) → integer_of (folded_unary o m) ≡ signed_of o (integer_of m)
