@@ -1,9 +1,11 @@
 // Lists and dicts, as a host of scripts would use them.
 
 ghost use Rattle.std.specs.Prelude.{◌<◌, length};
+ghost use Rattle.si_arena.specs.Memory.{AllLie};
 
 use crate::made::dict;
 use si_arena::{Arena, Contents, Ref};
+use std::alloc::{AllocError, Global};
 use std::test::Fail;
 
 // Whether the items of the list at an address are these integers.
@@ -53,47 +55,68 @@ fn has_pairs(arena: &Arena, address: usize, keys: &[i64], values: &[i64]) -> boo
     }
 }
 
-#[test]
-fn a_list_grows_by_itself(rt: HostRuntime) -> Result<(), Fail> {
-    let mut arena = Arena::new(rt.alloc());
+// Whether a list of 1 and 2 has its items twice, with 3 between, where 3 and then its own are put at its end.
+fn grows_by_itself(alloc: Global) -> Result<bool, AllocError> {
+    let mut arena = Arena::new(alloc);
     let _list = arena.make_list_of(&[Ref::Int(1), Ref::Int(2)])?;
     arena.append(0, Ref::Int(3))?;
     arena.extend_from(0, Ref::Object(0))?;
-    assert!(rt; shows(&arena, 0, &[1, 2, 3, 1, 2, 3]));
+    Ok(shows(&arena, 0, &[1, 2, 3, 1, 2, 3]))
+}
+
+#[test]
+fn a_list_grows_by_itself(rt: HostRuntime) -> Result<(), Fail> {
+    assert!(rt; grows_by_itself(rt.alloc())?);
     Ok(())
+}
+
+// Whether a list of 5, 6 and 7 gives 5 and has 6 and 8 left, where its last item is set to 8 and its first is taken.
+fn changes(alloc: Global) -> Result<bool, AllocError> {
+    let mut arena = Arena::new(alloc);
+    let _list = arena.make_list_of(&[Ref::Int(5), Ref::Int(6), Ref::Int(7)])?;
+    arena.set_item(0, 2, Ref::Int(8));
+    let taken = arena.remove_item(0, 0);
+    Ok(matches!(taken, Ref::Int(5)) && shows(&arena, 0, &[6, 8]))
 }
 
 #[test]
 fn an_item_is_changed_and_taken(rt: HostRuntime) -> Result<(), Fail> {
-    let mut arena = Arena::new(rt.alloc());
-    let _list = arena.make_list_of(&[Ref::Int(5), Ref::Int(6), Ref::Int(7)])?;
-    arena.set_item(0, 2, Ref::Int(8));
-    assert!(rt; matches!(arena.remove_item(0, 0), Ref::Int(5)));
-    assert!(rt; shows(&arena, 0, &[6, 8]));
+    assert!(rt; changes(rt.alloc())?);
     Ok(())
+}
+
+// Whether of two lists of 1 the second alone grows.
+fn are_two(alloc: Global) -> Result<bool, AllocError> {
+    let row = Vec::from_slice(alloc, &[Ref::Int(1)])?;
+    let mut arena = Arena::new(alloc);
+    let _first = arena.make_list(row)?;
+    let second = arena.make_list_of(&[Ref::Int(1)])?;
+    arena.extend(1, &[Ref::Int(2), Ref::Int(3)])?;
+    let is_second = matches!(second, Ref::Object(1));
+    Ok(is_second && shows(&arena, 0, &[1]) && shows(&arena, 1, &[1, 2, 3]))
 }
 
 #[test]
 fn two_lists_are_two(rt: HostRuntime) -> Result<(), Fail> {
-    let mut arena = Arena::new(rt.alloc());
-    let row = Vec::from_slice(rt.alloc(), &[Ref::Int(1)])?;
-    let _first = arena.make_list(row)?;
-    let second = arena.make_list_of(&[Ref::Int(1)])?;
-    assert!(rt; matches!(second, Ref::Object(1)));
-    arena.extend(1, &[Ref::Int(2), Ref::Int(3)])?;
-    assert!(rt; shows(&arena, 0, &[1]));
-    assert!(rt; shows(&arena, 1, &[1, 2, 3]));
+    assert!(rt; are_two(rt.alloc())?);
     Ok(())
+}
+
+// Whether a dict of integers, each key with its value after it, has these keys in this order, and these values.
+fn keeps(arena: &mut Arena, operands: &[Ref], keys: &[i64], values: &[i64]) -> bool
+    requires { AllLie arena.old operands.now }
+{
+    match dict(arena, operands) {
+        Some(address) => has_pairs(arena, address, keys, values),
+        None => false,
+    }
 }
 
 #[test]
 fn a_dict_keeps_the_order_of_its_keys(rt: HostRuntime) {
     let mut arena = Arena::new(rt.alloc());
     let operands = [Ref::Int(3), Ref::Int(30), Ref::Int(1), Ref::Int(10)];
-    match dict(&mut arena, &operands) {
-        Some(address) => assert!(rt; has_pairs(&arena, address, &[3, 1], &[30, 10])),
-        None => assert!(rt; false),
-    }
+    assert!(rt; keeps(&mut arena, &operands, &[3, 1], &[30, 10]));
 }
 
 #[test]
@@ -107,10 +130,7 @@ fn a_later_value_keeps_the_place_of_its_key(rt: HostRuntime) {
         Ref::Int(3),
         Ref::Int(33),
     ];
-    match dict(&mut arena, &operands) {
-        Some(address) => assert!(rt; has_pairs(&arena, address, &[3, 1], &[33, 10])),
-        None => assert!(rt; false),
-    }
+    assert!(rt; keeps(&mut arena, &operands, &[3, 1], &[33, 10]));
 }
 
 // Whether the value of a text in a dict is 5.
@@ -152,27 +172,37 @@ fn texts_are_keys_by_their_characters(rt: HostRuntime) {
     }
 }
 
+// Whether no dict is made with a truth as its key, so that the next one is the first object, and that has no value for a truth.
+fn truth_is_no_key(alloc: Global) -> Result<bool, AllocError> {
+    let truth = Ref::Truth([], true);
+    let mut arena = Arena::new(alloc);
+    let none = arena.make_dict(&[truth, Ref::Int(1)])?;
+    let one = arena.make_dict(&[Ref::Int(1), Ref::Int(1)])?;
+    match (none, one) {
+        (None, Some(Ref::Object(0))) => Ok(arena.find(0, truth).is_none()),
+        _ => Ok(false),
+    }
+}
+
 #[test]
 fn what_is_no_key_makes_no_dict(rt: HostRuntime) -> Result<(), Fail> {
-    let mut arena = Arena::new(rt.alloc());
-    assert!(rt;
-        arena
-            .make_dict(&[Ref::Truth([], true), Ref::Int(1)])?
-            .is_none()
-    );
-    let dict = arena.make_dict(&[Ref::Int(1), Ref::Int(1)])?;
-    assert!(rt; matches!(dict, Some(Ref::Object(0))));
-    assert!(rt; arena.find(0, Ref::Truth([], true)).is_none());
+    assert!(rt; truth_is_no_key(rt.alloc())?);
     Ok(())
+}
+
+// Whether a dict gives the value of a key that is taken, and has it no longer, but that which was set.
+fn sets_and_takes(alloc: Global) -> Result<bool, AllocError> {
+    let mut arena = Arena::new(alloc);
+    let _dict = arena.make_dict(&[Ref::Int(1), Ref::Int(10), Ref::Int(2), Ref::Int(20)])?;
+    arena.set_pair(0, Ref::Int(3), Ref::Int(30))?;
+    let taken = arena.remove_pair(0, Ref::Int(1));
+    let again = arena.remove_pair(0, Ref::Int(1));
+    let has_left = has_pairs(&arena, 0, &[2, 3], &[20, 30]);
+    Ok(matches!(taken, Some(Ref::Int(10))) && again.is_none() && has_left)
 }
 
 #[test]
 fn a_key_is_set_and_taken(rt: HostRuntime) -> Result<(), Fail> {
-    let mut arena = Arena::new(rt.alloc());
-    let _dict = arena.make_dict(&[Ref::Int(1), Ref::Int(10), Ref::Int(2), Ref::Int(20)])?;
-    arena.set_pair(0, Ref::Int(3), Ref::Int(30))?;
-    assert!(rt; matches!(arena.remove_pair(0, Ref::Int(1)), Some(Ref::Int(10))));
-    assert!(rt; arena.remove_pair(0, Ref::Int(1)).is_none());
-    assert!(rt; has_pairs(&arena, 0, &[2, 3], &[20, 30]));
+    assert!(rt; sets_and_takes(rt.alloc())?);
     Ok(())
 }
